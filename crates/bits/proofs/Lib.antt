@@ -1,0 +1,8 @@
+pub mod Splice
+pub mod Little
+pub mod Digits
+pub mod Numbers
+pub mod Bytes
+pub mod Stores
+mod Window
+pub mod Widths

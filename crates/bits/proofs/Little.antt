@@ -1,0 +1,27 @@
+-- Laws of `le` and `leBytes`.
+use mathlib.Core.Path.{_≡_, refl, ap}
+use Prim.Native.Nat.{ℕ, zero, suc, _*_, _/_, _^_, _≤_, _<_}
+use native.Mathlib.Nat.{pow-suc, pow-le-pow-right}
+use native.Mathlib.Omega.{arith}
+use lib.Dec.{lit<}
+use lib.ListN.{length}
+use Rattle.bits.specs.Laws.{LittleLaw}
+use Rattle.bits.specs.Little.{le, leBytes}
+
+pub length-leBytes : (n v : ℕ) → length (leBytes n v) ≡ n
+unfolding leBytes
+length-leBytes zero v = refl
+length-leBytes (suc n) v = ap suc (length-leBytes n (v / 256))
+
+-- reading what was written
+pub le-leBytes : LittleLaw
+unfolding le leBytes
+le-leBytes zero v h = omega arith
+le-leBytes (suc n) v h =
+    let p : 256 ^ suc n ≡ 256 ^ n * 256 = pow-suc 256 n in
+    let ih : le (leBytes n (v / 256)) ≡ v / 256 = le-leBytes n (v / 256) (omega arith) in
+    omega arith
+
+-- seven bytes leave room for one more in a word
+pub seven-bytes : (n : ℕ) → n ≤ 7 → 256 ^ n ≤ 2 ^ 56
+seven-bytes n h = pow-le-pow-right (lit< tt) h

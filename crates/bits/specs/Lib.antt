@@ -1,0 +1,6 @@
+pub mod Part
+pub mod Little
+pub mod Order
+pub mod Window
+pub mod Width
+pub mod Laws

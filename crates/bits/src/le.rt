@@ -1,0 +1,56 @@
+// Numbers as bytes, lowest byte first.
+ghost use mathlib.Core.Path.{_≡_};
+ghost use Prim.Native.Nat.{_+_, _≤_};
+ghost use lib.ListN.{length};
+ghost use Rattle.bits.specs.Part.{span, splice};
+ghost use Rattle.bits.specs.Little.{le, leBytes};
+
+// Internal. A byte as a wider number.
+pub fn wide(x: u8) -> u64
+    ensures { λ r. ⌜ r ≡ x ⌝ }
+{
+    x as u64
+}
+
+// The number that at most eight bytes stand for.
+fn get(s: &[u8]) -> u64
+    requires { ⌜ length (now s) ≤ 8 ⌝ }
+    ensures { λ r. ⌜ r ≡ le (now (s .entry)) ⌝ }
+{
+    let mut v: u64 = 0;
+    let mut i = s.len();
+    while 0 < i {
+        i -= 1;
+        v = v * 256 + wide(s[i]);
+    }
+    v
+}
+
+// The lowest bytes of v, as many as s has.
+fn put(s: &mut [u8], v: u64)
+    ensures { λ _. ⌜ now (s .exit) ≡ leBytes (length (now (s .entry))) v ⌝ }
+{
+    let mut x = v;
+    let mut i = 0;
+    while i < s.len() {
+        s[i] = (x % 256) as u8;
+        x = x / 256;
+        i += 1;
+    }
+}
+
+// Internal. The number of the n bytes from `at` on.
+pub fn get_at(s: &[u8], at: usize, n: usize) -> u64
+    requires { ⌜ (at + n ≤ length (now s)) × (n ≤ 8) ⌝ }
+    ensures { λ r. ⌜ r ≡ le (span (now (s .entry)) at n) ⌝ }
+{
+    get(&s[at..at + n])
+}
+
+// Internal. The n lowest bytes of v, stored from `at` on.
+pub fn put_at(s: &mut [u8], at: usize, n: usize, v: u64)
+    requires { ⌜ at + n ≤ length (now s) ⌝ }
+    ensures { λ _. ⌜ now (s .exit) ≡ splice (now (s .entry)) at (leBytes n v) ⌝ }
+{
+    put(&mut s[at..at + n], v);
+}

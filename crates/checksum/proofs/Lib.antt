@@ -1,0 +1,4 @@
+mod Xor
+pub mod Linear
+mod Below
+mod Tables

@@ -1,0 +1,4 @@
+pub mod Crc
+pub mod Crc16
+pub mod Signature
+pub mod Laws
