@@ -74,7 +74,7 @@ module _ (k : Crc) where
 
 shift-lt : (c : ℕ) → shift ccitt c < 65536
 unfolding shift
-shift-lt c = xor-lt 16 (c * 2 % 65536) (c / 32768 % 2 * 0x1021) (omega arith) (omega arith)
+shift-lt c = xor-lt 16 (c * 2 % 65536) (c / 32768 % 2 * ccitt .polynomial) (omega arith) (omega arith)
 
 shifts-lt : (n c : ℕ) → c < 65536 → shifts ccitt n c < 65536
 unfolding shifts

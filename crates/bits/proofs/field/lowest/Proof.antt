@@ -1,3 +1,4 @@
+-- `field::lowest` meets its contract.
 use lib.Pow.{pow-pos}
 use mathlib.Core.Path.{ap}
 use Prim.Native.Nat.{ℕ, _^_, _<_, _%_}
@@ -5,9 +6,6 @@ use native.Mathlib.Omega.{arith}
 use borrow.Author.Needs.{needs}
 use Rattle.bits.proofs.field.lowest.Statement.{statement}
 use Rattle.bits.proofs.field.lowest.Tie as tie
-use Rattle.bits.proofs.field.lowest.Reads as reads
-use Rattle.bits.proofs.field.lowest.Lts as lts
-use Rattle.bits.proofs.field.power.Reads as power-reads
 
 power-requires : tie.Need-power-requires
 power-requires c κs = search needs

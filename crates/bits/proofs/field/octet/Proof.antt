@@ -1,3 +1,4 @@
+-- `field::octet` meets its contract: its bits lie in one byte or in two.
 use Rattle.bits.proofs.Window.{read-one, read-two}
 use Rattle.bits.specs.Order.{valueFrom, value, unpack}
 use lib.ListN.{getD, take, drop}
@@ -8,11 +9,6 @@ use native.Mathlib.Omega.{arith}
 use borrow.Author.Needs.{needs}
 use Rattle.bits.proofs.field.octet.Statement.{statement}
 use Rattle.bits.proofs.field.octet.Tie as tie
-use Rattle.bits.proofs.field.octet.Reads as reads
-use Rattle.bits.proofs.field.octet.Lts as lts
-use Rattle.bits.proofs.field.lowest.Reads as lowest-reads
-use Rattle.bits.proofs.field.pair.Reads as pair-reads
-use Rattle.bits.proofs.le.wide.Reads as wide-reads
 
 returns : tie.Need-returns
 unfolding valueFrom

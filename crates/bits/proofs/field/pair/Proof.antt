@@ -1,11 +1,9 @@
+-- `field::pair` meets its contract.
 use Prim.Native.Nat.{_+_}
 use native.Mathlib.Omega.{arith}
 use borrow.Author.Needs.{needs}
 use Rattle.bits.proofs.field.pair.Statement.{statement}
 use Rattle.bits.proofs.field.pair.Tie as tie
-use Rattle.bits.proofs.field.pair.Reads as reads
-use Rattle.bits.proofs.field.pair.Lts as lts
-use Rattle.bits.proofs.le.wide.Reads as wide-reads
 
 add-j : tie.Need-add-j
 add-j c = search needs

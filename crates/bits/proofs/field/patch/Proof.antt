@@ -1,3 +1,4 @@
+-- `field::patch` meets its contract: the old field out, the new one in.
 use Rattle.bits.proofs.Window.{old-le, new-lt, patch-is}
 use Prim.Native.Nat.{ℕ, _+_, _-_, _*_, _^_, _<_, _%_}
 use mathlib.Core.Path.{_≡_, refl, _∙_}
@@ -5,10 +6,6 @@ use native.Mathlib.Omega.{arith}
 use borrow.Author.Needs.{needs}
 use Rattle.bits.proofs.field.patch.Statement.{statement}
 use Rattle.bits.proofs.field.patch.Tie as tie
-use Rattle.bits.proofs.field.patch.Reads as reads
-use Rattle.bits.proofs.field.patch.Lts as lts
-use Rattle.bits.proofs.field.lowest.Reads as lowest-reads
-use Rattle.bits.proofs.field.power.Reads as power-reads
 
 product : {a b x y : ℕ} → a ≡ x → b ≡ y → a * b ≡ x * y
 product e f = rw (e, f)

@@ -1,11 +1,10 @@
+-- `field::power` meets its contract.
 use lib.Pow.{pow-lt}
 use Prim.Native.Nat.{_^_, _<_}
 use native.Mathlib.Omega.{arith}
 use borrow.Author.Needs.{needs}
 use Rattle.bits.proofs.field.power.Statement.{statement}
 use Rattle.bits.proofs.field.power.Tie as tie
-use Rattle.bits.proofs.field.power.Reads as reads
-use Rattle.bits.proofs.field.power.Lts as lts
 
 shl-result : tie.Need-shl-result
 shl-result c = search needs

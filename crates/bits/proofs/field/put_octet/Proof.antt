@@ -1,3 +1,4 @@
+-- `field::put_octet` meets its contract: its bits go into one byte or into two.
 use mathlib.Core.Bool.{Bool}
 use Rattle.bits.proofs.Window.{patch-one, patch-two}
 use Rattle.bits.proofs.Bytes.{octets-all, bytes-unpack}
@@ -15,12 +16,6 @@ use native.Mathlib.Omega.{arith}
 use borrow.Author.Needs.{needs}
 use Rattle.bits.proofs.field.put_octet.Statement.{statement}
 use Rattle.bits.proofs.field.put_octet.Tie as tie
-use Rattle.bits.proofs.field.put_octet.Reads as reads
-use Rattle.bits.proofs.field.put_octet.Lts as lts
-use Rattle.bits.proofs.field.lowest.Reads as lowest-reads
-use Rattle.bits.proofs.field.pair.Reads as pair-reads
-use Rattle.bits.proofs.field.patch.Reads as patch-reads
-use Rattle.bits.proofs.le.wide.Reads as wide-reads
 
 none : (m : List ℕ) (at k v : ℕ) → Octets m → k ≡ 0 → m ≡ store m at (digits k v)
 unfolding store digits

@@ -1,3 +1,4 @@
+-- `field::read` meets its contract: the octets from the top down, each below the number so far.
 use Rattle.bits.proofs.Numbers.{number-lt}
 use Rattle.bits.proofs.Digits.{value-lt}
 use Rattle.bits.proofs.Bytes.{length-unpack}
@@ -12,9 +13,6 @@ use mathlib.Core.Path.{_≡_, refl, sym, ap, _∙_}
 use native.Mathlib.Omega.{arith}
 use Rattle.bits.proofs.field.read.Statement.{statement}
 use Rattle.bits.proofs.field.read.Tie as tie
-use Rattle.bits.proofs.field.read.Reads as reads
-use Rattle.bits.proofs.field.read.Lts as lts
-use Rattle.bits.proofs.field.octet.Reads as octet-reads
 
 -- a turn, from i to i - 1
 module _ (u : List Bool) (at q i r v : ℕ) (pos : 0 < i) (in-q : i ≤ q) (width : q * 8 + r ≤ 64) (long : at + (q * 8 + r) ≤ length u) (e : v ≡ number (q - i) r (drop (at + i * 8) u)) where

@@ -1,3 +1,4 @@
+-- `field::write` meets its contract: what is stored and what is still to store are the whole field.
 use Rattle.bits.proofs.Bytes.{length-store, store-store}
 use Rattle.bits.proofs.Digits.{length-digits}
 use Rattle.bits.specs.Order.{digits, octets, toBits, store}
@@ -10,9 +11,6 @@ use native.Mathlib.Numerals.{add-one}
 use native.Mathlib.Omega.{arith}
 use Rattle.bits.proofs.field.write.Statement.{statement}
 use Rattle.bits.proofs.field.write.Tie as tie
-use Rattle.bits.proofs.field.write.Reads as reads
-use Rattle.bits.proofs.field.write.Lts as lts
-use Rattle.bits.proofs.field.put_octet.Reads as put-octet-reads
 
 -- what is left to store, after one octet more
 turn : (m m' goal : List ℕ) (at q i r x : ℕ) → i < q → at + (q * 8 + r) ≤ length m * 8 → m' ≡ store m (at + i * 8) (digits 8 x) → store m (at + i * 8) (octets (q - i) r x) ≡ goal

@@ -12,8 +12,6 @@ use Rattle.bits.specs.Little.{le}
 use Rattle.bits.proofs.Little.{seven-bytes}
 use Rattle.bits.proofs.le.get.Statement.{statement}
 use Rattle.bits.proofs.le.get.Tie as tie
-use Rattle.bits.proofs.le.get.Reads as reads
-use Rattle.bits.proofs.le.get.Lts as lts
 
 abbrev Inv-loop : tie.InvT-loop
 Inv-loop p v₀ i₀ v i = (i ≤ length p) × ((v ≡ le (drop i p)) × (v < 256 ^ (length p - i)))

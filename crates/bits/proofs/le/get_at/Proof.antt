@@ -7,9 +7,6 @@ use Rattle.bits.specs.Part.{span}
 use borrow.Author.Needs.{needs}
 use Rattle.bits.proofs.le.get_at.Statement.{statement}
 use Rattle.bits.proofs.le.get_at.Tie as tie
-use Rattle.bits.proofs.le.get_at.Reads as reads
-use Rattle.bits.proofs.le.get_at.Lts as lts
-use Rattle.bits.proofs.le.get.Reads as get-reads
 
 add-get : tie.Need-add-get
 add-get c = search needs

@@ -10,9 +10,6 @@ use Rattle.bits.proofs.Splice.{mid-splice, length-span}
 use borrow.Author.Needs.{needs}
 use Rattle.bits.proofs.le.put_at.Statement.{statement}
 use Rattle.bits.proofs.le.put_at.Tie as tie
-use Rattle.bits.proofs.le.put_at.Reads as reads
-use Rattle.bits.proofs.le.put_at.Lts as lts
-use Rattle.bits.proofs.le.put.Reads as put-reads
 
 add-put : tie.Need-add-put
 add-put c = search needs

@@ -5,9 +5,6 @@ use Rattle.bits.proofs.Splice.{mid-splice}
 use borrow.Author.Needs.{needs}
 use Rattle.bits.proofs.part.copy_at.Statement.{statement}
 use Rattle.bits.proofs.part.copy_at.Tie as tie
-use Rattle.bits.proofs.part.copy_at.Reads as reads
-use Rattle.bits.proofs.part.copy_at.Lts as lts
-use Rattle.bits.proofs.part.copy.Reads as copy-reads
 
 add-copy : tie.Need-add-copy
 add-copy c = search needs

@@ -6,9 +6,6 @@ use Rattle.bits.specs.Part.{splice, span}
 use borrow.Author.Needs.{needs}
 use Rattle.bits.proofs.part.copy_span.Statement.{statement}
 use Rattle.bits.proofs.part.copy_span.Tie as tie
-use Rattle.bits.proofs.part.copy_span.Reads as reads
-use Rattle.bits.proofs.part.copy_span.Lts as lts
-use Rattle.bits.proofs.part.copy_at.Reads as copy-at-reads
 
 add-copy-at : tie.Need-add-copy-at
 add-copy-at c = search needs

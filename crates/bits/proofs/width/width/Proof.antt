@@ -4,8 +4,6 @@ use lib.Count.{leading-le}
 use Rattle.bits.proofs.Widths.{by-zeros}
 use Rattle.bits.proofs.width.width.Statement.{statement}
 use Rattle.bits.proofs.width.width.Tie as tie
-use Rattle.bits.proofs.width.width.Reads as reads
-use Rattle.bits.proofs.width.width.Lts as lts
 
 sub-result : tie.Need-sub-result
 sub-result c = leading-le 64 (c .args .m)

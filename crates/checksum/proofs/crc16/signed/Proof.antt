@@ -9,9 +9,6 @@ use Rattle.checksum.specs.Crc16.{ccitt}
 use Rattle.bits.specs.Little.{leBytes}
 use Rattle.checksum.proofs.crc16.signed.Statement.{statement}
 use Rattle.checksum.proofs.crc16.signed.Tie as tie
-use Rattle.checksum.proofs.crc16.signed.Reads as reads
-use Rattle.checksum.proofs.crc16.signed.Lts as lts
-use Rattle.checksum.proofs.crc16.step.Reads as step-reads
 
 abbrev Inv-loop : tie.InvT-loop
 Inv-loop t signature r₀ x₀ k₀ r x k = (k ≤ 8) × (crcOver ccitt r (leBytes k x) ≡ crcOver ccitt 0xFFFF (leBytes 8 signature))

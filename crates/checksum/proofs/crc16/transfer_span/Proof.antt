@@ -7,9 +7,6 @@ use Rattle.bits.specs.Part.{span}
 use borrow.Author.Needs.{needs}
 use Rattle.checksum.proofs.crc16.transfer_span.Statement.{statement}
 use Rattle.checksum.proofs.crc16.transfer_span.Tie as tie
-use Rattle.checksum.proofs.crc16.transfer_span.Reads as reads
-use Rattle.checksum.proofs.crc16.transfer_span.Lts as lts
-use Rattle.checksum.proofs.crc16.transfer.Reads as transfer-reads
 
 add-transfer : tie.Need-add-transfer
 add-transfer c = search needs

@@ -12,10 +12,6 @@ use Rattle.bits.proofs.Splice.{splice-splice, splice-all}
 use borrow.Author.Needs.{needs}
 use Rattle.checksum.proofs.crc64.extend.Statement.{statement}
 use Rattle.checksum.proofs.crc64.extend.Tie as tie
-use Rattle.checksum.proofs.crc64.extend.Reads as reads
-use Rattle.checksum.proofs.crc64.extend.Lts as lts
-use Rattle.checksum.proofs.crc64.hash_from.Reads as hash-from-reads
-use Rattle.bits.proofs.le.put_at.Reads as put-at-reads
 
 slice-aggregate-put-at : tie.Need-slice-aggregate-put-at
 slice-aggregate-put-at c = search needs

@@ -6,9 +6,6 @@ use Rattle.checksum.specs.Signature.{hashFrom}
 use borrow.Author.Needs.{needs}
 use Rattle.checksum.proofs.crc64.hash_from.Statement.{statement}
 use Rattle.checksum.proofs.crc64.hash_from.Tie as tie
-use Rattle.checksum.proofs.crc64.hash_from.Reads as reads
-use Rattle.checksum.proofs.crc64.hash_from.Lts as lts
-use Rattle.checksum.proofs.crc64.steps.Reads as steps-reads
 
 steps-requires : tie.Need-steps-requires
 steps-requires c κs = search needs

@@ -8,9 +8,6 @@ use Rattle.checksum.specs.Crc.{shift, shifts, crcByte}
 use Rattle.checksum.specs.Signature.{we}
 use Rattle.checksum.proofs.crc64.step.Statement.{statement}
 use Rattle.checksum.proofs.crc64.step.Tie as tie
-use Rattle.checksum.proofs.crc64.step.Reads as reads
-use Rattle.checksum.proofs.crc64.step.Lts as lts
-use Rattle.checksum.proofs.crc64.up.Reads as up-reads
 
 abbrev Inv-loop : tie.InvT-loop
 Inv-loop c b r₀ k₀ r k = (k ≤ 8) × (shifts we k r ≡ crcByte we c b)

@@ -8,8 +8,6 @@ use Rattle.checksum.specs.Crc.{shift}
 use Rattle.checksum.specs.Signature.{we}
 use Rattle.checksum.proofs.crc64.up.Statement.{statement}
 use Rattle.checksum.proofs.crc64.up.Tie as tie
-use Rattle.checksum.proofs.crc64.up.Reads as reads
-use Rattle.checksum.proofs.crc64.up.Lts as lts
 
 clear : (c : ℕ) → c < 0x8000000000000000 → c * 2 % 0x10000000000000000 ≡ shift we c
 unfolding shift
