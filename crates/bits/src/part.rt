@@ -24,10 +24,10 @@ pub fn copy_at(dst: &mut [u8], at: usize, src: &[u8])
     copy(&mut dst[at..at + src.len()], src);
 }
 
-// Internal. The n bytes of src from `from` on, stored at the front of dst.
-pub fn copy_span(dst: &mut [u8], src: &[u8], from: usize, n: usize)
-    requires { ⌜ (from + n ≤ length (now src)) × (n ≤ length (now dst)) ⌝ }
-    ensures { λ _. ⌜ now (dst .exit) ≡ splice (now (dst .entry)) 0 (span (now (src .entry)) from n) ⌝ }
+// Internal. The n bytes of src from `from` on, stored from `at` on.
+pub fn copy_span(dst: &mut [u8], at: usize, src: &[u8], from: usize, n: usize)
+    requires { ⌜ (from + n ≤ length (now src)) × (at + n ≤ length (now dst)) ⌝ }
+    ensures { λ _. ⌜ now (dst .exit) ≡ splice (now (dst .entry)) at (span (now (src .entry)) from n) ⌝ }
 {
-    copy_at(dst, 0, &src[from..from + n]);
+    copy_at(dst, at, &src[from..from + n]);
 }

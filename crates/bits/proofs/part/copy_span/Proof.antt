@@ -29,7 +29,7 @@ returns : tie.Need-returns
 returns c =
     let w = c .before .before in
     let a = w .before .before .before .before .before .args in
-    w .copy-at .ensures ∙ ap (λ (k : ℕ). splice (a .dst .now) 0 (span (a .src .now) (a .from) k)) (add-sub-cancel-left (a .from) (a .n))
+    w .copy-at .ensures ∙ ap (λ (k : ℕ). splice (a .dst .now) (a .at) (span (a .src .now) (a .from) k)) (add-sub-cancel-left (a .from) (a .n))
 
 pub copy-span-spec : {M : Type 1} → statement M
 copy-span-spec =
