@@ -9,22 +9,9 @@ use lib.ListN.{length, take, drop, set, getD, length-append, length-drop, take-a
 use lib.Seq.{take-at, drop-at, length-take-le, take-all, take-append-le, drop-drop, drop-append-le, take-add, drop-length, take-nil, drop-nil, set-split}
 use Rattle.bits.specs.Order.{one, odd, digits, valueFrom, value, Octets, unpack, bytes, bytesFor, padding, pack, store}
 use Rattle.bits.specs.Part.{splice}
+use Rattle.bits.proofs.Octets.{octets-drop}
 use Rattle.bits.proofs.Splice.{length-splice, splice-splice}
 use Rattle.bits.proofs.Digits.{length-digits, value-digits, digits-value, value-lt}
-
-pub octets-all : (m : List ℕ) → ((i : ℕ) → getD m i 0 < 256) → Octets m
-octets-all [] h = tt
-octets-all (b ∷ bs) h = (h 0, octets-all bs (λ i. h (suc i)))
-
-pub octets-drop : (i : ℕ) (m : List ℕ) → Octets m → Octets (drop i m)
-octets-drop zero m h = h
-octets-drop (suc i) [] h = tt
-octets-drop (suc i) (b ∷ bs) h = octets-drop i bs (h .1)
-
-pub octets-set : (m : List ℕ) (i b : ℕ) → b < 256 → Octets m → Octets (set m i b)
-octets-set [] i b l h = tt
-octets-set (x ∷ xs) zero b l h = (l, h .1)
-octets-set (x ∷ xs) (suc i) b l h = (h .0, octets-set xs i b l (h .1))
 
 pub length-unpack : (s : List ℕ) → length (unpack s) ≡ length s * 8
 unfolding unpack

@@ -1,4 +1,5 @@
 pub mod Splice
+pub mod Octets
 pub mod Little
 pub mod Digits
 pub mod Numbers

@@ -1,12 +1,14 @@
 -- Laws of `le` and `leBytes`.
 use mathlib.Core.Path.{_≡_, refl, ap}
-use Prim.Native.Nat.{ℕ, zero, suc, _*_, _/_, _^_, _≤_, _<_}
+use mathlib.Core.List.{List, [], _∷_}
+use Prim.Native.Nat.{ℕ, zero, suc, _+_, _*_, _/_, _%_, _^_, _≤_, _<_}
 use native.Mathlib.Nat.{pow-suc, pow-le-pow-right}
 use native.Mathlib.Omega.{arith}
 use lib.Dec.{lit<}
 use lib.ListN.{length}
 use Rattle.bits.specs.Laws.{LittleLaw}
 use Rattle.bits.specs.Little.{le, leBytes}
+use Rattle.bits.specs.Order.{Octets}
 
 pub length-leBytes : (n v : ℕ) → length (leBytes n v) ≡ n
 unfolding leBytes
@@ -25,3 +27,21 @@ le-leBytes (suc n) v h =
 -- seven bytes leave room for one more in a word
 pub seven-bytes : (n : ℕ) → n ≤ 7 → 256 ^ n ≤ 2 ^ 56
 seven-bytes n h = pow-le-pow-right (lit< tt) h
+
+-- bytes stand for a number below as many powers of 256
+pub le-lt : (bs : List ℕ) → Octets bs → le bs < 256 ^ length bs
+unfolding le
+le-lt [] h = lit< tt
+le-lt (b ∷ bs) h =
+    let p : 256 ^ suc (length bs) ≡ 256 ^ length bs * 256 = pow-suc 256 (length bs) in
+    let ih : le bs < 256 ^ length bs = le-lt bs (h .1) in
+    omega (arith, h .0)
+
+-- n bytes are the bytes of their number
+pub leBytes-le : (bs : List ℕ) → Octets bs → leBytes (length bs) (le bs) ≡ bs
+unfolding le leBytes
+leBytes-le [] h = refl
+leBytes-le (b ∷ bs) h =
+    let b' : (b + 256 * le bs) % 256 ≡ b = omega (arith, h .0) in
+    let q : (b + 256 * le bs) / 256 ≡ le bs = omega (arith, h .0) in
+    rw (b', q, leBytes-le bs (h .1))

@@ -11,9 +11,10 @@ use lib.Seq.{take-at, drop-at, length-take-le, drop-cons, drop-drop, take-set-le
 use Rattle.bits.specs.Order.{digits, valueFrom, value, Octets, unpack, bytes, store}
 use Rattle.bits.specs.Part.{splice}
 use Rattle.bits.specs.Window.{patched}
+use Rattle.bits.proofs.Octets.{octets-set, octets-splice}
 use Rattle.bits.proofs.Splice.{length-splice}
 use Rattle.bits.proofs.Digits.{length-digits, value-digits, digits-add, digits-join, digits-middle, digits-mod-pow}
-use Rattle.bits.proofs.Bytes.{length-unpack, unpack-append, take-unpack, drop-unpack, bytes-unpack, octets-set, octets-drop}
+use Rattle.bits.proofs.Bytes.{length-unpack, unpack-append, take-unpack, drop-unpack, bytes-unpack}
 
 -- the bytes before, the window, the bytes behind
 pub one-byte : (s : List ℕ) (i : ℕ) → i < length s → unpack s ≡ unpack (take i s) ++ (digits 8 (getD s i 0) ++ unpack (drop (suc i) s))
@@ -172,21 +173,12 @@ module _ (x r k v : ℕ) (small : x < 65536) (fits : r + k ≤ 16) (hv : v < 2 ^
   patch-is = omega (arith, parts, old-le, add-mul (x / 2 ^ r / 2 ^ k * 2 ^ k) v (2 ^ r))
 
 -- ── whole bytes ──
-octets-append : (xs ys : List ℕ) → Octets xs → Octets ys → Octets (xs ++ ys)
-octets-append [] ys h k = k
-octets-append (x ∷ xs) ys h k = (h .0, octets-append xs ys (h .1) k)
-
-octets-take : (n : ℕ) (xs : List ℕ) → Octets xs → Octets (take n xs)
-octets-take zero xs h = tt
-octets-take (suc n) [] h = tt
-octets-take (suc n) (x ∷ xs) h = (h .0, octets-take n xs (h .1))
-
 -- bytes in their place are their bits in theirs
 pub splice-store : (d : List ℕ) (at : ℕ) (s : List ℕ) → Octets d → Octets s → at + length s ≤ length d → splice d at s ≡ store d (at * 8) (unpack s)
 splice-store d at s od os h =
     let n : (at + length s) * 8 ≡ at * 8 + length (unpack s) = omega (arith, length-unpack s) in
     store-is (splice d at s) d (at * 8) (unpack s)
-    (octets-append (take at d) (s ++ drop (at + length s) d) (octets-take at d od) (octets-append s (drop (at + length s) d) os (octets-drop (at + length s) d od)))
+    (octets-splice d at s od os)
     (length-splice d at s h)
     (unpack-append (take at d) (s ++ drop (at + length s) d)
     ∙ ap (λ (x : List Bool). unpack (take at d) ++ x) (unpack-append s (drop (at + length s) d))

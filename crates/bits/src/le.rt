@@ -47,6 +47,14 @@ pub fn get_at(s: &[u8], at: usize, n: usize) -> u64
     get(&s[at..at + n])
 }
 
+// Internal. The number of the four bytes from `at` on.
+pub fn get_u32(s: &[u8], at: usize) -> u32
+    requires { ⌜ at + 4 ≤ length (now s) ⌝ }
+    ensures { λ r. ⌜ r ≡ le (span (now (s .entry)) at 4) ⌝ }
+{
+    get_at(s, at, 4) as u32
+}
+
 // Internal. The n lowest bytes of v, stored from `at` on.
 pub fn put_at(s: &mut [u8], at: usize, n: usize, v: u64)
     requires { ⌜ at + n ≤ length (now s) ⌝ }

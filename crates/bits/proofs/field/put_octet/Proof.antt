@@ -1,7 +1,8 @@
 -- `field::put_octet` meets its contract: its bits go into one byte or into two.
 use mathlib.Core.Bool.{Bool}
 use Rattle.bits.proofs.Window.{patch-one, patch-two}
-use Rattle.bits.proofs.Bytes.{octets-all, bytes-unpack}
+use Rattle.bits.proofs.Bytes.{bytes-unpack}
+use Rattle.bits.proofs.Octets.{octets-all}
 use Rattle.bits.proofs.Digits.{digits-mod-pow}
 use Rattle.bits.specs.Order.{Octets, digits, unpack, bytes, store}
 use Rattle.bits.specs.Window.{patched}

@@ -2,7 +2,7 @@
 use mathlib.Core.Path.{_∙_}
 use native.Mathlib.Omega.{arith}
 use borrow.Author.Needs.{needs}
-use Rattle.bits.proofs.Bytes.{octets-all}
+use Rattle.bits.proofs.Octets.{octets-all}
 use Rattle.bits.proofs.Window.{splice-store}
 use Rattle.bits.proofs.field.write_bytes.Statement.{statement}
 use Rattle.bits.proofs.field.write_bytes.Tie as tie
