@@ -5,10 +5,12 @@ use Prim.Native.Nat.{ℕ, zero, suc, _+_, _*_, _/_, _%_, _^_, _≤_, _<_}
 use native.Mathlib.Nat.{pow-suc, pow-le-pow-right}
 use native.Mathlib.Omega.{arith}
 use lib.Dec.{lit<}
-use lib.ListN.{length}
+use lib.ListN.{length, getD}
+use lib.Seq.{drop-cons}
 use Rattle.bits.specs.Laws.{LittleLaw}
 use Rattle.bits.specs.Little.{le, leBytes}
 use Rattle.bits.specs.Order.{Octets}
+use Rattle.bits.specs.Part.{span}
 
 pub length-leBytes : (n v : ℕ) → length (leBytes n v) ≡ n
 unfolding leBytes
@@ -45,3 +47,8 @@ leBytes-le (b ∷ bs) h =
     let b' : (b + 256 * le bs) % 256 ≡ b = omega (arith, h .0) in
     let q : (b + 256 * le bs) / 256 ≡ le bs = omega (arith, h .0) in
     rw (b', q, leBytes-le bs (h .1))
+
+-- one byte is its own number
+pub le-one : (m : List ℕ) (at : ℕ) → at < length m → le (span m at 1) ≡ getD m at 0
+unfolding le
+le-one m at h = rw (drop-cons m at 0) (omega arith)

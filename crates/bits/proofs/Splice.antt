@@ -1,11 +1,14 @@
 -- Laws of `span` and `splice`: what a store at a place leaves there and elsewhere.
 use mathlib.Core.Path.{_≡_, refl, sym, ap, _∙_}
+use mathlib.Core.Bool.{Bool, true, false}
 use mathlib.Core.List.{List, [], _∷_, _++_, append-assoc, append-nil}
-use Prim.Native.Nat.{ℕ, zero, suc, _+_, _-_, _≤_}
+use Prim.Native.Nat.{ℕ, zero, suc, _+_, _-_, _≤_, _<_}
 use native.Mathlib.Nat.{add-sub-cancel-left}
 use native.Mathlib.Omega.{arith}
-use lib.ListN.{length, take, drop, length-append, length-drop}
-use lib.Seq.{length-take-le, take-at, drop-at, take-append-le, take-take, take-add, drop-drop, drop-length}
+use borrow.Author.Tests.{ltb-true, ltb-false}
+use lib.Dec.{ltb}
+use lib.ListN.{length, take, drop, length-append, length-drop, take-append-drop}
+use lib.Seq.{length-take-le, take-at, drop-at, take-append-le, take-take, take-add, drop-drop, drop-length, drop-append-le}
 use borrow.Rule.Slice.PartMut.{putMid}
 use Rattle.bits.specs.Part.{span, splice}
 
@@ -87,3 +90,30 @@ part-of-take (x ∷ xs) (suc b) (suc n) k h = part-of-take xs b n k (omega arith
 
 pub span-span : {A : Type 0} (m : List A) (a n b k : ℕ) → b + k ≤ n → span (span m a n) b k ≡ span m (a + b) k
 span-span m a n b k h = part-of-take (drop a m) b n k h ∙ ap (λ l. take k l) (drop-drop b a m)
+
+-- ── a part of the whole after a store ──
+
+-- a part that a store does not reach
+pub span-apart : {A : Type 0} (m : List A) (at : ℕ) (ys : List A) (a n : ℕ) → at + length ys ≤ length m → (a < at → a + n ≤ at) → (at ≤ a → at + length ys ≤ a)
+    → span (splice m at ys) a n ≡ span m a n
+span-apart m at ys a n h before behind = go (ltb a at) refl where
+  go : (b : Bool) → ltb a at ≡ b → span (splice m at ys) a n ≡ span m a n
+  go true e = span-before m at ys h a n (before (ltb-true a at e))
+  go false e = span-behind m at ys h a n (behind (ltb-false a at e))
+
+-- a part of what was stored
+pub span-inside : {A : Type 0} (m : List A) (at : ℕ) (ys : List A) (b n : ℕ) → at + length ys ≤ length m → b + n ≤ length ys → span (splice m at ys) (at + b) n ≡ span ys b n
+span-inside m at ys b n h l =
+    let f : length (take at m) ≡ at = length-take-le at m (omega arith) in
+    let d : drop (at + b) (splice m at ys) ≡ drop b ys ++ drop (at + length ys) m =
+    sym (drop-drop b at (splice m at ys)) ∙ ap (drop b) (drop-at (take at m) (ys ++ drop (at + length ys) m) at f)
+    ∙ drop-append-le b ys (drop (at + length ys) m) (omega arith) in
+    ap (take n) d ∙ take-append-le n (drop b ys) (drop (at + length ys) m) (omega (arith, length-drop b ys))
+
+-- a store of what is there
+pub splice-same : {A : Type 0} (m : List A) (at : ℕ) (ys : List A) (n : ℕ) → length ys ≡ n → ys ≡ span m at n → splice m at ys ≡ m
+splice-same m at ys n l e =
+    ap (λ (k : ℕ). take at m ++ (ys ++ drop (at + k) m)) l
+    ∙ ap (λ x. take at m ++ (x ++ drop (at + n) m)) e
+    ∙ ap (λ x. take at m ++ (span m at n ++ x)) (sym (drop-drop n at m))
+    ∙ ap (λ x. take at m ++ x) (take-append-drop n (drop at m)) ∙ take-append-drop at m

@@ -6,3 +6,4 @@ pub mod Check
 pub mod Session
 pub mod Table
 pub mod Reception
+pub mod Sound

@@ -1,0 +1,69 @@
+-- The code's session and frame head, as the rules of `model` see them.
+use mathlib.Core.List.{List, _++_}
+use mathlib.Core.Bool.{Bool, false, not, _&&_, _||_}
+use Prim.Native.Nat.{ℕ, _+_, _-_, _≤_, _<_}
+use lib.Dec.{ltb, eqb}
+use lib.ListN.{length, take, replicate}
+use lib.Seq.{paste}
+use Rattle.model.specs.Check.{Parsed}
+use Rattle.model.specs.Frame.{Stream}
+use Rattle.model.specs.Session as rules
+use Rattle.model.specs.Tests.{pick, sameBool}
+use Rattle.session.specs.declared.Head.{Head}
+use Rattle.session.specs.declared.Session.{Session}
+
+-- the bytes gathered are the first `len` of the array
+unfoldable pub sessionOf : Session → rules.Session
+sessionOf s = record { expected = s .expected; gathered = take (s .len) (s .bytes); toggle = s .toggle; since = s .time }
+
+-- what a session of the receiver always keeps
+pub record InRange (s : Session) : Type 0 where
+  pub expected : s .expected < 32
+  pub len : s .len ≤ 514
+
+abbrev pub streamOf : Head → Stream
+streamOf h = record { kind = h .kind; type = h .«type_id»; source = h .source; destination = h .destination }
+
+-- a head and the payload beside it
+unfoldable pub parsedOf : Head → List ℕ → Parsed
+parsedOf h p =
+    record {
+      stream = streamOf h;
+      signature = h .signature;
+      priority = h .priority;
+      start = h .start;
+      last = h .end;
+      toggle = h .toggle;
+      transfer = h .transfer;
+      payload = p;
+      time = h .time;
+    }
+
+-- a frame's bytes added and the toggle turned, and the time set by a start
+abbrev pub added : rules.Session → Bool → ℕ → List ℕ → rules.Session
+added s start time p =
+    record { expected = s .expected; gathered = s .gathered ++ p; toggle = not (s .toggle); since = pick start time (s .since) }
+
+-- a fresh session holds 514 zero bytes, none of them gathered
+abbrev pub freshOf : ℕ → ℕ → Session
+freshOf transfer time = record { expected = transfer; toggle = false; time = time; len = 0; bytes = replicate 514 0 }
+
+-- the bytes of p behind those in hand
+unfoldable pub appended : Session → List ℕ → Session
+appended s p =
+    record { expected = s .expected; toggle = s .toggle; time = s .time; len = s .len + length p; bytes = paste (s .bytes) (s .len) p (length p) }
+
+-- the restart test and the test of a frame that is not passed over, on the fields that they read
+unfoldable pub restartsAt : ℕ → ℕ → Head → Bool
+restartsAt expected time h = ltb 2000000 (h .time - time) || (h .start && ltb 1 (rules.distance (h .transfer) expected))
+
+unfoldable pub awaitedAt : ℕ → Bool → ℕ → Head → Bool
+awaitedAt expected toggle len h =
+    eqb (h .transfer) expected && (sameBool (h .toggle) toggle && sameBool (h .start) (eqb len 0))
+
+-- what a frame that passed the checks brings: at most seven payload bytes, a transfer ID, and room for a payload
+pub record Ready (s : Session) (h : Head) (p out : List ℕ) : Type 0 where
+  pub inRange : InRange s
+  pub transfer : h .transfer < 32
+  pub payload : length p ≤ 7
+  pub room : 512 ≤ length out

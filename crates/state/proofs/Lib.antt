@@ -1,0 +1,10 @@
+pub mod Keys
+pub mod Stored
+pub mod Lowest
+pub mod Tabulate
+pub mod Subscriptions
+pub mod Fits
+pub mod Soundness
+pub mod View
+pub mod Places
+pub mod Table

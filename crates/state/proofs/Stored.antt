@@ -1,0 +1,103 @@
+-- What `load` reads and `store` writes, on plain lists.
+use mathlib.Core.Path.{_≡_, refl, sym, ap, ap₂, _∙_}
+use mathlib.Core.Bool.{Bool, true, false}
+use mathlib.Core.List.{List, [], _∷_, _++_, append-assoc}
+use Prim.Native.Nat.{ℕ, _+_, _*_, _%_, _≤_, _<_}
+use native.Mathlib.Omega.{arith}
+use lib.Dec.{eqb}
+use lib.ListN.{length, getD, take, drop, length-append}
+use lib.Seq.{take-take, length-take-le}
+use mir.Val.{boolByte}
+use Rattle.bits.specs.Little.{leBytes}
+use Rattle.bits.specs.Part.{span, splice}
+use Rattle.bits.proofs.Little.{length-leBytes, le-one}
+use Rattle.bits.proofs.Splice.{length-splice, splice-splice, splice-all, length-span}
+use Rattle.model.specs.Session as rules
+use Rattle.model.specs.Table.{held}
+use Rattle.session.specs.Session.{sessionOf}
+use Rattle.session.specs.declared.Session.{Session}
+use Rattle.state.specs.Layout.{size, timeAt, countAt, expectedAt, toggleAt, gatheredAt, sessionAt, keyOf, streamOfKey}
+use Rattle.state.specs.Place.{one, controlOf, withKey, withSession, withPlace}
+use Rattle.state.proofs.Keys.{key-stream}
+
+-- ── load ──
+
+-- the fields' places
+pub fields : (m : List ℕ) (i : ℕ) → i < 32 → size ≤ length m → (getD m (1160 + i * 4 + 2) 0 ≡ expectedAt m i) × (getD m (1160 + i * 4 + 3) 0 ≡ toggleAt m i)
+unfolding expectedAt toggleAt
+fields m i h l =
+    let two : 1160 + i * 4 + 2 ≡ 1162 + i * 4 = omega arith in
+    let three : 1160 + i * 4 + 3 ≡ 1163 + i * 4 = omega arith in
+    (ap (λ (k : ℕ). getD m k 0) two ∙ sym (le-one m (1162 + i * 4) (omega arith)), ap (λ (k : ℕ). getD m k 0) three ∙ sym (le-one m (1163 + i * 4) (omega arith)))
+
+pub loaded : (m : List ℕ) (i e t n : ℕ) (g : Bool) (bs : List ℕ)
+    → e ≡ expectedAt m i → g ≡ eqb (toggleAt m i) 1 → t ≡ timeAt m i → take n bs ≡ gatheredAt m i
+    → sessionOf (record { expected = e; toggle = g; time = t; len = n; bytes = bs }) ≡ sessionAt m i
+unfolding sessionOf sessionAt
+loaded m i e t n g bs p q r s = λ j. record { expected = p j; gathered = s j; toggle = q j; since = r j }
+
+-- all 514 bytes of the place were copied
+pub gathered-copied : (m z bs : List ℕ) (i n : ℕ) → i < 32 → size ≤ length m → length z ≡ 514 → n ≡ countAt m i → n ≤ 514
+    → bs ≡ splice z 0 (span m (1288 + i * 514) 514) → take n bs ≡ gatheredAt m i
+unfolding gatheredAt
+gathered-copied m z bs i n hi hm hz e l c =
+    let w : length (span m (1288 + i * 514) 514) ≡ length z = length-span m (1288 + i * 514) 514 (omega arith) ∙ sym hz in
+    ap (take n) (c ∙ splice-all z (span m (1288 + i * 514) 514) w) ∙ take-take n 514 (drop (1288 + i * 514) m) l
+    ∙ ap (λ (k : ℕ). span m (1288 + i * 514) k) e
+
+-- nothing is in hand
+pub gathered-none : (m bs : List ℕ) (i n : ℕ) → n ≡ countAt m i → n ≡ 0 → take n bs ≡ gatheredAt m i
+unfolding gatheredAt
+gathered-none m bs i n e z = ap (λ (k : ℕ). take k bs) z ∙ ap (λ (k : ℕ). span m (1288 + i * 514) k) (sym z ∙ e)
+
+-- ── store ──
+
+single : (v : ℕ) → v < 256 → leBytes 1 v ≡ v ∷ []
+unfolding leBytes
+single v l = let q : v % 256 ≡ v = omega arith in ap (λ (x : ℕ). x ∷ []) q
+
+-- three stores side by side are the control field
+control : (m : List ℕ) (at n e g : ℕ) → at + 4 ≤ length m → e < 256 → g < 256
+    → splice (splice (splice m at (leBytes 2 n)) (at + 2) (leBytes 1 e)) (at + 3) (leBytes 1 g) ≡ splice m at (leBytes 2 n ++ (e ∷ g ∷ []))
+control m at n e g h he hg =
+    let two = length-leBytes 2 n in
+    let oneE : leBytes 1 e ≡ e ∷ [] = single e he in
+    let oneG : leBytes 1 g ≡ g ∷ [] = single g hg in
+    let a : at + 2 ≡ at + length (leBytes 2 n) = omega arith in
+    let three : length (leBytes 2 n ++ (e ∷ [])) ≡ 3 = length-append (leBytes 2 n) (e ∷ []) ∙ omega arith in
+    let b : at + 3 ≡ at + length (leBytes 2 n ++ (e ∷ [])) = omega arith in
+    ap₂ (λ (x y : List ℕ). splice (splice (splice m at (leBytes 2 n)) (at + 2) x) (at + 3) y) oneE oneG
+    ∙ ap (λ (k : ℕ). splice (splice (splice m at (leBytes 2 n)) k (e ∷ [])) (at + 3) (g ∷ [])) a
+    ∙ ap (λ (l : List ℕ). splice l (at + 3) (g ∷ [])) (splice-splice m at (leBytes 2 n) (omega arith) (e ∷ []))
+    ∙ ap (λ (k : ℕ). splice (splice m at (leBytes 2 n ++ (e ∷ []))) k (g ∷ [])) b
+    ∙ splice-splice m at (leBytes 2 n ++ (e ∷ [])) (omega arith) (g ∷ [])
+    ∙ ap (splice m at) (append-assoc (leBytes 2 n) (e ∷ []) (g ∷ []))
+
+pub byte-one : (b : Bool) → boolByte b ≡ one b
+byte-one true = refl
+byte-one false = refl
+
+one-lt : (b : Bool) → one b < 256
+one-lt true = omega arith
+one-lt false = omega arith
+
+pub stored : (m m₁ m₂ m₃ m₄ m₅ m₆ : List ℕ) (i k : ℕ) (s : Session)
+    → i < 32 → size ≤ length m → k < 4294967296 → s .expected < 256 → s .len ≤ length (s .bytes)
+    → m₁ ≡ splice m (1032 + i * 4) (leBytes 4 k)
+    → m₂ ≡ splice m₁ (1160 + i * 4) (leBytes 2 (s .len))
+    → m₃ ≡ splice m₂ (1160 + i * 4 + 2) (leBytes 1 (s .expected))
+    → m₄ ≡ splice m₃ (1160 + i * 4 + 3) (leBytes 1 (boolByte (s .toggle)))
+    → m₅ ≡ splice m₄ (520 + i * 8) (leBytes 8 (s .time))
+    → m₆ ≡ splice m₅ (1288 + i * 514) (span (s .bytes) 0 (s .len))
+    → m₆ ≡ withPlace m i (held (streamOfKey k) (sessionOf s))
+unfolding withPlace withKey withSession controlOf sessionOf
+stored m m₁ m₂ m₃ m₄ m₅ m₆ i k s hi hm hk he hl e₁ e₂ e₃ e₄ e₅ e₆ =
+    let l₁ : length m₁ ≡ length m = ap length e₁ ∙ length-splice m (1032 + i * 4) (leBytes 4 k) (omega (arith, length-leBytes 4 k)) in
+    let n : s .len ≡ length (take (s .len) (s .bytes)) = sym (length-take-le (s .len) (s .bytes) hl) in
+    let c : m₄ ≡ splice m₁ (1160 + i * 4) (leBytes 2 (s .len) ++ (s .expected ∷ one (s .toggle) ∷ [])) =
+    e₄ ∙ ap₂ (λ (x : List ℕ) (y : ℕ). splice x (1160 + i * 4 + 3) (leBytes 1 y)) (e₃ ∙ ap (λ (x : List ℕ). splice x (1160 + i * 4 + 2) (leBytes 1 (s .expected))) e₂) (byte-one (s .toggle))
+    ∙ control m₁ (1160 + i * 4) (s .len) (s .expected) (one (s .toggle)) (omega arith) he (one-lt (s .toggle)) in
+    let c' : m₄ ≡ splice (splice m (1032 + i * 4) (leBytes 4 (keyOf (streamOfKey k)))) (1160 + i * 4) (leBytes 2 (length (take (s .len) (s .bytes))) ++ (s .expected ∷ one (s .toggle) ∷ [])) =
+    c ∙ ap₂ (λ (x : List ℕ) (y : ℕ). splice x (1160 + i * 4) (leBytes 2 y ++ (s .expected ∷ one (s .toggle) ∷ [])))
+    (e₁ ∙ ap (λ (x : ℕ). splice m (1032 + i * 4) (leBytes 4 x)) (sym (key-stream k hk))) n in
+    e₆ ∙ ap (λ (x : List ℕ). splice x (1288 + i * 514) (span (s .bytes) 0 (s .len))) (e₅ ∙ ap (λ (x : List ℕ). splice x (520 + i * 8) (leBytes 8 (s .time))) c')

@@ -1,0 +1,149 @@
+-- The view of the bytes: a place that is written is read back, every other place is as it was, and writing what is there changes nothing.
+use mathlib.Core.Path.{_≡_, refl, sym, ap, ap₂, _∙_}
+use mathlib.Core.Bool.{Bool, true, false}
+use mathlib.Core.List.{List, [], _∷_, _++_}
+use Prim.Native.Nat.{ℕ, zero, suc, _+_, _*_, _-_, _^_, _≤_, _<_}
+use native.Mathlib.Nat.{add-zero}
+use native.Mathlib.Omega.{arith}
+use borrow.Author.Tests.{eqb-true, eqb-false, eq-eqb, ne-eqb}
+use lib.Dec.{eqb, ltb, leb}
+use lib.ListN.{length, take, drop, length-append, length-drop, take-append-drop}
+use lib.Seq.{drop-drop, drop-at, take-at}
+use Rattle.bits.specs.Little.{le, leBytes}
+use Rattle.bits.specs.Order.{Octets}
+use Rattle.bits.specs.Part.{span, splice}
+use Rattle.bits.proofs.Little.{length-leBytes, le-leBytes, leBytes-le}
+use Rattle.bits.proofs.Octets.{octets-span}
+use Rattle.bits.proofs.Splice.{length-splice, length-span, span-same, span-apart, span-inside, splice-same}
+use Rattle.state.specs.Layout.{size}
+use Rattle.state.specs.Layout.{keyAt, countAt, expectedAt, toggleAt, timeAt, gatheredAt, sessionAt, placeAt, keyOf, streamOfKey}
+use Rattle.state.specs.Place.{one, controlOf, withKey, withSession, withPlace}
+use Rattle.model.specs.Session.{Session}
+use Rattle.model.specs.Frame.{Stream}
+use Rattle.model.specs.Table.{Place, empty, held}
+
+length-control : (s : Session) → length (controlOf s) ≡ 4
+unfolding controlOf
+length-control s = length-append (leBytes 2 (length (s .gathered))) (s .expected ∷ one (s .toggle) ∷ []) ∙ omega (arith, length-leBytes 2 (length (s .gathered)))
+
+-- ── a part that a place's fields do not touch ──
+
+-- the n bytes from a on lie before or behind the field of w bytes at `at`
+pub record Clear (at w a n : ℕ) : Type 0 where
+  pub before : a < at → a + n ≤ at
+  pub behind : at ≤ a → at + w ≤ a
+
+module _ (i : ℕ) (inTable : i < 32) where
+  pub length-withKey : (m : List ℕ) (k : ℕ) → size ≤ length m → length (withKey m i k) ≡ length m
+  unfolding withKey
+  length-withKey m k h = length-splice m (1032 + i * 4) (leBytes 4 k) (omega (arith, length-leBytes 4 k))
+
+  pub key-clear : (m : List ℕ) (k a n : ℕ) → size ≤ length m → Clear (1032 + i * 4) 4 a n → span (withKey m i k) a n ≡ span m a n
+  unfolding withKey
+  key-clear m k a n h c =
+      let l = length-leBytes 4 k in
+      span-apart m (1032 + i * 4) (leBytes 4 k) a n (omega arith) (c .before) (λ b. let q = c .behind b in omega arith)
+
+  module _ (s : Session) (few : length (s .gathered) ≤ 514) where
+    -- after the control field, and after the time
+    abbrev first : List ℕ → List ℕ
+    first m = splice m (1160 + i * 4) (controlOf s)
+
+    abbrev second : List ℕ → List ℕ
+    second m = splice (first m) (520 + i * 8) (leBytes 8 (s .since))
+
+    record Widths (m : List ℕ) : Type 0 where
+      control : length (controlOf s) ≡ 4
+      time : length (leBytes 8 (s .since)) ≡ 8
+      long₁ : length (first m) ≡ length m
+      long₂ : length (second m) ≡ length m
+
+    widths : (m : List ℕ) → size ≤ length m → Widths m
+    widths m h =
+        let c = length-control s in
+        let t = length-leBytes 8 (s .since) in
+        let l₁ : length (first m) ≡ length m = length-splice m (1160 + i * 4) (controlOf s) (omega arith) in
+        record { control = c; time = t; long₁ = l₁; long₂ = length-splice (first m) (520 + i * 8) (leBytes 8 (s .since)) (omega arith) ∙ l₁ }
+
+    pub length-withSession : (m : List ℕ) → size ≤ length m → length (withSession m i s) ≡ length m
+    unfolding withSession
+    length-withSession m h = let w = widths m h in length-splice (second m) (1288 + i * 514) (s .gathered) (omega arith) ∙ w .long₂
+
+    pub session-clear : (m : List ℕ) (a n : ℕ) → size ≤ length m → Clear (1160 + i * 4) 4 a n → Clear (520 + i * 8) 8 a n → Clear (1288 + i * 514) 514 a n
+        → span (withSession m i s) a n ≡ span m a n
+    unfolding withSession
+    session-clear m a n h x y z =
+        let w = widths m h in
+        span-apart (second m) (1288 + i * 514) (s .gathered) a n (omega arith) (z .before) (λ b. let q = z .behind b in omega arith)
+        ∙ span-apart (first m) (520 + i * 8) (leBytes 8 (s .since)) a n (omega arith) (y .before) (λ b. let q = y .behind b in omega arith)
+        ∙ span-apart m (1160 + i * 4) (controlOf s) a n (omega arith) (x .before) (λ b. let q = x .behind b in omega arith)
+
+    -- ── the place's own fields are read back ──
+
+    own-control : (m : List ℕ) (b n : ℕ) → size ≤ length m → b + n ≤ 4 → span (withSession m i s) (1160 + i * 4 + b) n ≡ span (controlOf s) b n
+    unfolding withSession
+    own-control m b n h l =
+        let w = widths m h in
+        span-apart (second m) (1288 + i * 514) (s .gathered) (1160 + i * 4 + b) n (omega arith) (λ x. omega arith) (λ x. omega arith)
+        ∙ span-apart (first m) (520 + i * 8) (leBytes 8 (s .since)) (1160 + i * 4 + b) n (omega arith) (λ x. omega arith) (λ x. omega arith)
+        ∙ span-inside m (1160 + i * 4) (controlOf s) b n (omega arith) (omega arith)
+
+    own-time : (m : List ℕ) → size ≤ length m → span (withSession m i s) (520 + i * 8) 8 ≡ leBytes 8 (s .since)
+    unfolding withSession
+    own-time m h =
+        let w = widths m h in
+        span-apart (second m) (1288 + i * 514) (s .gathered) (520 + i * 8) 8 (omega arith) (λ x. omega arith) (λ x. omega arith)
+        ∙ span-same (first m) (520 + i * 8) (leBytes 8 (s .since)) (omega arith) 8 (omega arith)
+
+    own-gathered : (m : List ℕ) → size ≤ length m → span (withSession m i s) (1288 + i * 514) (length (s .gathered)) ≡ s .gathered
+    unfolding withSession
+    own-gathered m h =
+        let w = widths m h in
+        span-same (second m) (1288 + i * 514) (s .gathered) (omega arith) (length (s .gathered)) refl
+
+    one-back : (b : Bool) → eqb (one b) 1 ≡ b
+    one-back true = refl
+    one-back false = refl
+
+    module _ (m : List ℕ) (long : size ≤ length m) where
+      own-count : countAt (withSession m i s) i ≡ length (s .gathered)
+      unfolding countAt controlOf
+      own-count =
+          let z : 1160 + i * 4 ≡ 1160 + i * 4 + 0 = omega arith in
+          let n = length (s .gathered) in
+          ap (λ (k : ℕ). le (span (withSession m i s) k 2)) z ∙ ap le (own-control m 0 2 long (omega arith))
+          ∙ ap le (take-at (leBytes 2 n) (s .expected ∷ one (s .toggle) ∷ []) 2 (length-leBytes 2 n)) ∙ le-leBytes 2 n (omega arith)
+
+      own-byte : (b : ℕ) (x : ℕ) → b < 4 → span (controlOf s) b 1 ≡ x ∷ [] → le (span (withSession m i s) (1160 + i * 4 + b) 1) ≡ x
+      unfolding le
+      own-byte b x h e = ap le (own-control m b 1 long (omega arith) ∙ e) ∙ omega arith
+
+      tail-at : (b : ℕ) (x : ℕ) → drop b (s .expected ∷ one (s .toggle) ∷ []) ≡ x ∷ drop (suc b) (s .expected ∷ one (s .toggle) ∷ []) → b < 2
+          → span (controlOf s) (2 + b) 1 ≡ x ∷ []
+      unfolding controlOf
+      tail-at b x e h =
+          let n = length (s .gathered) in
+          ap (take 1) (sym (drop-drop b 2 (leBytes 2 n ++ (s .expected ∷ one (s .toggle) ∷ [])))
+          ∙ ap (drop b) (drop-at (leBytes 2 n) (s .expected ∷ one (s .toggle) ∷ []) 2 (length-leBytes 2 n)) ∙ e)
+
+      own-expected : expectedAt (withSession m i s) i ≡ s .expected
+      unfolding expectedAt
+      own-expected =
+          let z : 1162 + i * 4 ≡ 1160 + i * 4 + 2 = omega arith in
+          ap (λ (k : ℕ). le (span (withSession m i s) k 1)) z ∙ own-byte 2 (s .expected) (omega arith) (tail-at 0 (s .expected) refl (omega arith))
+
+      own-toggle : toggleAt (withSession m i s) i ≡ one (s .toggle)
+      unfolding toggleAt
+      own-toggle =
+          let z : 1163 + i * 4 ≡ 1160 + i * 4 + 3 = omega arith in
+          ap (λ (k : ℕ). le (span (withSession m i s) k 1)) z ∙ own-byte 3 (one (s .toggle)) (omega arith) (tail-at 1 (one (s .toggle)) refl (omega arith))
+
+      pub session-back : s .since < 2 ^ 64 → sessionAt (withSession m i s) i ≡ s
+      unfolding sessionAt timeAt gatheredAt
+      session-back h =
+          let e = own-expected in
+          let g : span (withSession m i s) (1288 + i * 514) (countAt (withSession m i s) i) ≡ s .gathered =
+          ap (span (withSession m i s) (1288 + i * 514)) own-count ∙ own-gathered m long in
+          let t : eqb (toggleAt (withSession m i s) i) 1 ≡ s .toggle = ap (λ (x : ℕ). eqb x 1) own-toggle ∙ one-back (s .toggle) in
+          let q : le (span (withSession m i s) (520 + i * 8) 8) ≡ s .since = ap le (own-time m long) ∙ le-leBytes 8 (s .since) h in
+          λ j. record { expected = e j; gathered = g j; toggle = t j; since = q j }

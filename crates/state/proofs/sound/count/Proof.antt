@@ -1,0 +1,90 @@
+-- `sound::count` meets its contract: the hits so far and those to come.
+use mathlib.Core.Path.{_≡_, refl, sym, ap, _∙_}
+use mathlib.Core.Bool.{Bool, true, false}
+use mathlib.Core.List.{List, [], _∷_}
+use Prim.Native.Nat.{ℕ, suc, _+_, _-_, _≤_, _<_}
+use native.Mathlib.Nat.{zero-add}
+use native.Mathlib.Numerals.{add-one}
+use native.Mathlib.Omega.{arith}
+use borrow.Author.Needs.{needs}
+use lib.Dec.{eqb}
+use lib.ListN.{length, drop, getD}
+use lib.Seq.{drop-cons, drop-length}
+use mir.Val.{boolByte}
+use Rattle.state.specs.Sound.{times}
+use Rattle.state.proofs.Stored.{byte-one}
+use Rattle.state.proofs.sound.count.Statement.{statement}
+use Rattle.state.proofs.sound.count.Tie as tie
+
+byte-le : (b : Bool) → boolByte b ≤ 1
+byte-le true = omega arith
+byte-le false = omega arith
+
+abbrev Inv-loop : tie.InvT-loop
+Inv-loop seen k hits₀ j₀ hits j = (j ≤ 32) × ((hits ≤ j) × (hits + times k (drop j seen) ≡ times k seen))
+
+abbrev μ-loop : tie.MeasureT-loop
+μ-loop seen k hits₀ j₀ hits j = 32 - j
+
+turn : (k hits j : ℕ) (seen : List ℕ) → j < length seen → hits + boolByte (eqb (getD seen j 0) k) + times k (drop (suc j) seen) ≡ hits + times k (drop j seen)
+unfolding times
+turn k hits j seen h = rw (drop-cons seen j 0, byte-one) (omega arith)
+
+done : (k hits j : ℕ) (seen : List ℕ) → j ≡ length seen → hits ≡ hits + times k (drop j seen)
+unfolding times
+done k hits j seen e = rw (e, drop-length) (omega arith)
+
+loop-holds : tie.Need-loop-holds Inv-loop μ-loop
+loop-holds c = (omega arith, (omega arith, zero-add (times (c .args .k) (c .args .seen .now))))
+
+mul-hits : tie.Need-mul-hits Inv-loop μ-loop
+mul-hits c = omega arith
+
+element-copy-out-hits : tie.Need-element-copy-out-hits Inv-loop μ-loop
+element-copy-out-hits c = omega arith
+
+cast-hits : tie.Need-cast-hits Inv-loop μ-loop
+cast-hits c = tt
+
+add-hits : tie.Need-add-hits Inv-loop μ-loop
+add-hits c =
+    let l = c .before .before in
+    let a = l .before .args in
+    omega (arith, byte-le (eqb (getD (a .seen .now) (l .loop .j) 0) (a .k)))
+
+add-j : tie.Need-add-j Inv-loop μ-loop
+add-j c = omega arith
+
+loop-less : tie.Need-loop-less Inv-loop μ-loop
+loop-less c = omega arith
+
+loop-again : tie.Need-loop-again Inv-loop μ-loop
+loop-again c =
+    let l = c .before .before in
+    let a = l .before .args in
+    let n : length (a .seen .now) ≡ 32 = l .before .pre in
+    let b = byte-le (eqb (getD (a .seen .now) (l .loop .j) 0) (a .k)) in
+    (omega arith, (omega arith, rw add-one (turn (a .k) (l .loop .hits) (l .loop .j) (a .seen .now) (omega arith) ∙ l .loop .inv .1 .1)))
+
+returns : tie.Need-returns Inv-loop μ-loop
+returns c =
+    let l = c .before in
+    let a = l .before .args in
+    let n : length (a .seen .now) ≡ 32 = l .before .pre in
+    done (a .k) (l .loop .hits) (l .loop .j) (a .seen .now) (omega arith) ∙ l .loop .inv .1 .1
+
+pub count-spec : {M : Type 1} → statement M
+count-spec =
+    tie.close
+    (tie.spec
+    Inv-loop
+    μ-loop
+    loop-holds
+    mul-hits
+    element-copy-out-hits
+    cast-hits
+    add-hits
+    add-j
+    loop-less
+    loop-again
+    returns)

@@ -1,0 +1,88 @@
+-- `sound::is_sound` meets its contract, test by test.
+use mathlib.Core.Path.{_≡_, refl, sym, ap, _∙_}
+use mathlib.Core.Bool.{Bool, true, false, _&&_}
+use mathlib.Core.List.{List}
+use Prim.Native.Nat.{ℕ, _≤_, _<_}
+use native.Mathlib.Omega.{arith}
+use borrow.Author.Tests.{lt-leb, le-leb, lt-ltb, le-ltb}
+use lib.Dec.{leb, ltb}
+use lib.ListN.{length, getD}
+use Rattle.model.specs.Setup.{acceptable, allFit}
+use Rattle.model.specs.Sound.{sound}
+use Rattle.state.specs.Layout.{size, setupOf, subscriptionAt, placesOf}
+use Rattle.state.specs.Sound.{soundFrom, soundState}
+use Rattle.state.proofs.Tabulate.{length-tabulate}
+use borrow.Author.Needs.{needs}
+use Rattle.state.proofs.sound.is_sound.Statement.{statement}
+use Rattle.state.proofs.sound.is_sound.Tie as tie
+
+module _ (m : List ℕ) where
+  short : length m < size → false ≡ soundState m
+  unfolding soundState
+  short h = rw (lt-leb size (length m) h)
+
+  module _ (long : size ≤ length m) where
+    large-own : 127 < getD m 0 0 → false ≡ soundState m
+    unfolding soundState acceptable setupOf
+    large-own h = let o : ltb (getD m 0 0) 128 ≡ false = le-ltb (getD m 0 0) 128 (omega arith) in rw (le-leb size (length m) long, o)
+
+    module _ (own : getD m 0 0 ≤ 127) where
+      named : ltb (getD m 0 0) 128 ≡ true
+      named = lt-ltb (getD m 0 0) 128 (omega arith)
+
+      too-many : 64 < getD m 1 0 → false ≡ soundState m
+      unfolding soundState acceptable setupOf
+      too-many h =
+          rw (le-leb size (length m) long, named, length-tabulate (subscriptionAt m) 0 (getD m 1 0), lt-leb (getD m 1 0) 64 h)
+
+      module _ (few : getD m 1 0 ≤ 64) (b : Bool) (fit : allFit (setupOf m .subscriptions) ≡ b) where
+        left : (b && soundFrom m 0) ≡ soundState m
+        unfolding soundState acceptable setupOf soundFrom sound placesOf
+        left = rw (le-leb size (length m) long, named, length-tabulate (subscriptionAt m) 0 (getD m 1 0), le-leb (getD m 1 0) 64 few, fit)
+
+returns : tie.Need-returns
+returns c = short _ (c .if1 .taken)
+
+shared-slice-read-if2 : tie.Need-shared-slice-read-if2
+shared-slice-read-if2 c = search needs
+
+returns-2 : tie.Need-returns-2
+returns-2 c = large-own _ (c .before .before .if1 .left) (c .if2 .taken)
+
+shared-slice-read-if3 : tie.Need-shared-slice-read-if3
+shared-slice-read-if3 c = search needs
+
+returns-3 : tie.Need-returns-3
+returns-3 c = let e = c .before .before in too-many _ (e .before .before .if1 .left) (e .if2 .left) (c .if3 .taken)
+
+all-fit-requires : tie.Need-all-fit-requires
+all-fit-requires c κs = search needs
+
+places-sound-requires : tie.Need-places-sound-requires
+places-sound-requires c κs = search needs
+
+returns-4 : tie.Need-returns-4
+returns-4 c =
+    let a = c .before .before in
+    let e = a .before .before .before in
+    c .places-sound .ensures ∙ left _ (e .before .before .if1 .left) (e .if2 .left) (a .before .if3 .left) true (sym (a .all-fit .ensures) ∙ c .before .if4 .taken)
+
+returns-5 : tie.Need-returns-5
+returns-5 c =
+    let a = c .before in
+    let e = a .before .before .before in
+    left _ (e .before .before .if1 .left) (e .if2 .left) (a .before .if3 .left) false (sym (a .all-fit .ensures) ∙ c .if4 .left)
+
+pub is-sound-spec : {M : Type 1} → statement M
+is-sound-spec =
+    tie.close
+    (tie.spec
+    returns
+    shared-slice-read-if2
+    returns-2
+    shared-slice-read-if3
+    returns-3
+    all-fit-requires
+    places-sound-requires
+    returns-4
+    returns-5)

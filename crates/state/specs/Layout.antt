@@ -1,0 +1,69 @@
+-- The layout of a receiver's state in lent bytes (docs/ARCHITECTURE.md has the table), and its view as setup and places.
+use mathlib.Core.List.{List, [], _∷_}
+use Prim.Native.Nat.{ℕ, zero, suc, _+_, _*_, _/_, _%_}
+use lib.Dec.{eqb}
+use lib.ListN.{getD}
+use Rattle.bits.specs.Little.{le}
+use Rattle.bits.specs.Part.{span}
+use Rattle.model.specs.Frame.{Stream}
+use Rattle.model.specs.Session.{Session}
+use Rattle.model.specs.Setup.{Subscription, Setup}
+use Rattle.model.specs.Table.{Place, empty, held, Places}
+use Rattle.model.specs.Tests.{pick}
+
+-- f at the n numbers from i on
+abbrev pub tabulate : {A : Type 0} → (ℕ → A) → ℕ → ℕ → List A
+tabulate f i zero = []
+tabulate f i (suc n) = f i ∷ tabulate f (suc i) n
+
+-- the bytes of the whole layout
+abbrev pub size : ℕ
+size = 17736
+
+-- ── the setup: own ID, number of subscriptions, signatures, kinds and types ──
+
+unfoldable pub subscriptionKeyAt : List ℕ → ℕ → ℕ
+subscriptionKeyAt m j = le (span m (776 + j * 4) 4)
+
+unfoldable pub subscriptionAt : List ℕ → ℕ → Subscription
+subscriptionAt m j =
+    record { kind = subscriptionKeyAt m j / 65536; type = subscriptionKeyAt m j % 65536; signature = le (span m (8 + j * 8) 8) }
+
+unfoldable pub setupOf : List ℕ → Setup
+setupOf m = record { own = getD m 0 0; subscriptions = tabulate (subscriptionAt m) 0 (getD m 1 0) }
+
+-- ── the places: times, stream keys, counts of bytes in hand, expected IDs, toggles, gathered bytes ──
+
+unfoldable pub timeAt : List ℕ → ℕ → ℕ
+timeAt m i = le (span m (520 + i * 8) 8)
+
+unfoldable pub keyAt : List ℕ → ℕ → ℕ
+keyAt m i = le (span m (1032 + i * 4) 4)
+
+unfoldable pub countAt : List ℕ → ℕ → ℕ
+countAt m i = le (span m (1160 + i * 4) 2)
+
+unfoldable pub expectedAt : List ℕ → ℕ → ℕ
+expectedAt m i = le (span m (1162 + i * 4) 1)
+
+unfoldable pub toggleAt : List ℕ → ℕ → ℕ
+toggleAt m i = le (span m (1163 + i * 4) 1)
+
+unfoldable pub gatheredAt : List ℕ → ℕ → List ℕ
+gatheredAt m i = span m (1288 + i * 514) (countAt m i)
+
+-- a stream as 32 bits; 0 is no stream, since a session's source is never 0
+unfoldable pub keyOf : Stream → ℕ
+keyOf d = ((d .kind * 65536 + d .type) * 128 + d .source) * 128 + d .destination
+
+unfoldable pub streamOfKey : ℕ → Stream
+streamOfKey k = record { kind = k / 1073741824; type = k / 16384 % 65536; source = k / 128 % 128; destination = k % 128 }
+
+unfoldable pub sessionAt : List ℕ → ℕ → Session
+sessionAt m i = record { expected = expectedAt m i; gathered = gatheredAt m i; toggle = eqb (toggleAt m i) 1; since = timeAt m i }
+
+unfoldable pub placeAt : List ℕ → ℕ → Place
+placeAt m i = pick (eqb (keyAt m i) 0) empty (held (streamOfKey (keyAt m i)) (sessionAt m i))
+
+unfoldable pub placesOf : List ℕ → Places
+placesOf m = tabulate (placeAt m) 0 32

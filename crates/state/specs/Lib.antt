@@ -1,0 +1,5 @@
+pub mod Layout
+pub mod Place
+pub mod Sound
+pub mod Scan
+pub mod Subscription

@@ -1,0 +1,74 @@
+// The subscriptions of the state.
+ghost use mathlib.Core.Path.{_≡_};
+ghost use Prim.Native.Nat.{_-_, _≤_, _<_};
+ghost use lib.ListN.{length};
+ghost use Rattle.model.specs.Setup.{allFit, subscribed, unlike};
+ghost use Rattle.state.specs.Layout.{size, tabulate, subscriptionKeyAt, subscriptionAt, setupOf};
+ghost use Rattle.state.specs.Subscription.{asked, ofKey};
+
+// What a subscription gives: the signature of its type.
+pub enum Subscribed {
+    Under(u64),
+    Not,
+}
+
+// The kind and type of subscription j in one number.
+fn key(state: &[u8], j: usize) -> u32
+    requires { ⌜ (j < 256) × (size ≤ length (now state)) ⌝ }
+    ensures { λ r. ⌜ r ≡ subscriptionKeyAt (now (state .entry)) j ⌝ }
+{
+    bits::le::get_u32(state, 776 + j * 4)
+}
+
+// Internal. The lowest subscription of this kind and type.
+pub fn find(state: &[u8], kind: u32, type_id: u32) -> Subscribed
+    requires { ⌜ (size ≤ length (now state)) × ((kind < 2) × («type_id» < 65536)) ⌝ }
+    ensures { λ r. ⌜ r ≡ asked (subscribed kind «type_id» (setupOf (now (state .entry)) .subscriptions)) ⌝ }
+{
+    let n = state[1] as usize;
+    let k = kind * 65536 + type_id;
+    let mut j = 0;
+    while j < n {
+        if key(state, j) == k {
+            return Subscribed::Under(bits::le::get_at(state, 8 + j * 8, 8));
+        }
+        j += 1;
+    }
+    Subscribed::Not
+}
+
+// No subscription from `from` up to n has the key k.
+fn is_unlike(state: &[u8], k: u32, from: usize, n: usize) -> bool
+    requires { ⌜ (size ≤ length (now state)) × (n < 256) ⌝ }
+    ensures { λ r. ⌜ r ≡ unlike (ofKey k) (tabulate (subscriptionAt (now (state .entry))) from (n - from)) ⌝ }
+{
+    let mut j = from;
+    while j < n {
+        if key(state, j) == k {
+            return false;
+        }
+        j += 1;
+    }
+    true
+}
+
+// Internal. Every subscription has a kind and a type in range, and none stands twice.
+pub fn all_fit(state: &[u8]) -> bool
+    requires { ⌜ size ≤ length (now state) ⌝ }
+    ensures { λ r. ⌜ r ≡ allFit (setupOf (now (state .entry)) .subscriptions) ⌝ }
+{
+    let n = state[1] as usize;
+    let mut j = 0;
+    while j < n {
+        let k = key(state, j);
+        if 65792 <= k {
+            return false;
+        }
+        if is_unlike(state, k, j + 1, n) {
+            j += 1;
+        } else {
+            return false;
+        }
+    }
+    true
+}
