@@ -182,8 +182,8 @@ fn sum_ok(signature: u64, s: &[u8], len: usize) -> bool
     bits::le::wide(s[0]) + 256 * bits::le::wide(s[1]) == sum as u64
 }
 
-// The bytes of s from `from` up to `len`, handed out.
-fn hand_out(s: &[u8], from: usize, len: usize, h: Head, out: &mut [u8]) -> Answer
+// Internal. The bytes of s from `from` up to `len`, handed out.
+pub fn hand_out(s: &[u8], from: usize, len: usize, h: Head, out: &mut [u8]) -> Answer
     requires { ⌜ (from ≤ len) × ((len ≤ length (now s)) × (len - from ≤ length (now out))) ⌝ }
     ensures { λ r. ⌜ HandsOut h (span (now (s .entry)) from (len - from)) r (now (out .entry)) (now (out .exit)) ⌝ }
 {

@@ -8,3 +8,4 @@ pub mod Soundness
 pub mod View
 pub mod Places
 pub mod Table
+pub mod Faultless

@@ -1,5 +1,5 @@
 -- The whole table in the bytes.
-use mathlib.Core.Path.{_≡_, refl, sym, ap, ap₂, _∙_}
+use mathlib.Core.Path.{_≡_, refl, sym, ap, ap₂, subst, _∙_}
 use mathlib.Core.Bool.{Bool, true, false}
 use mathlib.Core.List.{List, [], _∷_, _++_}
 use Prim.Native.Nat.{ℕ, zero, suc, _+_, _*_, _^_, _≤_, _<_}
@@ -49,23 +49,23 @@ written-kept m long o (suc n) j h r =
     ∙ written-kept m long o n (suc j) (omega arith) (λ l a b. r l (omega arith) b)
 
 -- writing the table with one place changed
-pub written-set : (m : List ℕ) → size ≤ length m → Octets m → (p : Place) → Few p → Plain p
-    → (x n j : ℕ) → x < n → j + n ≤ 32 → ((l : ℕ) → j ≤ l → l < 32 → rawFits m l ≡ true)
+pub written-set : (m : List ℕ) → size ≤ length m → Octets m → (p : Place) → Few p
+    → (x n j : ℕ) → x < n → j + n ≤ 32 → Octets (withPlace m (j + x) p) → ((l : ℕ) → j ≤ l → l < 32 → rawFits m l ≡ true)
     → written m j (set (tabulate (placeAt m) j n) x p) ≡ withPlace m (j + x) p
 unfolding written
-written-set m long o p f b x zero j h k r = absurd (omega arith)
-written-set m long o p f b zero (suc n) j h k r =
+written-set m long o p f x zero j h k b r = absurd (omega arith)
+written-set m long o p f zero (suc n) j h k b r =
     let m' = withPlace m j p in
     let l' : length m' ≡ length m = length-withPlace m j long (omega arith) p f in
     let raw : (l : ℕ) → suc j ≤ l → l < 32 → rawFits m' l ≡ true = λ l a c. same-raw m j long (omega arith) p f l c (λ q. omega arith) ∙ r l (omega arith) c in
     let same : tabulate (placeAt m) (suc j) n ≡ tabulate (placeAt m') (suc j) n =
     tab-same (placeAt m) (placeAt m') n (suc j) (λ l a c. sym (same-place m j long (omega arith) p f l (omega arith) (λ q. omega arith) (r l (omega arith) (omega arith)))) in
     let z : j ≡ j + 0 = omega arith in
-    ap (written m' (suc j)) same ∙ written-kept m' (omega arith) (octets-withPlace m j p o b) n (suc j) (omega arith) raw ∙ ap (λ (y : ℕ). withPlace m y p) z
-written-set m long o p f b (suc x) (suc n) j h k r =
+    ap (written m' (suc j)) same ∙ written-kept m' (omega arith) (subst (λ (y : ℕ). Octets (withPlace m y p)) (sym z) b) n (suc j) (omega arith) raw ∙ ap (λ (y : ℕ). withPlace m y p) z
+written-set m long o p f (suc x) (suc n) j h k b r =
     let z : suc j + x ≡ j + suc x = omega arith in
     ap (λ (y : List ℕ). written y (suc j) (set (tabulate (placeAt m) (suc j) n) x p)) (place-kept m j long (omega arith) o (r j (omega arith) (omega arith)))
-    ∙ written-set m long o p f b x n (suc j) (omega arith) (omega arith) (λ l a c. r l (omega arith) c)
+    ∙ written-set m long o p f x n (suc j) (omega arith) (omega arith) (subst (λ (y : ℕ). Octets (withPlace m y p)) (sym z) b) (λ l a c. r l (omega arith) c)
     ∙ ap (λ (y : ℕ). withPlace m y p) z
 
 -- the view of the bytes with one place written

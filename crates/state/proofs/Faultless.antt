@@ -1,0 +1,79 @@
+-- What a state without a fault gives.
+use mathlib.Core.Path.{_≡_, refl, sym, ap, _∙_}
+use mathlib.Core.Bool.{Bool, true, false, not, _&&_, _||_}
+use mathlib.Core.List.{List}
+use Prim.Native.Nat.{ℕ, zero, suc, _+_, _≤_, _<_}
+use native.Mathlib.Omega.{arith}
+use borrow.Author.Tests.{leb-true, ltb-true, ltb-false, ne-eqb}
+use lib.Dec.{eqb, ltb, leb}
+use lib.ListN.{length}
+use Rattle.model.specs.Setup.{acceptable}
+use Rattle.model.specs.Sound.{streamFits, sessionFits, placeFits, allFit, apart, sound}
+use Rattle.model.specs.Table.{Place, empty, held}
+use Rattle.model.specs.Tests.{pick, isEmpty}
+use Rattle.state.specs.Layout.{size, tabulate, setupOf, keyAt, countAt, expectedAt, toggleAt, gatheredAt, sessionAt, placeAt, placesOf, streamOfKey}
+use Rattle.state.specs.Sound.{every, rawFits, soundState}
+use Rattle.state.proofs.Places.{and-left, and-right}
+
+every-at : (f : ℕ → Bool) (n i : ℕ) → every f i n ≡ true → (l : ℕ) → i ≤ l → l < i + n → f l ≡ true
+unfolding every
+every-at f zero i e l h k = absurd (omega arith)
+every-at f (suc n) i e l h k = go (λ p. every-at f n (suc i) (and-right (f i) (every f (suc i) n) e) l p (omega arith)) (ltb i l) refl where
+  go : (suc i ≤ l → f l ≡ true) → (b : Bool) → ltb i l ≡ b → f l ≡ true
+  go later true p = later (ltb-true i l p)
+  go later false p =
+      let q : i ≡ l = omega (arith, ltb-false i l p) in
+      ap f (sym q) ∙ and-left (f i) (every f (suc i) n) e
+
+-- all places are in range: every one is
+fit-every : (f : ℕ → Place) (n i : ℕ) → allFit (tabulate f i n) ≡ every (λ l. placeFits (f l)) i n
+unfolding every
+fit-every f zero i = refl
+fit-every f (suc n) i = ap (λ (b : Bool). placeFits (f i) && b) (fit-every f n (suc i))
+
+module _ (m : List ℕ) (fine : soundState m ≡ true) where
+  pub long : size ≤ length m
+  unfolding soundState
+  long = leb-true size (length m) (and-left (leb size (length m)) (acceptable (setupOf m) && (every (rawFits m) 0 32 && sound (placesOf m))) fine)
+
+  rest : (acceptable (setupOf m) && (every (rawFits m) 0 32 && sound (placesOf m))) ≡ true
+  unfolding soundState
+  rest = and-right (leb size (length m)) (acceptable (setupOf m) && (every (rawFits m) 0 32 && sound (placesOf m))) fine
+
+  pub setup-fine : acceptable (setupOf m) ≡ true
+  setup-fine = and-left (acceptable (setupOf m)) (every (rawFits m) 0 32 && sound (placesOf m)) rest
+
+  tables : (every (rawFits m) 0 32 && sound (placesOf m)) ≡ true
+  tables = and-right (acceptable (setupOf m)) (every (rawFits m) 0 32 && sound (placesOf m)) rest
+
+  pub table-sound : sound (placesOf m) ≡ true
+  table-sound = and-right (every (rawFits m) 0 32) (sound (placesOf m)) tables
+
+  pub raw-at : (l : ℕ) → l < 32 → rawFits m l ≡ true
+  raw-at l h = every-at (rawFits m) 32 0 (and-left (every (rawFits m) 0 32) (sound (placesOf m)) tables) l (omega arith) (omega arith)
+
+  pub place-at : (l : ℕ) → l < 32 → placeFits (placeAt m l) ≡ true
+  unfolding sound placesOf
+  place-at l h =
+      every-at (λ k. placeFits (placeAt m k)) 32 0
+      (sym (fit-every (placeAt m) 32 0) ∙ and-left (allFit (placesOf m)) (apart (placesOf m)) (and-right (eqb (length (placesOf m)) 32) (allFit (placesOf m) && apart (placesOf m)) table-sound))
+      l (omega arith) (omega arith)
+
+  -- a place that is held
+  module _ (i : ℕ) (inTable : i < 32) (some : keyAt m i ≡ 0 → ⊥) where
+    pub count-le : countAt m i ≤ 514
+    unfolding rawFits
+    count-le =
+        let z : eqb (keyAt m i) 0 ≡ false = ne-eqb (keyAt m i) 0 some in
+        leb-true (countAt m i) 514 (and-left (leb (countAt m i) 514) (ltb (toggleAt m i) 2) (rw z at (raw-at i inTable)))
+
+    pub place-held : placeAt m i ≡ held (streamOfKey (keyAt m i)) (sessionAt m i)
+    unfolding placeAt
+    place-held = rw (ne-eqb (keyAt m i) 0 some)
+
+    pub expected-lt : expectedAt m i < 32
+    unfolding sessionFits sessionAt
+    expected-lt =
+        let p : placeFits (held (streamOfKey (keyAt m i)) (sessionAt m i)) ≡ true = ap placeFits (sym place-held) ∙ place-at i inTable in
+        ltb-true (expectedAt m i) 32
+        (and-left (ltb (expectedAt m i) 32) _ (and-right (streamFits (streamOfKey (keyAt m i))) (sessionFits (sessionAt m i)) p))
