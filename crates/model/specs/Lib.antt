@@ -6,3 +6,7 @@ pub mod Check
 pub mod Session
 pub mod Table
 pub mod Reception
+pub mod Sent
+pub mod Sound
+pub mod Condition3
+pub mod SentLaws

@@ -1,0 +1,9 @@
+pub mod Checks
+pub mod Follow
+pub mod Frames
+pub mod Ids
+pub mod Lasting
+pub mod Others
+pub mod Own
+pub mod Start
+pub mod Table
