@@ -16,7 +16,7 @@ use Rattle.model.specs.Tests.{pick}
 
 -- ── one frame ──
 
-framed-length : (xs : List ℕ) (b : ℕ) → length (framed xs b) ≡ length xs + 1
+pub framed-length : (xs : List ℕ) (b : ℕ) → length (framed xs b) ≡ length xs + 1
 framed-length xs b = length-append xs (b ∷ [])
 
 pub framed-tail : (xs : List ℕ) (b : ℕ) → tailOf (framed xs b) ≡ b
@@ -27,7 +27,7 @@ framed-payload xs b = take-at xs (b ∷ []) (length (framed xs b) - 1) (omega (a
 
 -- ── several ──
 
-pieces-length : (n : ℕ) (s g : Bool) (t : ℕ) (xs : List ℕ) → length (pieces n s g t xs) ≡ suc n
+pub pieces-length : (n : ℕ) (s g : Bool) (t : ℕ) (xs : List ℕ) → length (pieces n s g t xs) ≡ suc n
 unfolding pieces
 pieces-length zero s g t xs = refl
 pieces-length (suc n) s g t xs = ap suc (pieces-length n false (not g) t (drop 7 xs))

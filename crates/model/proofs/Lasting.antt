@@ -16,7 +16,7 @@ use Rattle.model.specs.Frame.{Frame, Stream, sameStream, isService, sour
 use Rattle.model.specs.Reception.{stepNew, stepStart, sessionIn, stepSeek, stepAnonymous, stepChecked, step}
 use Rattle.model.specs.Session.{Session, next, restarts, restarted, over, closed, sinceOf, takeEnd, takeLong, takes, proceedIf, proceed, reactIf, react, fresh}
 use Rattle.model.specs.Setup.{Setup}
-use Rattle.model.specs.Sound.{messageFits, serviceFits, streamFits, sessionFits, placeFits, allFit, noneHolds, notAgain, apart, sound}
+use Rattle.model.specs.Sound.{messageFits, serviceFits, streamFits, sessionFits, placeFits, allFit, noneHolds, notAgain, apart, sound, Lasting}
 use Rattle.model.specs.Table.{Place, empty, held, Places, seek, holds, placeFor}
 use Rattle.model.specs.Tests.{pick, bit, isEmpty}
 use Rattle.model.proofs.Checks.{Accepted, accepted, checked}
@@ -294,3 +294,7 @@ sound-step u ps r h =
     and-intro (eq-eqb (length (step u ps r .places)) 32 (size-step u ps r ∙ eqb-true (length ps) 32 (and-elim-left _ _ h)))
     (and-intro (fits-step u ps r (and-elim-left _ _ k))
     (sole-apart (step u ps r .places) (sole-step u ps r (apart-sole ps (and-elim-right (allFit ps) _ k)))))
+
+pub lasting : Lasting
+unfolding sound
+lasting = record { setup = refl; reception = sound-step }

@@ -1,4 +1,5 @@
 pub mod Checks
+pub mod Delivery
 pub mod Follow
 pub mod Frames
 pub mod Ids
@@ -7,3 +8,4 @@ pub mod Others
 pub mod Own
 pub mod Start
 pub mod Table
+pub mod Theorem
