@@ -10,3 +10,5 @@ pub mod Sent
 pub mod Sound
 pub mod Condition3
 pub mod SentLaws
+pub mod Example
+pub mod WhyPremises
