@@ -1,15 +1,15 @@
 -- What the frame checks tell of a frame that passes them.
-use mathlib.Core.Path.{_≡_, refl, sym, ap, _∙_}
-use mathlib.Core.Bool.{Bool, true, false, not, _&&_, _||_, and-false}
+use mathlib.Core.Path.{_≡_, refl}
+use mathlib.Core.Bool.{Bool, true, false, not, _&&_, and-false}
 use mathlib.Core.Option.{Option, none, some}
-use mathlib.Mathlib.Data.Bool.Basic.{and-elim-left, and-elim-right, or-eq-false-eq-eq-false-and-eq-false as or-off}
+use mathlib.Mathlib.Data.Bool.Basic.{and-elim-right, or-eq-false-eq-eq-false-and-eq-false as or-off}
 use Prim.Native.Nat.{ℕ, _^_, _≤_, _<_}
 use native.Mathlib.Omega.{arith}
-use lib.Dec.{ltb, eqb}
+use lib.Dec.{ltb}
 use borrow.Author.Tests.{ne-eqb, le-ltb}
-use Rattle.model.specs.Check.{Reception, Parsed, parsed, largeId, badLength, unnamedService, badTailIn, forAnother, notSubscribed, frameCheck, roomCheck, check}
+use Rattle.model.specs.Check.{Reception, parsed, largeId, badLength, unnamedService, badTailIn, forAnother, notSubscribed, frameCheck, roomCheck, check}
 use Rattle.model.specs.Condition3.{ofStream}
-use Rattle.model.specs.Frame.{Frame, Stream, isService, sourceOf, isAnonymous, streamIf, streamOf, sameStream}
+use Rattle.model.specs.Frame.{Frame, Stream, isService, sourceOf, isAnonymous, streamIf, streamOf}
 use Rattle.model.specs.Sent.{frameAt}
 use Rattle.model.specs.Setup.{Setup}
 use Rattle.model.specs.Tests.{pick}

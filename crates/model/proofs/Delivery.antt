@@ -1,20 +1,20 @@
 -- A session that hears its stream alone: of the answers to the frames that carry some bytes, one alone is neither 0 nor a passing over. It is the
 -- last frame's, and closes the transfer as the bytes decide.
-use mathlib.Core.Path.{_≡_, refl, sym, ap, _∙_, subst}
-use mathlib.Core.Bool.{Bool, true, false, true≢false, false≢true, not, _&&_, _||_, and-false, Bool·not-not}
+use mathlib.Core.Path.{_≡_, refl, sym, ap, _∙_}
+use mathlib.Core.Bool.{Bool, true, false, true≢false, not, and-false, Bool·not-not}
 use mathlib.Core.List.{List, [], _∷_, _++_, append-assoc, nil≢cons, head-eq-of-cons-eq, tail-eq-of-cons-eq}
-use mathlib.Core.Option.{Option, none, some}
-use Prim.Native.Nat.{ℕ, zero, suc, _+_, _*_, _-_, _/_, _%_, _≤_, _<_}
+use mathlib.Core.Option.{none, some}
+use Prim.Native.Nat.{ℕ, zero, suc, _+_, _*_, _-_, _%_, _≤_, _<_}
 use native.Mathlib.Omega.{arith}
-use lib.Dec.{eqb, ltb, leb}
+use lib.Dec.{eqb, leb}
 use lib.ListN.{length, take, drop, length-append, length-take, length-drop, take-append-drop}
 use lib.Seq.{length-take-le}
-use borrow.Author.Tests.{eq-eqb, ne-eqb, le-ltb, le-leb, lt-leb, leb-true, leb-false}
+use borrow.Author.Tests.{eq-eqb, ne-eqb, le-ltb, le-leb, lt-leb}
 use Rattle.model.specs.Answer.{Answer, taken, handed, refused, full, passed, long, differs, Reason, noTransfer, wrongToggle, wrongTransfer, repeatedStart}
 use Rattle.model.specs.Check.{Parsed, orZero, parsed, badLength, badTail, badTailIn, frameCheck}
 use Rattle.model.specs.Condition3.{keep, Brings, done, next as onward, again}
-use Rattle.model.specs.Frame.{Frame, streamOf, priorityOf, isAnonymous, tailOf}
-use Rattle.model.specs.Sent.{flag, tailByte, framed, frameAt, pieces, carrying}
+use Rattle.model.specs.Frame.{Frame, streamOf, priorityOf, isAnonymous}
+use Rattle.model.specs.Sent.{tailByte, framed, frameAt, pieces, carrying}
 use Rattle.model.specs.Session.{Session, Out, distance, next, restarts, overIf, over, sumOk, closing, takeEnd, takeLong, takes, proceedIf, proceed, reactIf, react, fresh}
 use Rattle.model.specs.Setup.{Setup, signatureFor}
 use Rattle.model.specs.Tests.{pick, bit, sameBool, isEmpty}
@@ -58,13 +58,12 @@ brought (again t h b) = let q = brought b in (λ c. moved t h (q .1), repeated t
 
 -- the first frame, and what follows it
 record Opened (id till : ℕ) (c : List ℕ) (more : List (List ℕ)) (f : Frame) (fs : List Frame) : Type 0 where
-  pub sender : f .id ≡ id
   pub bytes : f .bytes ≡ c
   pub rest : Then id till c more fs
 
 opened : {id till : ℕ} {c : List ℕ} {more : List (List ℕ)} {f : Frame} {fs : List Frame} → Brings id till (c ∷ more) (f ∷ fs) → Opened id till c more f fs
-opened {c = c} (onward t h b) = record { sender = refl; bytes = refl; rest = brought b .0 c }
-opened (again t h b) = record { sender = refl; bytes = refl; rest = brought b .1 }
+opened {c = c} (onward t h b) = record { bytes = refl; rest = brought b .0 c }
+opened (again t h b) = record { bytes = refl; rest = brought b .1 }
 
 -- ── what a frame's data says ──
 

@@ -1,13 +1,12 @@
 -- The cases of specs/Example.antt and specs/WhyPremises.antt, by computing; the example's claim follows by condition 3.
 use mathlib.Core.Path.{refl}
-use Prim.Native.Nat.{ℕ}
 use native.Mathlib.Omega.{arith}
 use Rattle.bits.specs.Little.{leBytes}
 use Rattle.checksum.specs.Crc.{shift, shifts, crcByte, crcOver}
 use Rattle.checksum.specs.Crc16.{checksum}
 use Rattle.model.specs.Check.{parsed, frameCheck, check}
-use Rattle.model.specs.Condition3.{setUp, lent, heard, ofStream, framesWith, answersTo, upTo, Premises, While, done, next, again, Transfer}
-use Rattle.model.specs.Example.{setup, stream, payload, start, crowd, earlier, fresh, crowded, Example}
+use Rattle.model.specs.Condition3.{setUp, lent, heard, framesWith, answersTo, upTo, frames, Premises, While, done, next, again, Transfer}
+use Rattle.model.specs.Example.{setup, stream, payload, start, crowd, earlier, spacious, crowded, Example}
 use Rattle.model.specs.Frame.{sameStream, streamOf}
 use Rattle.model.specs.Reception.{stepNew, stepStart, stepSeek, stepAnonymous, stepChecked, step, after}
 use Rattle.model.specs.Sent.{pieces, carrying, carried, sent, idOf}
@@ -23,21 +22,22 @@ unfolding crowd sound streamFits sessionFits framesWith answersTo upTo after ste
 example =
     record {
       premises = premises;
-      whiles = (fresh-while, crowded-while);
+      whiles = (spacious-while, crowded-while);
       transfer = transfer;
-      delivered = theorem setup stream start fresh crowded premises .delivered 16 5 payload transfer fresh-while crowded-while;
+      alike = theorem setup stream start spacious crowded premises .alike 5 spacious-while crowded-while;
+      delivered = theorem setup stream start spacious crowded premises .delivered 16 5 payload transfer spacious-while crowded-while;
     }
   where
-    premises : Premises setup stream start fresh crowded
+    premises : Premises setup stream start spacious crowded
     premises = record { pasts = (heard setUp earlier, lent refl); named = omega arith; start = refl; take = (refl, refl); same = refl }
 
-    fresh-while : While setup stream start 5 fresh
-    fresh-while = record { time = refl; room = refl; table = refl }
+    spacious-while : While setup stream start 5 spacious
+    spacious-while = record { time = refl; room = refl; table = refl }
 
     crowded-while : While setup stream start 5 crowded
     crowded-while = record { time = refl; room = refl; table = refl }
 
-    transfer : Transfer setup stream start (framesWith (ofStream stream) (fresh .list)) 16 5 payload
+    transfer : Transfer setup stream start (frames stream spacious) 16 5 payload
     transfer =
         record {
           size = omega arith;

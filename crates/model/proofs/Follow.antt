@@ -1,6 +1,6 @@
 -- A whole list: one receiver answers the stream's frames as the reference that hears them alone, as far as the premises go.
 use mathlib.Core.Path.{_≡_, refl, ap, _∙_}
-use mathlib.Core.Bool.{Bool, true, false, false≢true, _&&_, not}
+use mathlib.Core.Bool.{Bool, true, false, false≢true, not}
 use mathlib.Core.List.{List, [], _∷_}
 use mathlib.Mathlib.Data.Bool.Basic.{and-elim-left, and-elim-right, and-intro}
 use Prim.Native.Nat.{ℕ, zero, suc, _≤_, _<_}
@@ -10,7 +10,7 @@ use borrow.Author.Tests.{leb-true}
 use Rattle.model.specs.Answer.{Answer, full, numberOf}
 use Rattle.model.specs.Check.{Reception, parsed}
 use Rattle.model.specs.Condition3.{ofStream, startOf, keep, framesWith, answersTo, upTo, forward, roomy, never}
-use Rattle.model.specs.Frame.{Frame, Stream, isStart, tailOf}
+use Rattle.model.specs.Frame.{Frame, Stream}
 use Rattle.model.specs.Reception.{step}
 use Rattle.model.specs.Session.{Session}
 use Rattle.model.specs.Setup.{Setup}
@@ -18,7 +18,7 @@ use Rattle.model.specs.Table.{Places}
 use Rattle.model.specs.Tests.{pick}
 use Rattle.model.proofs.Others.{others-kept, sole-step}
 use Rattle.model.proofs.Own.{ref, refRun, Beside, later, beside-kept, own}
-use Rattle.model.proofs.Table.{sessionsOf, AtMostOne, Sole}
+use Rattle.model.proofs.Table.{Sole}
 
 -- ── the front of a list ──
 

@@ -1,13 +1,13 @@
 -- A table without a fault stays one: every step keeps the ranges and the number of places, and no two places come to hold one stream.
-use mathlib.Core.Path.{_≡_, refl, sym, ap, _∙_, subst}
-use mathlib.Core.Bool.{Bool, true, false, false≢true, not, _&&_, _||_, or-true}
+use mathlib.Core.Path.{_≡_, refl, _∙_, subst}
+use mathlib.Core.Bool.{Bool, true, false, not, _&&_, _||_, or-true}
 use mathlib.Core.List.{List, [], _∷_, _++_}
 use mathlib.Core.Option.{Option, none, some}
 use mathlib.Mathlib.Data.Bool.Basic.{and-elim-left, and-elim-right, and-intro, or-eq-false-eq-eq-false-and-eq-false as or-off}
-use Prim.Native.Nat.{ℕ, zero, suc, _+_, _-_, _/_, _%_, _≤_, _<_}
+use Prim.Native.Nat.{ℕ, zero, suc, _-_, _/_, _%_, _≤_, _<_}
 use native.Mathlib.Omega.{arith}
 use lib.Dec.{ltb, leb, eqb}
-use lib.ListN.{length, getD, take, set, length-set, replicate}
+use lib.ListN.{length, getD, take, set, length-set}
 use borrow.Author.Tests.{eqb-true, eq-eqb, eqb-false, ltb-true, ltb-false, lt-ltb, leb-true, le-leb, not-true}
 use Rattle.model.specs.Answer.{Reason}
 use Rattle.model.specs.Check.{Reception, Parsed, parsed, badTail, check}
@@ -16,7 +16,7 @@ use Rattle.model.specs.Frame.{Frame, Stream, sameStream, isService, sour
 use Rattle.model.specs.Reception.{stepNew, stepStart, sessionIn, stepSeek, stepAnonymous, stepChecked, step}
 use Rattle.model.specs.Session.{Session, next, restarts, restarted, over, closed, sinceOf, takeEnd, takeLong, takes, proceedIf, proceed, reactIf, react, fresh}
 use Rattle.model.specs.Setup.{Setup}
-use Rattle.model.specs.Sound.{messageFits, serviceFits, streamFits, sessionFits, placeFits, allFit, noneHolds, notAgain, apart, sound, Lasting}
+use Rattle.model.specs.Sound.{messageFits, streamFits, sessionFits, placeFits, placesFit, noneHolds, notAgain, apart, sound, Lasting}
 use Rattle.model.specs.Table.{Place, empty, held, Places, seek, holds, placeFor}
 use Rattle.model.specs.Tests.{pick, bit, isEmpty}
 use Rattle.model.proofs.Checks.{Accepted, accepted, checked}
@@ -146,12 +146,12 @@ react-fits s v ok vok = go (restarts s v) (v .start)
 
 -- ── the table ──
 
-set-fits : (ps : Places) (i : ℕ) (q : Place) → allFit ps ≡ true → placeFits q ≡ true → allFit (set ps i q) ≡ true
+set-fits : (ps : Places) (i : ℕ) (q : Place) → placesFit ps ≡ true → placeFits q ≡ true → placesFit (set ps i q) ≡ true
 set-fits [] i q h k = refl
 set-fits (p ∷ ps) zero q h k = and-intro k (and-elim-right (placeFits p) _ h)
 set-fits (p ∷ ps) (suc i) q h k = and-intro (and-elim-left (placeFits p) _ h) (set-fits ps i q (and-elim-right (placeFits p) _ h) k)
 
-at-fits : (ps : Places) (i : ℕ) → allFit ps ≡ true → placeFits (getD ps i empty) ≡ true
+at-fits : (ps : Places) (i : ℕ) → placesFit ps ≡ true → placeFits (getD ps i empty) ≡ true
 at-fits [] i h = refl
 at-fits (p ∷ ps) zero h = and-elim-left _ _ h
 at-fits (p ∷ ps) (suc i) h = at-fits ps i (and-elim-right (placeFits p) _ h)
@@ -160,29 +160,29 @@ session-fits : (p : Place) (v : Parsed) → placeFits p ≡ true → ParsedFits 
 session-fits empty v h vok = restarted-fits (fresh v) (v .transfer) (vok .transfer)
 session-fits (held e s) v h vok = test-fits s (and-elim-right (streamFits e) _ h)
 
-module _ (ps : Places) (v : Parsed) (ok : allFit ps ≡ true) (vok : ParsedFits v) (stream : streamFits (v .stream) ≡ true) where
-  stored-fits : (i : ℕ) (s : Session) → Fits s → allFit (set ps i (held (v .stream) s)) ≡ true
+module _ (ps : Places) (v : Parsed) (ok : placesFit ps ≡ true) (vok : ParsedFits v) (stream : streamFits (v .stream) ≡ true) where
+  stored-fits : (i : ℕ) (s : Session) → Fits s → placesFit (set ps i (held (v .stream) s)) ≡ true
   stored-fits i s h = set-fits ps i (held (v .stream) s) ok (and-intro stream (fits-test s h))
 
-  new-fits : (o : Option ℕ) → allFit (stepNew o ps v .places) ≡ true
+  new-fits : (o : Option ℕ) → placesFit (stepNew o ps v .places) ≡ true
   unfolding stepNew
   new-fits none = ok
   new-fits (some i) = stored-fits i (proceed (fresh v) v .session) (proceed-fits (fresh v) v (session-fits empty v refl vok) vok)
 
-  start-fits : (b : Bool) → allFit (stepStart b ps v .places) ≡ true
+  start-fits : (b : Bool) → placesFit (stepStart b ps v .places) ≡ true
   unfolding stepStart
   start-fits true = new-fits (placeFor (v .time) ps)
   start-fits false = ok
 
-  seek-fits : (o : Option ℕ) → allFit (stepSeek o ps v .places) ≡ true
+  seek-fits : (o : Option ℕ) → placesFit (stepSeek o ps v .places) ≡ true
   unfolding stepSeek
   seek-fits none = start-fits (v .start)
   seek-fits (some i) =
       stored-fits i (react (sessionIn (getD ps i empty) v) v .session)
       (react-fits (sessionIn (getD ps i empty) v) v (session-fits (getD ps i empty) v (at-fits ps i ok) vok) vok)
 
-anonymous-fits : (ps : Places) (v : Parsed) (b : Bool) → allFit ps ≡ true → ParsedFits v → (b ≡ false → streamFits (v .stream) ≡ true)
-    → allFit (stepAnonymous b ps v .places) ≡ true
+anonymous-fits : (ps : Places) (v : Parsed) (b : Bool) → placesFit ps ≡ true → ParsedFits v → (b ≡ false → streamFits (v .stream) ≡ true)
+    → placesFit (stepAnonymous b ps v .places) ≡ true
 unfolding stepAnonymous
 anonymous-fits ps v true ok vok stream = ok
 anonymous-fits ps v false ok vok stream = seek-fits ps v ok vok (stream refl) (seek (holds (v .stream)) ps)
@@ -250,11 +250,11 @@ parsed-fits u f a =
 
 -- ── the step ──
 
-fits-step : (u : Setup) (ps : Places) (r : Reception) → allFit ps ≡ true → allFit (step u ps r .places) ≡ true
+fits-step : (u : Setup) (ps : Places) (r : Reception) → placesFit ps ≡ true → placesFit (step u ps r .places) ≡ true
 unfolding step stepChecked parsed
 fits-step u ps r ok = go (check u r) refl
   where
-    go : (o : Option ℕ) → check u r ≡ o → allFit (stepChecked o (isAnonymous (r .frame .id)) ps (parsed u (r .frame)) .places) ≡ true
+    go : (o : Option ℕ) → check u r ≡ o → placesFit (stepChecked o (isAnonymous (r .frame .id)) ps (parsed u (r .frame)) .places) ≡ true
     go (some n) e = ok
     go none e =
         let a = accepted u (r .frame) (checked u r e) in
@@ -293,7 +293,7 @@ sound-step u ps r h =
     let k = and-elim-right (eqb (length ps) 32) _ h in
     and-intro (eq-eqb (length (step u ps r .places)) 32 (size-step u ps r ∙ eqb-true (length ps) 32 (and-elim-left _ _ h)))
     (and-intro (fits-step u ps r (and-elim-left _ _ k))
-    (sole-apart (step u ps r .places) (sole-step u ps r (apart-sole ps (and-elim-right (allFit ps) _ k)))))
+    (sole-apart (step u ps r .places) (sole-step u ps r (apart-sole ps (and-elim-right (placesFit ps) _ k)))))
 
 pub lasting : Lasting
 unfolding sound

@@ -1,23 +1,23 @@
--- What a frame of one stream does to the session of another: it stays as it was, or was old.
-use mathlib.Core.Path.{_≡_, refl, sym, ap, _∙_, subst}
+-- What a step does to sessions: that of another stream stays as it was, or was old; and no stream comes to have two.
+use mathlib.Core.Path.{_≡_, refl, sym, ap, _∙_}
 use mathlib.Core.Logic.{_⊎_, inl, inr}
 use mathlib.Core.Bool.{Bool, true, false, false≢true}
 use mathlib.Core.List.{List, [], _∷_}
 use mathlib.Core.Option.{Option, none, some}
-use Prim.Native.Nat.{ℕ, _+_, _-_, _≤_, _<_, _^_}
+use Prim.Native.Nat.{ℕ, _+_, _-_, _<_, _^_}
 use native.Mathlib.Omega.{arith}
 use lib.Dec.{ltb}
 use lib.ListN.{length, getD, set}
 use borrow.Author.Tests.{ltb-true, lt-ltb, leb-false}
 use Rattle.model.specs.Check.{Reception, Parsed, parsed, check}
 use Rattle.model.specs.Condition3.{ofStream}
-use Rattle.model.specs.Frame.{Stream, sameStream, streamOf, isAnonymous}
+use Rattle.model.specs.Frame.{Stream, sameStream, isAnonymous}
 use Rattle.model.specs.Reception.{stepNew, stepStart, sessionIn, stepSeek, stepAnonymous, stepChecked, step}
 use Rattle.model.specs.Session.{Session, old, fresh, proceed, react}
 use Rattle.model.specs.Setup.{Setup}
 use Rattle.model.specs.Table.{Place, empty, held, Places, seek, holds, isFree, isOld, orElse, placeFor}
 use Rattle.model.proofs.Checks.{accepted, checked}
-use Rattle.model.proofs.Table.{same-eq, Sought, Found, seek-spec, sessionsOf, fails-none, AtMostOne, Sole, kept, only, sole-store}
+use Rattle.model.proofs.Table.{same-eq, Found, seek-spec, sessionsOf, fails-none, AtMostOne, Sole, kept, only, sole-store}
 
 -- ── old sessions ──
 

@@ -3,20 +3,19 @@ use mathlib.Core.Path.{_≡_, refl, sym, ap, _∙_, subst}
 use mathlib.Core.Bool.{Bool, true, false}
 use mathlib.Core.List.{List, [], _∷_, cons≢nil, head-eq-of-cons-eq}
 use mathlib.Core.Option.{Option, none, some}
-use Prim.Native.Nat.{ℕ, _+_, _≤_, _<_}
+use Prim.Native.Nat.{ℕ, _≤_, _<_}
 use native.Mathlib.Omega.{arith}
-use lib.Dec.{ltb, eqb}
+use lib.Dec.{ltb}
 use lib.ListN.{length, getD, set}
 use borrow.Author.Tests.{eq-eqb}
 use Rattle.model.specs.Answer.{Answer, refused, full, passed, noTransfer}
-use Rattle.model.specs.Check.{Reception, Parsed, parsed, frameCheck, check}
+use Rattle.model.specs.Check.{Reception, Parsed, parsed, frameCheck}
 use Rattle.model.specs.Condition3.{ofStream}
-use Rattle.model.specs.Frame.{Frame, Stream, streamOf, isAnonymous}
+use Rattle.model.specs.Frame.{Frame, Stream, streamOf}
 use Rattle.model.specs.Reception.{Step, store, stepNew, stepStart, sessionIn, stepSeek, stepAnonymous, stepChecked, step}
-use Rattle.model.specs.Session.{Session, Out, next, restarts, restarted, overIf, over, takeEnd, takeLong, takes, proceedIf, proceed, reactIf, react, fresh}
+use Rattle.model.specs.Session.{Session, Out, next, restarts, restarted, over, takeEnd, takeLong, takes, proceedIf, proceed, reactIf, react, fresh}
 use Rattle.model.specs.Setup.{Setup}
-use Rattle.model.specs.Table.{Place, empty, held, Places, seek, holds, placeFor}
-use Rattle.model.specs.Tests.{pick, sameBool, isEmpty}
+use Rattle.model.specs.Table.{empty, held, Places, seek, holds, placeFor}
 use Rattle.model.proofs.Checks.{roomy-check, start-toggle, named-not-anonymous, of-stream}
 use Rattle.model.proofs.Others.{Old, true-old, AllOld, Kept, still, aged, FoundPlace, place-spec}
 use Rattle.model.proofs.Table.{Found, seek-spec, sessionsOf, fails-none, Sole, only, new-at}

@@ -11,11 +11,11 @@ use borrow.Author.Tests.{eqb-true}
 use Rattle.model.specs.Answer.{Reason}
 use Rattle.model.specs.Check.{Reception, Parsed, parsed, frameCheck, check}
 use Rattle.model.specs.Condition3.{ofStream, took}
-use Rattle.model.specs.Frame.{Frame, Stream, streamOf, isAnonymous}
+use Rattle.model.specs.Frame.{Stream, streamOf, isAnonymous}
 use Rattle.model.specs.Reception.{Step, stepNew, stepStart, sessionIn, stepSeek, stepAnonymous, stepChecked, step}
 use Rattle.model.specs.Session.{Session, Out, restarts, overStart, overIf, over, takes, proceedIf, proceed, reactIf, react, fresh}
 use Rattle.model.specs.Setup.{Setup}
-use Rattle.model.specs.Table.{Place, empty, held, Places, seek, holds, placeFor}
+use Rattle.model.specs.Table.{empty, Places, seek, holds, placeFor}
 use Rattle.model.specs.Tests.{sameBool, isEmpty}
 use Rattle.model.proofs.Checks.{checked, start-toggle, named-not-anonymous, of-stream}
 use Rattle.model.proofs.Others.{FoundPlace, place-spec}

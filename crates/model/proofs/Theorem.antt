@@ -1,25 +1,25 @@
 -- Condition 3: the theorem.
 use mathlib.Core.Path.{_≡_, refl, sym, ap, _∙_, subst}
-use mathlib.Core.Bool.{Bool, true, false, _&&_}
+use mathlib.Core.Bool.{Bool, true, false}
 use mathlib.Core.List.{List, [], _∷_}
-use mathlib.Core.Option.{Option, none, some}
+use mathlib.Core.Option.{some}
 use mathlib.Mathlib.Data.Bool.Basic.{and-elim-left, and-elim-right}
 use Prim.Native.Nat.{ℕ, suc, _+_, _*_, _/_, _%_, _≤_, _<_}
 use native.Mathlib.Omega.{arith}
 use lib.Dec.{eqb, leb}
 use lib.ListN.{length, take}
 use lib.Seq.{take-all, take-length}
-use borrow.Author.Tests.{eq-eqb, le-leb, lt-leb, leb-true, leb-false}
+use borrow.Author.Tests.{eq-eqb, lt-leb, leb-true, leb-false}
 use Rattle.checksum.specs.Crc16.{checksum}
-use Rattle.model.specs.Answer.{Answer, taken, handed, refused, full, passed, long, differs, numberOf}
-use Rattle.model.specs.Check.{Reception, orZero, parsed, frameCheck}
-use Rattle.model.specs.Condition3.{Past, setUp, lent, heard, ofStream, startOf, keep, framesWith, answersTo, upTo, Receiver, startIn, answers, took, Premises, While, Brings, next, again, Transfer, handouts, Claim, Condition3}
+use Rattle.model.specs.Answer.{Answer, taken, handed, refused, full, passed, long, differs}
+use Rattle.model.specs.Check.{Reception, parsed}
+use Rattle.model.specs.Condition3.{Past, setUp, lent, heard, ofStream, startOf, keep, framesWith, answersTo, Receiver, startIn, started, frames, answers, took, front, While, Brings, next, again, Transfer, handouts, Condition3}
 use Rattle.model.specs.Frame.{Frame, Stream, streamOf, priorityOf, isAnonymous, isStart, tailOf}
 use Rattle.model.specs.Reception.{step, after}
 use Rattle.model.specs.Sent.{withSum, carried, carrying, sent, idOf}
-use Rattle.model.specs.Session.{Out, sumOk, closing, takes, fresh}
+use Rattle.model.specs.Session.{Out, closing, takes, fresh}
 use Rattle.model.specs.Setup.{Setup, signatureFor}
-use Rattle.model.specs.Sound.{streamFits, allFit, sound}
+use Rattle.model.specs.Sound.{streamFits, placesFit, sound}
 use Rattle.model.specs.Table.{Places}
 use Rattle.model.proofs.Checks.{Accepted, accepted, named-not-anonymous, of-stream}
 use Rattle.model.proofs.Delivery.{closings, verdict, closes-once}
@@ -44,9 +44,9 @@ past-sound u ps setUp = lasting .setup
 past-sound u ps (lent h) = h
 past-sound u ps (heard {ps = qs} h l) = sound-after u qs l (past-sound u qs h)
 
-pub past-sole : (u : Setup) (ps : Places) → Past u ps → Sole ps
+past-sole : (u : Setup) (ps : Places) → Past u ps → Sole ps
 unfolding sound
-past-sole u ps h = apart-sole ps (and-elim-right (allFit ps) _ (and-elim-right (eqb (length ps) 32) _ (past-sound u ps h)))
+past-sole u ps h = apart-sole ps (and-elim-right (placesFit ps) _ (and-elim-right (eqb (length ps) 32) _ (past-sound u ps h)))
 
 -- ── the frames of a payload ──
 
@@ -96,7 +96,7 @@ pub record Starts (u : Setup) (d : Stream) (f : Frame) (x : Receiver) : Type 0 w
   pub past : Past u (x .places)
   pub named : 0 < d .source
   pub start : startOf d f ≡ true
-  pub takes : took (step u (x .places) (startIn f x) .answer) ≡ true
+  pub takes : took (started u f x .answer) ≡ true
 
 abbrev pub first : Setup → Frame → Out
 first u f = takes (fresh (parsed u f)) (parsed u f)
@@ -107,27 +107,27 @@ module _ (u : Setup) (d : Stream) (f : Frame) (x : Receiver) (s : Starts u d f x
 
   -- it answers as the reference that begins with the start
   pub as-reference : (k : ℕ) → While u d f k x
-      → take (suc k) (answers u d f x) ≡ first u f .answer ∷ refRun u (first u f .session) (take k (framesWith (ofStream d) (x .list)))
+      → take (suc k) (answers u d f x) ≡ first u f .answer ∷ refRun u (first u f .session) (take k (frames d x))
   unfolding answersTo parsed
   as-reference k w =
       let sole = past-sole u (x .places) (s .past) in
       let b = began-by u d (x .places) (startIn f x) (s .named) mine (and-elim-right (ofStream d f) _ (s .start)) sole (s .takes) in
-      let qs = step u (x .places) (startIn f x) .places in
-      let q = follow u d (s .named) (f .time) qs (first u f .session) (upTo (ofStream d) (x .list) k) (w .time) (w .room) (w .table)
+      let qs = started u f x .places in
+      let q = follow u d (s .named) (f .time) qs (first u f .session) (front d k x) (w .time) (w .room) (w .table)
       (sole-step u (x .places) (startIn f x) sole) (same (b .session)) in
       rw mine
       (ap (λ a. a ∷ take k (answersTo (ofStream d) u qs (x .list))) (b .answer)
       ∙ ap (λ l. first u f .answer ∷ l) (sym (answers-upto (ofStream d) u qs (x .list) k) ∙ q ∙ ap (refRun u (first u f .session)) (frames-upto (ofStream d) (x .list) k)))
 
   -- all of its answers, where the premises hold up to the stream's last frame
-  pub all-answers : While u d f (length (framesWith (ofStream d) (x .list))) x
-      → answers u d f x ≡ first u f .answer ∷ refRun u (first u f .session) (framesWith (ofStream d) (x .list))
+  pub all-answers : While u d f (length (frames d x)) x
+      → answers u d f x ≡ first u f .answer ∷ refRun u (first u f .session) (frames d x)
   unfolding answersTo framesWith
   all-answers w =
-      let n = length (framesWith (ofStream d) (x .list)) in
+      let n = length (frames d x) in
       let c : length (answers u d f x) ≤ suc n = rw (answers-length (ofStream d) u (x .places) (startIn f x ∷ x .list), mine) (omega arith) in
       sym (take-all (suc n) (answers u d f x) c) ∙ as-reference n w
-      ∙ ap (λ fs. first u f .answer ∷ refRun u (first u f .session) fs) (take-length (framesWith (ofStream d) (x .list)))
+      ∙ ap (λ fs. first u f .answer ∷ refRun u (first u f .session) fs) (take-length (frames d x))
 
   -- ── a transfer ──
 
@@ -141,13 +141,13 @@ module _ (u : Setup) (d : Stream) (f : Frame) (x : Receiver) (s : Starts u d f x
   not-anonymous = named-not-anonymous (f .id) (rw stream-is (s .named))
 
   -- of the answers to frames that carry some bytes, one alone neither takes nor passes over
-  pub closes : (t : ℕ) → t < 32 → (all : List ℕ) → length all ≤ 514 → While u d f (length (framesWith (ofStream d) (x .list))) x
-      → Brings (f .id) (f .time + 2000000) (carrying t all) (f ∷ framesWith (ofStream d) (x .list))
+  pub closes : (t : ℕ) → t < 32 → (all : List ℕ) → length all ≤ 514 → While u d f (length (frames d x)) x
+      → Brings (f .id) (f .time + 2000000) (carrying t all) (f ∷ frames d x)
       → closings (answers u d f x) ≡ verdict u (f .id) t all (leb (length all) 7) ∷ []
-  closes t small all most w b = ap closings (all-answers w) ∙ closes-once u f ok not-anonymous t small all most (framesWith (ofStream d) (x .list)) b
+  closes t small all most w b = ap closings (all-answers w) ∙ closes-once u f ok not-anonymous t small all most (frames d x) b
 
-  hands-out : (priority t : ℕ) (p : List ℕ) → Transfer u d f (framesWith (ofStream d) (x .list)) priority t p
-      → While u d f (length (framesWith (ofStream d) (x .list))) x → handouts (answers u d f x) ≡ handed p d priority t ∷ []
+  hands-out : (priority t : ℕ) (p : List ℕ) → Transfer u d f (frames d x) priority t p
+      → While u d f (length (frames d x)) x → handouts (answers u d f x) ≡ handed p d priority t ∷ []
   unfolding sent
   hands-out priority t p tr w =
       let i : f .id ≡ idOf d priority = sender (tr .brings) in
@@ -155,7 +155,7 @@ module _ (u : Setup) (d : Stream) (f : Frame) (x : Receiver) (s : Starts u d f x
       handouts-closings (answers u d f x)
       ∙ ap handouts
       (closes t (tr .fields .1) (carried (tr .signature) p) (carried-most (tr .signature) p (tr .size)) w
-      (subst (λ id. Brings id (f .time + 2000000) (carrying t (carried (tr .signature) p)) (f ∷ framesWith (ofStream d) (x .list))) (sym i) (tr .brings))
+      (subst (λ id. Brings id (f .time + 2000000) (carrying t (carried (tr .signature) p)) (f ∷ frames d x)) (sym i) (tr .brings))
       ∙ ap (λ a. a ∷ []) (unaltered u (f .id) t (tr .signature) p (ap (signatureFor u) i ∙ tr .subscribed)))
       ∙ λ j. handed p (stream-is j) (e j) t ∷ []
 
@@ -171,5 +171,5 @@ theorem u d f x y h =
       );
     }
   where
-    starts : (z : Receiver) → Past u (z .places) → took (step u (z .places) (startIn f z) .answer) ≡ true → Starts u d f z
+    starts : (z : Receiver) → Past u (z .places) → took (started u f z .answer) ≡ true → Starts u d f z
     starts z p t = record { past = p; named = h .named; start = h .start; takes = t }

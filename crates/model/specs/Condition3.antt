@@ -2,14 +2,14 @@
 use mathlib.Core.Path.{_≡_}
 use mathlib.Core.Bool.{Bool, true, false, not, _&&_}
 use mathlib.Core.List.{List, [], _∷_}
+use mathlib.Core.Option.{some}
 use Prim.Native.Nat.{ℕ, zero, suc, _+_, _^_, _≤_, _<_}
 use lib.Dec.{ltb, leb, eqb}
 use lib.ListN.{length, take}
-use mathlib.Core.Option.{some}
 use Rattle.model.specs.Answer.{Answer, taken, handed, refused, full, passed, long, differs, numberOf}
 use Rattle.model.specs.Check.{Reception}
 use Rattle.model.specs.Frame.{Frame, Stream, sameStream, streamOf, tailOf, isStart}
-use Rattle.model.specs.Reception.{step, after}
+use Rattle.model.specs.Reception.{Step, step, after}
 use Rattle.model.specs.Sent.{sent, idOf, frameAt}
 use Rattle.model.specs.Setup.{Setup, signatureFor}
 use Rattle.model.specs.Sound.{sound}
@@ -64,11 +64,18 @@ pub record Receiver : Type 0 where
 abbrev pub startIn : Frame → Receiver → Reception
 startIn f x = record { frame = f; room = x .room }
 
--- its answers to the stream's frames, the start's first
+abbrev pub started : Setup → Frame → Receiver → Step
+started u f x = step u (x .places) (startIn f x)
+
+-- the stream's frames after the start
+abbrev pub frames : Stream → Receiver → List Frame
+frames d x = framesWith (ofStream d) (x .list)
+
+-- the answers to the stream's frames, the start's first
 abbrev pub answers : Setup → Stream → Frame → Receiver → List Answer
 answers u d f x = answersTo (ofStream d) u (x .places) (startIn f x ∷ x .list)
 
--- "“Take” means answer 0 or 1"
+-- "Take" means answer 0 or 1
 abbrev pub took : Answer → Bool
 took taken = true
 took (handed p d priority t) = true
@@ -86,12 +93,13 @@ pub record Premises (u : Setup) (d : Stream) (f : Frame) (x y : Receiver) : Type
   -- "the same start frame on it, at the same time"
   pub start : startOf d f ≡ true
   -- "Both take" it
-  pub take : (took (step u (x .places) (startIn f x) .answer) ≡ true) × (took (step u (y .places) (startIn f y) .answer) ≡ true)
+  pub take : (took (started u f x .answer) ≡ true) × (took (started u f y .answer) ≡ true)
   -- "both lists bring the same frames of that stream, at the same times and in the same order, with whatever else between"
-  pub same : framesWith (ofStream d) (x .list) ≡ framesWith (ofStream d) (y .list)
+  pub same : frames d x ≡ frames d y
 
 -- ── while ──
 
+-- no time is before the one before it, and the first not before t
 abbrev pub forward : ℕ → List Reception → Bool
 forward t [] = true
 forward t (r ∷ rs) = leb t (r .frame .time) && forward (r .frame .time) rs
@@ -100,18 +108,23 @@ abbrev pub roomy : Stream → List Reception → Bool
 roomy d [] = true
 roomy d (r ∷ rs) = pick (ofStream d (r .frame)) (leb 512 (r .room)) true && roomy d rs
 
+-- no answer has the number n
 abbrev pub never : ℕ → List Answer → Bool
 never n [] = true
 never n (a ∷ l) = not (eqb (numberOf a) n) && never n l
 
--- what one receiver owes up to the k-th frame of the stream after the start
+-- up to the stream's k-th frame after the start
+abbrev pub front : Stream → ℕ → Receiver → List Reception
+front d k x = upTo (ofStream d) (x .list) k
+
+-- so far the premises hold for one receiver: nothing is asked of what comes later
 pub record While (u : Setup) (d : Stream) (f : Frame) (k : ℕ) (x : Receiver) : Type 0 where
-  -- "time never runs back from the start on": over the whole list, other frames and refused ones included
-  pub time : forward (f .time) (upTo (ofStream d) (x .list) k) ≡ true
+  -- "time never runs back from the start on": other streams' frames and refused ones included
+  pub time : forward (f .time) (front d k x) ≡ true
   -- "output buffers are large enough": "at least 512 bytes at each frame of the stream"
-  pub room : roomy d (upTo (ofStream d) (x .list) k) ≡ true
+  pub room : roomy d (front d k x) ≡ true
   -- "no start of that stream is refused for a full table"
-  pub table : never 9 (answersTo (startOf d) u (step u (x .places) (startIn f x) .places) (upTo (ofStream d) (x .list) k)) ≡ true
+  pub table : never 9 (answersTo (startOf d) u (started u f x .places) (front d k x)) ≡ true
 
 -- ── a correctly sent transfer ──
 
@@ -129,7 +142,7 @@ pub data Brings (id till : ℕ) : List (List ℕ) → List Frame → Type 0 wher
 pub record Transfer (u : Setup) (d : Stream) (f : Frame) (fs : List Frame) (priority t : ℕ) (p : List ℕ) : Type 0 where
   -- "of at most 512 bytes"
   pub size : length p ≤ 512
-  -- "“correctly sent” by the sending rules under the subscribed signature"
+  -- "correctly sent": "by the sending rules under the subscribed signature"
   pub fields : (priority < 32) × (t < 32)
   pub signature : ℕ
   pub subscribed : signatureFor u (idOf d priority) ≡ some signature
@@ -144,11 +157,12 @@ handouts (a ∷ l) = keep (eqb (numberOf a) 1) a (handouts l)
 -- ── the claim ──
 
 pub record Claim (u : Setup) (d : Stream) (f : Frame) (x y : Receiver) : Type 0 where
-  -- "both answer each frame of the stream alike", "the same number and, with 1, the same payload and whatever else 1 gives": the start's answer and the k after
+  -- "both answer each frame of the stream alike": the start and the k after it, while the premises hold. Equal answers have "the same number and, with 1,
+  -- the same payload and whatever else 1 gives".
   pub alike : (k : ℕ) → While u d f k x → While u d f k y → take (suc k) (answers u d f x) ≡ take (suc k) (answers u d f y)
-  -- "each receiver hands out its payload exactly once and unaltered"
-  pub delivered : (priority t : ℕ) (p : List ℕ) → Transfer u d f (framesWith (ofStream d) (x .list)) priority t p
-      → While u d f (length (framesWith (ofStream d) (x .list))) x → While u d f (length (framesWith (ofStream d) (y .list))) y
+  -- "each receiver hands out its payload exactly once and unaltered": "one alone of the answers to the stream's frames, the start's included, is 1"
+  pub delivered : (priority t : ℕ) (p : List ℕ) → Transfer u d f (frames d x) priority t p
+      → While u d f (length (frames d x)) x → While u d f (length (frames d y)) y
       → (handouts (answers u d f x) ≡ handed p d priority t ∷ []) × (handouts (answers u d f y) ≡ handed p d priority t ∷ [])
 
 abbrev pub Condition3 : Type 0

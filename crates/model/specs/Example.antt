@@ -3,15 +3,15 @@ use mathlib.Core.Path.{_≡_}
 use mathlib.Core.Bool.{true, false}
 use mathlib.Core.List.{List, [], _∷_}
 use Prim.Native.Nat.{ℕ, zero, suc}
+use lib.ListN.{take}
 use Rattle.model.specs.Answer.{handed}
 use Rattle.model.specs.Check.{Reception}
-use Rattle.model.specs.Condition3.{ofStream, framesWith, Receiver, answers, Premises, While, Transfer, handouts}
+use Rattle.model.specs.Condition3.{Receiver, frames, answers, Premises, While, Transfer, handouts}
 use Rattle.model.specs.Frame.{Frame, Stream}
 use Rattle.model.specs.Reception.{after}
 use Rattle.model.specs.Sent.{frameAt}
-use Rattle.model.specs.Session.{Session}
 use Rattle.model.specs.Setup.{Setup}
-use Rattle.model.specs.Table.{Place, empty, held, Places, begun}
+use Rattle.model.specs.Table.{held, Places, begun}
 
 -- ── the stream ──
 
@@ -47,7 +47,7 @@ two = 0x61 ∷ 0x6E ∷ 0x5F ∷ 0x61 ∷ 0x6E ∷ 0x67 ∷ 0x6C ∷ 0x25 ∷ []
 abbrev pub three : List ℕ
 three = 0x65 ∷ 0x45 ∷ []
 
--- a frame of the stream, with priority 16, and of KeyValue from another source
+-- a frame of the stream, with priority 16
 abbrev pub frame : List ℕ → ℕ → Frame
 frame bytes time = frameAt 0x103FF22A bytes time
 
@@ -75,8 +75,8 @@ earlier =
     other 0x1001552A (1 ∷ 0 ∷ 0 ∷ 0 ∷ 0 ∷ 0 ∷ 0 ∷ 0xC0 ∷ []) 1001000 ∷
     other 0x1001552A (1 ∷ 0x81 ∷ []) 2000000 ∷ []
 
-abbrev pub fresh : Receiver
-fresh =
+abbrev pub spacious : Receiver
+spacious =
     record {
       places = after setup begun earlier;
       room = 512;
@@ -94,7 +94,7 @@ fresh =
     }
 
 -- The other was lent a table with all places held, a broken transfer of the stream among them. Between it hears a start that is refused for the full table,
--- one that takes an old session's place, and a single frame.
+-- one that takes an old session's place, and a single frame; after the stream's last frame time runs back.
 abbrev pub crowded : Receiver
 crowded =
     record {
@@ -108,15 +108,17 @@ crowded =
           other 0x103FF22B one 11600000 ∷
           received three 11999999 ∷
           other 0x1001552A (0xC0 ∷ []) 11999999 ∷
-          received three 12000000 ∷ [];
+          received three 12000000 ∷
+          other 0x1001552A (0xC1 ∷ []) 1000000 ∷ [];
     }
 
 -- ── the premises hold, and so does the claim ──
 
 pub record Example : Type 0 where
-  pub premises : Premises setup stream start fresh crowded
-  pub whiles : While setup stream start 5 fresh × While setup stream start 5 crowded
-  pub transfer : Transfer setup stream start (framesWith (ofStream stream) (fresh .list)) 16 5 payload
+  pub premises : Premises setup stream start spacious crowded
+  pub whiles : While setup stream start 5 spacious × While setup stream start 5 crowded
+  pub transfer : Transfer setup stream start (frames stream spacious) 16 5 payload
+  pub alike : take 6 (answers setup stream start spacious) ≡ take 6 (answers setup stream start crowded)
   pub delivered :
-      (handouts (answers setup stream start fresh) ≡ handed payload stream 16 5 ∷ [])
+      (handouts (answers setup stream start spacious) ≡ handed payload stream 16 5 ∷ [])
       × (handouts (answers setup stream start crowded) ≡ handed payload stream 16 5 ∷ [])

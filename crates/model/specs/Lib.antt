@@ -7,8 +7,8 @@ pub mod Session
 pub mod Table
 pub mod Reception
 pub mod Sent
+pub mod SentLaws
 pub mod Sound
 pub mod Condition3
-pub mod SentLaws
 pub mod Example
 pub mod WhyPremises

@@ -1,6 +1,6 @@
 -- 01, 20: the table of places that a lent state may hold. Each field is in range, toggle 1 goes with bytes in hand, and no stream stands twice.
 use mathlib.Core.Path.{_≡_}
-use mathlib.Core.Bool.{Bool, true, false, not, _&&_, _||_}
+use mathlib.Core.Bool.{Bool, true, not, _&&_, _||_}
 use mathlib.Core.List.{[], _∷_}
 use lib.Dec.{ltb, leb, eqb}
 use lib.ListN.{length}
@@ -32,9 +32,9 @@ abbrev pub placeFits : Place → Bool
 placeFits empty = true
 placeFits (held d s) = streamFits d && sessionFits s
 
-abbrev pub allFit : Places → Bool
-allFit [] = true
-allFit (p ∷ ps) = placeFits p && allFit ps
+abbrev pub placesFit : Places → Bool
+placesFit [] = true
+placesFit (p ∷ ps) = placeFits p && placesFit ps
 
 abbrev pub noneHolds : Stream → Places → Bool
 noneHolds d [] = true
@@ -50,7 +50,7 @@ apart [] = true
 apart (p ∷ ps) = notAgain p ps && apart ps
 
 unfoldable pub sound : Places → Bool
-sound ps = eqb (length ps) 32 && (allFit ps && apart ps)
+sound ps = eqb (length ps) 32 && (placesFit ps && apart ps)
 
 -- setup leaves such a table, and every reception keeps it one
 pub record Lasting : Type 0 where

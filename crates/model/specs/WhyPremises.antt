@@ -7,11 +7,11 @@ use Prim.Native.Nat.{ℕ}
 use Rattle.model.specs.Answer.{numberOf}
 use Rattle.model.specs.Check.{Reception}
 use Rattle.model.specs.Condition3.{Receiver, answers, Premises}
-use Rattle.model.specs.Example.{setup, keyValue, stream, one, two, three, frame, received, other, start, crowd}
+use Rattle.model.specs.Example.{setup, stream, one, two, three, frame, received, other, start, crowd}
 use Rattle.model.specs.Frame.{Frame, Stream}
 use Rattle.model.specs.Sent.{frameAt}
 use Rattle.model.specs.Sound.{sound}
-use Rattle.model.specs.Table.{Place, empty, held, Places, begun}
+use Rattle.model.specs.Table.{empty, held, Places, begun}
 
 abbrev pub numbers : Stream → Frame → Receiver → List ℕ
 numbers d f x = map numberOf (answers setup d f x)
@@ -94,11 +94,19 @@ unnamedTwice = receiver begun (other 0x10000100 (1 ∷ 0xC0 ∷ []) 10000001 ∷
 -- ── the facts ──
 
 pub record WhyPremises : Type 0 where
+  -- "time never runs back"
   pub time : Premises setup stream start steady back × (numbers stream start steady ≡ 0 ∷ 0 ∷ 1 ∷ []) × (numbers stream start back ≡ 0 ∷ 10 ∷ 10 ∷ [])
+  -- "no start of that stream is refused for a full table"
   pub table : Premises setup stream start roomLeft noneLeft × (numbers stream start roomLeft ≡ 0 ∷ 0 ∷ []) × (numbers stream start noneLeft ≡ 0 ∷ 9 ∷ [])
+  -- "output buffers are large enough"
   pub room : Premises setup stream start steady short × (numbers stream start steady ≡ 0 ∷ 0 ∷ 1 ∷ []) × (numbers stream start short ≡ 0 ∷ 8 ∷ 10 ∷ [])
+  -- "Both take the same start"
   pub take : (numbers stream start steady ≡ 0 ∷ 0 ∷ 1 ∷ []) × (numbers stream start ahead ≡ 10 ∷ 10 ∷ 10 ∷ [])
+  -- "without a fault that 20 names"
   pub pasts : (sound twins ≡ false) × (numbers stream start single ≡ 0 ∷ 10 ∷ []) × (numbers stream start double ≡ 0 ∷ 0 ∷ [])
+  -- "within two seconds of the start"
   pub seconds : numbers stream start late ≡ 0 ∷ 0 ∷ 10 ∷ []
+  -- "repeated before the next"
   pub order : (numbers stream first inOrder ≡ 0 ∷ 0 ∷ 10 ∷ 0 ∷ 1 ∷ []) × (numbers stream first outOfOrder ≡ 0 ∷ 0 ∷ 0 ∷ 0 ∷ 10 ∷ [])
+  -- "a named source"
   pub named : numbers unnamed (frameAt 0x10000100 (1 ∷ 0xC0 ∷ []) 10000000) unnamedTwice ≡ 1 ∷ 1 ∷ []
