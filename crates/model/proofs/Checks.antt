@@ -74,7 +74,7 @@ start-toggle u f e st =
 
 -- ── the stream ──
 
-pub source-is : (id : ℕ) → streamOf id .source ≡ sourceOf id
+source-is : (id : ℕ) → streamOf id .source ≡ sourceOf id
 unfolding streamOf
 source-is id = go (isService id)
   where

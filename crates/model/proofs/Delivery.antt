@@ -23,7 +23,7 @@ use Rattle.model.proofs.Frames.{framed-length, framed-tail, framed-payl
 use Rattle.model.proofs.Ids.{bit-is, flag-le}
 use Rattle.model.proofs.Own.{proceed-taken, react-is, refIf, ref, refRun}
 
--- ── answers that neither gather nor pass over ──
+-- ── answers that neither take nor pass over ──
 
 abbrev pub goesOn : Answer → Bool
 goesOn taken = true
@@ -40,6 +40,7 @@ closings (a ∷ l) = keep (not (goesOn a)) a (closings l)
 
 -- ── frames in order, beside the one taken last ──
 
+-- c was taken last, and `more` is to come
 data Then (id till : ℕ) : List ℕ → List (List ℕ) → List Frame → Type 0 where
   none-left : {c : List ℕ} → Then id till c [] []
   repeated : {c : List ℕ} {more : List (List ℕ)} {fs : List Frame} (t : ℕ) → t ≤ till → Then id till c more fs
@@ -47,6 +48,7 @@ data Then (id till : ℕ) : List ℕ → List (List ℕ) → List Frame → Type
   moved : {c n : List ℕ} {more : List (List ℕ)} {fs : List Frame} (t : ℕ) → t ≤ till → Then id till n more fs
       → Then id till c (n ∷ more) (frameAt id n t ∷ fs)
 
+-- the first of the frames was taken already
 abbrev Taken : ℕ → ℕ → List (List ℕ) → List Frame → Type 0
 Taken id till [] fs = Unit {0}
 Taken id till (n ∷ more) fs = Then id till n more fs
@@ -141,9 +143,9 @@ module _ (u : Setup) (f : Frame) (ok : Accepted u f) (named : isAnonymous (f .id
     good-tail : (x : ℕ) → badTailIn (frameAt (f .id) later-data x) ≡ false
     unfolding parsed
     good-tail x =
-        let v : parsed u (frameAt (f .id) later-data x) ≡ seen u (f .id) t x false l g xs = sees u (f .id) t small false l g xs x in
-        ap (λ a. badTail a (parsed u (frameAt (f .id) later-data x) .start) (parsed u (frameAt (f .id) later-data x) .last) (parsed u (frameAt (f .id) later-data x) .toggle) (length later-data)) named
-        ∙ ap (λ w. badTail false (w .start) (w .last) (w .toggle) (length later-data)) v
+        let w = parsed u (frameAt (f .id) later-data x) in
+        ap (λ a. badTail a (w .start) (w .last) (w .toggle) (length later-data)) named
+        ∙ ap (λ v. badTail false (v .start) (v .last) (v .toggle) (length later-data)) (sees u (f .id) t small false l g xs x)
         ∙ good-end l refl
 
     copy : Copy u (f .id) t g later-data

@@ -18,7 +18,7 @@ use Rattle.model.specs.WhyPremises.{steady, back, roomLeft, noneLeft, sh
 use Rattle.model.proofs.Theorem.{theorem}
 
 pub example : Example
-unfolding crowd sound streamFits sessionFits framesWith answersTo upTo after step stepChecked stepAnonymous stepSeek stepStart stepNew seek placeFor check frameCheck parsed streamOf sameStream subscribed react reactIf restarts proceed proceedIf over takes takeLong takeEnd closing idOf sent carrying carried pieces checksum crcOver crcByte shifts shift leBytes
+unfolding crowd sound streamFits sessionFits framesWith answersTo upTo after step stepChecked stepAnonymous stepSeek stepStart stepNew seek placeFor check frameCheck parsed streamOf sameStream subscribed react reactIf restarts proceed proceedIf over takes takeLong takeEnd idOf sent carrying carried pieces checksum crcOver crcByte shifts shift leBytes
 example =
     record {
       premises = premises;

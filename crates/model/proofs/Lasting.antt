@@ -287,7 +287,7 @@ size-step u ps r = checks (check u r) (isAnonymous (r .frame .id))
     checks none b = anonymous b
     checks (some n) b = refl
 
-pub sound-step : (u : Setup) (ps : Places) (r : Reception) → sound ps ≡ true → sound (step u ps r .places) ≡ true
+sound-step : (u : Setup) (ps : Places) (r : Reception) → sound ps ≡ true → sound (step u ps r .places) ≡ true
 unfolding sound
 sound-step u ps r h =
     let k = and-elim-right (eqb (length ps) 32) _ h in

@@ -122,7 +122,7 @@ module _ (u : Setup) (d : Stream) (f : Frame) (x : Receiver) (s : Starts u d f x
   -- all of its answers, where the premises hold up to the stream's last frame
   pub all-answers : While u d f (length (frames d x)) x
       → answers u d f x ≡ first u f .answer ∷ refRun u (first u f .session) (frames d x)
-  unfolding answersTo framesWith
+  unfolding framesWith
   all-answers w =
       let n = length (frames d x) in
       let c : length (answers u d f x) ≤ suc n = rw (answers-length (ofStream d) u (x .places) (startIn f x ∷ x .list), mine) (omega arith) in
