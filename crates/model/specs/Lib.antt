@@ -6,4 +6,9 @@ pub mod Check
 pub mod Session
 pub mod Table
 pub mod Reception
+pub mod Sent
+pub mod SentLaws
 pub mod Sound
+pub mod Condition3
+pub mod Example
+pub mod WhyPremises

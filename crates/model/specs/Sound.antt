@@ -1,11 +1,15 @@
 -- 01, 20: the table of places that a lent state may hold. Each field is in range, toggle 1 goes with bytes in hand, and no stream stands twice.
-use mathlib.Core.Bool.{Bool, true, false, not, _&&_, _||_}
+use mathlib.Core.Path.{_≡_}
+use mathlib.Core.Bool.{Bool, true, not, _&&_, _||_}
 use mathlib.Core.List.{[], _∷_}
 use lib.Dec.{ltb, leb, eqb}
 use lib.ListN.{length}
+use Rattle.model.specs.Check.{Reception}
 use Rattle.model.specs.Frame.{Stream}
+use Rattle.model.specs.Reception.{step}
 use Rattle.model.specs.Session.{Session}
-use Rattle.model.specs.Table.{Place, empty, held, Places, holds}
+use Rattle.model.specs.Setup.{Setup}
+use Rattle.model.specs.Table.{Place, empty, held, Places, begun, holds}
 use Rattle.model.specs.Tests.{pick, isEmpty}
 
 -- a message's type is below 65536 and its destination 0
@@ -28,9 +32,9 @@ abbrev pub placeFits : Place → Bool
 placeFits empty = true
 placeFits (held d s) = streamFits d && sessionFits s
 
-abbrev pub allFit : Places → Bool
-allFit [] = true
-allFit (p ∷ ps) = placeFits p && allFit ps
+abbrev pub placesFit : Places → Bool
+placesFit [] = true
+placesFit (p ∷ ps) = placeFits p && placesFit ps
 
 abbrev pub noneHolds : Stream → Places → Bool
 noneHolds d [] = true
@@ -46,4 +50,9 @@ apart [] = true
 apart (p ∷ ps) = notAgain p ps && apart ps
 
 unfoldable pub sound : Places → Bool
-sound ps = eqb (length ps) 32 && (allFit ps && apart ps)
+sound ps = eqb (length ps) 32 && (placesFit ps && apart ps)
+
+-- setup leaves such a table, and every reception keeps it one
+pub record Lasting : Type 0 where
+  pub setup : sound begun ≡ true
+  pub reception : (u : Setup) (ps : Places) (r : Reception) → sound ps ≡ true → sound (step u ps r .places) ≡ true

@@ -1,1 +1,36 @@
 // The rules of 01 as definitions, in specs/. The functions here have no body: each one's contract is a theorem about the definitions.
+ghost use Rattle.model.specs.Condition3.{Condition3};
+ghost use Rattle.model.specs.Example.{Example};
+ghost use Rattle.model.specs.SentLaws.{SentLaws, IdLaws};
+ghost use Rattle.model.specs.Sound.{Lasting};
+ghost use Rattle.model.specs.WhyPremises.{WhyPremises};
+
+// Condition 3 of 00.
+pub fn condition3()
+    ensures { λ _. ⌜ Condition3 ⌝ }
+{}
+
+// Its premises can be met together.
+pub fn condition3_example()
+    ensures { λ _. ⌜ Example ⌝ }
+{}
+
+// And none can be left out.
+pub fn why_premises()
+    ensures { λ _. ⌜ WhyPremises ⌝ }
+{}
+
+// A table of places without a fault stays one.
+pub fn table_lasts()
+    ensures { λ _. ⌜ Lasting ⌝ }
+{}
+
+// The frames of a payload: how many, what each carries, and what the first of them are.
+pub fn frames_of_payload()
+    ensures { λ _. ⌜ SentLaws ⌝ }
+{}
+
+// The ID of a stream and a priority: what is read in it is what was put in.
+pub fn id_of_stream()
+    ensures { λ _. ⌜ IdLaws ⌝ }
+{}

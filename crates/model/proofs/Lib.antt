@@ -1,0 +1,13 @@
+pub mod Checks
+pub mod Delivery
+pub mod Examples
+pub mod Follow
+pub mod Frames
+pub mod Ids
+pub mod Lasting
+pub mod Lift
+pub mod Others
+pub mod Own
+pub mod Start
+pub mod Table
+pub mod Theorem
