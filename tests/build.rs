@@ -6,18 +6,20 @@ use std::path::Path;
 const FOLDER: &str = "TECELUME_LIB_DIR";
 
 fn main() {
-    println!("cargo:rerun-if-env-changed={FOLDER}");
+    println!("cargo::rerun-if-env-changed={FOLDER}");
+    println!("cargo::rerun-if-changed=build.rs");
     if env::var_os("CARGO_FEATURE_LINK").is_none() {
         return;
     }
-    let folder = env::var(FOLDER)
-        .unwrap_or_else(|_| panic!("feature `link`: set {FOLDER} to the folder of libgateway.a"));
+    let Ok(folder) = env::var(FOLDER) else {
+        println!("cargo::error=feature `link`: set {FOLDER} to the folder of libgateway.a");
+        return;
+    };
     let archive = Path::new(&folder).join("libgateway.a");
-    assert!(
-        archive.is_file(),
-        "feature `link`: {} is not there",
-        archive.display()
-    );
-    println!("cargo:rerun-if-changed={}", archive.display());
-    println!("cargo:rustc-link-search=native={folder}");
+    if !archive.is_file() {
+        println!("cargo::error=feature `link`: no {}", archive.display());
+        return;
+    }
+    println!("cargo::rerun-if-changed={}", archive.display());
+    println!("cargo::rustc-link-search=native={folder}");
 }
