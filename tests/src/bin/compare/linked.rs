@@ -1,0 +1,122 @@
+//! The archive's entry points, called as C would call them.
+
+use crate::entry_points::{Arrival, EntryPoints, Reception};
+use crate::lent::Lent;
+
+#[link(name = "gateway", kind = "static")]
+extern "C" {
+    fn tecelume_receiver_size() -> u64;
+    fn tecelume_setup(
+        state: *mut u8,
+        state_length: usize,
+        own: u32,
+        subscriptions: *const u8,
+        subscriptions_length: usize,
+    ) -> u32;
+    fn tecelume_receive(
+        state: *mut u8,
+        state_length: usize,
+        id: u32,
+        frame: *const u8,
+        frame_length: usize,
+        time: u64,
+        out: *mut u8,
+        out_length: usize,
+    ) -> u64;
+}
+
+pub const ARCHIVE: EntryPoints = EntryPoints {
+    reception: Reception {
+        size: || unsafe { tecelume_receiver_size() },
+        setup,
+        receive,
+    },
+    #[cfg(feature = "send")]
+    sending: Some(sending::SENDING),
+    #[cfg(not(feature = "send"))]
+    sending: None,
+    serialization: None,
+};
+
+fn setup(state: &mut Lent, own: u32, list: &mut Lent) -> u32 {
+    unsafe {
+        tecelume_setup(
+            state.pointer(),
+            state.length(),
+            own,
+            list.pointer(),
+            list.length(),
+        )
+    }
+}
+
+fn receive(call: &mut Arrival) -> u64 {
+    unsafe {
+        tecelume_receive(
+            call.state.pointer(),
+            call.state.length(),
+            call.id,
+            call.data.pointer(),
+            call.data.length(),
+            call.time,
+            call.out.pointer(),
+            call.out.length(),
+        )
+    }
+}
+
+#[cfg(feature = "send")]
+mod sending {
+    use crate::entry_points::{Departure, Sending};
+
+    extern "C" {
+        fn tecelume_map_size() -> u64;
+        fn tecelume_map_setup(map: *mut u8, map_length: usize) -> u32;
+        fn tecelume_send(
+            map: *mut u8,
+            map_length: usize,
+            own: u32,
+            kind: u32,
+            type_id: u32,
+            destination: u32,
+            priority: u32,
+            payload: *const u8,
+            payload_length: usize,
+            signature: u64,
+            time: u64,
+            transfer_id: u32,
+            discriminator: u32,
+            out: *mut u8,
+            out_length: usize,
+        ) -> u64;
+    }
+
+    pub const SENDING: Sending = Sending {
+        size: || unsafe { tecelume_map_size() },
+        setup: |map| unsafe { tecelume_map_setup(map.pointer(), map.length()) },
+        send,
+    };
+
+    fn send(call: &mut Departure) -> u64 {
+        let numbers = &call.numbers;
+        unsafe {
+            tecelume_send(
+                call.map.pointer(),
+                call.map.length(),
+                numbers.own,
+                numbers.transfer_type,
+                numbers.type_id,
+                numbers.destination,
+                numbers.priority,
+                call.payload.pointer(),
+                call.payload.length(),
+                numbers.signature,
+                numbers.time,
+                numbers.transfer_id,
+                numbers.discriminator,
+                call.out.pointer(),
+                call.out.length(),
+            )
+        }
+    }
+}

@@ -1,0 +1,267 @@
+//! Wrong variants of the reference: the errors that tempt (01) and some at the edges. Each must
+//! be caught, or the comparison shows nothing.
+
+use crate::entry_points::{
+    receive, send, Arrival, Departure, EntryPoints, Receive, Reception, Send, Sending,
+    Serialization, REFERENCE,
+};
+use reference::bits::Refusal;
+use reference::frame::{Stream, Tail};
+use reference::map::Map;
+use reference::messages::{self, Message, MessageType};
+use reference::receive::Receiver;
+use reference::session::{Session, MOST_GATHERED};
+use reference::state;
+
+/// The part of the comparison that has to catch a mutant.
+#[derive(Clone, Copy, PartialEq, Eq)]
+pub enum Part {
+    Receptions,
+    Sends,
+    Payloads,
+}
+
+pub struct Mutant {
+    pub name: &'static str,
+    pub part: Part,
+    pub side: EntryPoints,
+}
+
+pub fn all() -> Vec<Mutant> {
+    vec![
+        receiving("repeated-start-is-new", repeated_start_is_new),
+        receiving("passed-over-turns-toggle", passed_over_turns_toggle),
+        receiving("age-from-last-frame", age_from_last_frame),
+        receiving("checksum-high-byte-first", checksum_high_byte_first),
+        receiving("refused-frame-takes-place", refused_frame_takes_place),
+        receiving("full-table-takes-place", full_table_takes_place),
+        receiving("old-at-two-seconds", old_at_two_seconds),
+        receiving("output-touched-by-12", output_touched_by_12),
+        receiving("closing-clears-bytes", closing_clears_bytes),
+        receiving("writes-past-the-state", writes_past_the_state),
+        sending(
+            "checksum-sent-high-byte-first",
+            checksum_sent_high_byte_first,
+        ),
+        sending("entry-kept-at-two-seconds", entry_kept_at_two_seconds),
+        Mutant {
+            name: "first-letter-is-length",
+            part: Part::Payloads,
+            side: EntryPoints {
+                serialization: Some(Serialization {
+                    decode: first_letter_is_length,
+                    encode: messages::encode,
+                }),
+                ..REFERENCE
+            },
+        },
+    ]
+}
+
+fn receiving(name: &'static str, receive: Receive) -> Mutant {
+    let reception = Reception {
+        receive,
+        ..REFERENCE.reception
+    };
+    Mutant {
+        name,
+        part: Part::Receptions,
+        side: EntryPoints {
+            reception,
+            ..REFERENCE
+        },
+    }
+}
+
+fn sending(name: &'static str, send: Send) -> Mutant {
+    let sending = REFERENCE.sending.map(|right| Sending { send, ..right });
+    Mutant {
+        name,
+        part: Part::Sends,
+        side: EntryPoints {
+            sending,
+            ..REFERENCE
+        },
+    }
+}
+
+/// Changes the receiver in a lent state that has no fault.
+fn edit(call: &mut Arrival, change: impl FnOnce(&mut Receiver)) {
+    if let Some(mut receiver) = state::read(call.state.content()) {
+        change(&mut receiver);
+        state::write(&receiver, call.state.content_mut());
+    }
+}
+
+/// Changes the session of the frame's stream, if there is one.
+fn edit_session(call: &mut Arrival, change: impl FnOnce(&mut Session)) {
+    let stream = Stream::of_id(call.id);
+    edit(call, |receiver| {
+        let place = receiver.place_of(&stream);
+        if let Some(session) = place.and_then(|place| receiver.places[place].as_mut()) {
+            change(session);
+        }
+    });
+}
+
+/// Makes a session for the frame's stream in a place, unless it has one.
+fn take_place(call: &mut Arrival, place: impl FnOnce(&Receiver) -> Option<usize>) {
+    let session = Session::new(Stream::of_id(call.id), tail(call).transfer_id, call.time);
+    edit(call, |receiver| {
+        if let (Some(place), None) = (place(receiver), receiver.place_of(&session.stream)) {
+            receiver.places[place] = Some(session);
+        }
+    });
+}
+
+fn tail(call: &Arrival) -> Tail {
+    Tail::of_byte(call.data.content().last().copied().unwrap_or(0))
+}
+
+fn repeated_start_is_new(call: &mut Arrival) -> u64 {
+    let tail = tail(call);
+    if !tail.start {
+        return receive(call);
+    }
+    let before = call.state.content().to_vec();
+    edit_session(call, |session| {
+        session.gathered.clear();
+        session.toggle = false;
+        session.expected_id = tail.transfer_id;
+    });
+    let word = receive(call);
+    if word & 255 > 1 {
+        call.state.content_mut().copy_from_slice(&before);
+    }
+    word
+}
+
+fn passed_over_turns_toggle(call: &mut Arrival) -> u64 {
+    let word = receive(call);
+    if word == 10 {
+        edit_session(call, |session| session.toggle = !session.toggle);
+    }
+    word
+}
+
+fn age_from_last_frame(call: &mut Arrival) -> u64 {
+    let (word, time) = (receive(call), call.time);
+    if word == 0 {
+        edit_session(call, |session| session.time = time);
+    }
+    word
+}
+
+/// Swaps the checksum's bytes for the frame that closes, and back.
+fn checksum_high_byte_first(call: &mut Arrival) -> u64 {
+    let before = call.state.content().to_vec();
+    let tail = tail(call);
+    edit_session(call, |session| {
+        if tail.end && session.gathered.len() > 1 {
+            session.gathered.swap(0, 1);
+        }
+    });
+    let word = receive(call);
+    if tail.end && before.len() >= state::SIZE {
+        let room = state::GATHERED..state::SIZE;
+        call.state.content_mut()[room.clone()].copy_from_slice(&before[room]);
+    }
+    word
+}
+
+fn refused_frame_takes_place(call: &mut Arrival) -> u64 {
+    let word = receive(call);
+    if (2..=8).contains(&word) {
+        take_place(call, |receiver| {
+            receiver.places.iter().position(Option::is_none)
+        });
+    }
+    word
+}
+
+fn full_table_takes_place(call: &mut Arrival) -> u64 {
+    let word = receive(call);
+    if word == 9 {
+        take_place(call, |_| Some(0));
+    }
+    word
+}
+
+/// Takes ages for one more than they are.
+fn old_at_two_seconds(call: &mut Arrival) -> u64 {
+    let before = call.state.content().to_vec();
+    let (time, late) = (call.time, call.time.saturating_add(1));
+    call.time = late;
+    let word = receive(call);
+    if call.state.content() != before {
+        edit_session(call, |session| {
+            if session.time == late {
+                session.time = time;
+            }
+        });
+    }
+    word
+}
+
+fn output_touched_by_12(call: &mut Arrival) -> u64 {
+    let word = receive(call);
+    if word == 12 {
+        call.out.content_mut()[0] ^= 1;
+    }
+    word
+}
+
+fn closing_clears_bytes(call: &mut Arrival) -> u64 {
+    let word = receive(call);
+    let receiver = state::read(call.state.content());
+    let place = receiver.and_then(|receiver| receiver.place_of(&Stream::of_id(call.id)));
+    if let (1, Some(place)) = (word & 255, place) {
+        let room = &mut call.state.content_mut()[state::gathered_at(place)..];
+        room[..MOST_GATHERED].fill(0);
+    }
+    word
+}
+
+fn writes_past_the_state(call: &mut Arrival) -> u64 {
+    let word = receive(call);
+    call.state.touch_guard();
+    word
+}
+
+fn checksum_sent_high_byte_first(call: &mut Departure) -> u64 {
+    let word = send(call);
+    if word & 255 == 0 && word >> 8 > 1 {
+        call.out.content_mut().swap(5, 6);
+    }
+    word
+}
+
+/// Takes entries for unused for one less than they are.
+fn entry_kept_at_two_seconds(call: &mut Departure) -> u64 {
+    let time = call.numbers.time;
+    let before = Map::read(call.map.content());
+    call.numbers.time = time.saturating_sub(1);
+    let word = send(call);
+    if let (Some(before), Some(mut after)) = (before, Map::read(call.map.content())) {
+        let places = after.places.iter_mut().zip(&before.places);
+        for (place, _) in places.filter(|(place, old)| place != old) {
+            place.as_mut().expect("no send empties a place").time = time;
+        }
+        after.write(call.map.content_mut());
+    }
+    word
+}
+
+/// Takes the first letter of the name for the length of the rest.
+fn first_letter_is_length(
+    message_type: MessageType,
+    payload: &[u8],
+) -> Result<Message<'_>, Refusal> {
+    let mut message = messages::decode(message_type, payload)?;
+    if let Message::NodeInfoResponse(info) = &mut message {
+        let length = usize::from(info.name[0]);
+        let rest = &info.name[1..];
+        info.name = &rest[..rest.len().min(length)];
+    }
+    Ok(message)
+}

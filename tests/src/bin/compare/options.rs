@@ -1,0 +1,78 @@
+//! The command line.
+
+use crate::mutants::{self, Mutant};
+
+pub enum Side {
+    Archive,
+    Reference,
+    Mutant(Box<Mutant>),
+    Mutants,
+}
+
+pub struct Options {
+    pub side: Side,
+    pub seed: u64,
+    pub setups: u64,
+    pub frames: u64,
+    pub sends: u64,
+    pub messages: u64,
+    /// How often every answer and case must be seen.
+    pub minimum: u64,
+}
+
+const USAGE: &str = "usage: compare [--self | --mutants | --mutant NAME] [--seed N] [--setups N] \
+    [--frames N] [--sends N] [--messages N] [--minimum N]";
+
+impl Options {
+    pub fn parse(mut words: impl Iterator<Item = String>) -> Result<Options, String> {
+        let mut options = Options {
+            side: Side::Archive,
+            seed: 1,
+            setups: 200_000,
+            frames: 6_000_000,
+            sends: 2_000_000,
+            messages: 1_000_000,
+            minimum: 1000,
+        };
+        while let Some(word) = words.next() {
+            match word.as_str() {
+                "--self" => options.side = Side::Reference,
+                "--mutants" => options.side = Side::Mutants,
+                "--mutant" => options.side = Side::Mutant(mutant(words.next())?),
+                name => *options.number(name)? = number(name, words.next())?,
+            }
+        }
+        Ok(options)
+    }
+
+    fn number(&mut self, name: &str) -> Result<&mut u64, String> {
+        match name {
+            "--seed" => Ok(&mut self.seed),
+            "--setups" => Ok(&mut self.setups),
+            "--frames" => Ok(&mut self.frames),
+            "--sends" => Ok(&mut self.sends),
+            "--messages" => Ok(&mut self.messages),
+            "--minimum" => Ok(&mut self.minimum),
+            _ => Err(USAGE.to_string()),
+        }
+    }
+}
+
+fn number(name: &str, word: Option<String>) -> Result<u64, String> {
+    let number = word.and_then(|word| word.parse().ok());
+    number.ok_or_else(|| format!("{name} wants a number\n{USAGE}"))
+}
+
+fn mutant(name: Option<String>) -> Result<Box<Mutant>, String> {
+    let mut mutants = mutants::all();
+    let found = mutants
+        .iter()
+        .position(|mutant| Some(mutant.name) == name.as_deref());
+    match found {
+        Some(index) => Ok(Box::new(mutants.swap_remove(index))),
+        None => {
+            let names: Vec<&str> = mutants.iter().map(|mutant| mutant.name).collect();
+            Err(format!("mutants: {}", names.join(", ")))
+        }
+    }
+}

@@ -1,0 +1,281 @@
+//! Messages compared: random ones written, and payloads whole, cut, lengthened and damaged read.
+
+use crate::entry_points::Serialization;
+use crate::lent::Pair;
+use crate::random::Random;
+use crate::tally::{compare, Difference, Tally};
+use reference::bits::Refusal;
+use reference::messages::{
+    decode, encode, Allocation, HardwareVersion, KeyValue, LogMessage, Message, MessageType,
+    NodeInfo, NodeStatus, SoftwareVersion,
+};
+
+const MOST_ROOM: usize = 600;
+
+pub struct Payloads {
+    side: Serialization,
+    random: Random,
+    /// What was read, and what was written, of each type.
+    pub tallies: Vec<(Tally, Tally)>,
+    out: Pair,
+}
+
+/// Bytes for the lists of one message.
+struct Lists([Vec<u8>; 3]);
+
+impl Payloads {
+    pub fn new(side: Serialization, seed: u64) -> Payloads {
+        let mut random = Random::new(seed);
+        let tallies = MessageType::ALL.into_iter().map(|message_type| {
+            let ((read, reading), (written, writing)) = numbers(message_type);
+            let reading = Tally::new(read, reading, &[]);
+            (reading, Tally::new(written, writing, &[]))
+        });
+        Payloads {
+            side,
+            tallies: tallies.collect(),
+            out: Pair::new(MOST_ROOM, &mut random),
+            random,
+        }
+    }
+
+    /// Compares so many messages, each written and read.
+    pub fn run(&mut self, calls: u64) -> Result<(), Difference> {
+        for call in 0..calls {
+            let index = self.random.index(MessageType::ALL.len());
+            let lists = Lists::new(&mut self.random);
+            let message = message(&mut self.random, MessageType::ALL[index], &lists);
+            let payload = self.write(index, call, &message)?;
+            self.read(index, call, &message, payload)?;
+        }
+        Ok(())
+    }
+
+    /// Writes by both sides; gives the bytes, if the message can be written at all.
+    fn write(
+        &mut self,
+        index: usize,
+        call: u64,
+        message: &Message,
+    ) -> Result<Option<Vec<u8>>, Difference> {
+        let mut bytes = vec![0; MOST_ROOM];
+        let length = encode(message, &mut bytes);
+        let room = match (length, self.random.below(4)) {
+            (Ok(length), 0) => length.saturating_sub(1),
+            (Ok(length), 1) => self.random.index(length + 1),
+            (Ok(length), 2) => length,
+            _ => MOST_ROOM,
+        };
+        self.out.lend(room, false);
+        let expected = word(encode(message, self.out.expected.content_mut()));
+        let actual = word((self.side.encode)(message, self.out.actual.content_mut()));
+        self.tallies[index].1.number((expected & 255) as u32);
+        compare((expected, actual), &[("output", &self.out)], || {
+            format!("encode call {call}, {message:x?}")
+        })?;
+        bytes.truncate(length.unwrap_or(0));
+        Ok(length.is_ok().then_some(bytes))
+    }
+
+    /// Reads the bytes written, which give the message back, or others.
+    fn read(
+        &mut self,
+        index: usize,
+        call: u64,
+        message: &Message,
+        written: Option<Vec<u8>>,
+    ) -> Result<(), Difference> {
+        let whole = written.is_some() && self.random.coin();
+        let mut payload = written.unwrap_or_else(|| self.random.bytes(40));
+        if !whole {
+            spoil(&mut self.random, &mut payload);
+        }
+        let message_type = MessageType::ALL[index];
+        let expected = decode(message_type, &payload);
+        let actual = (self.side.decode)(message_type, &payload);
+        let number = expected
+            .as_ref()
+            .map_or_else(|refusal| refusal.number(), |_| 0);
+        self.tallies[index].0.number(number);
+        let back = !whole || actual == Ok(without_sub_mode(message));
+        if expected == actual && back {
+            return Ok(());
+        }
+        Err(Difference(format!(
+            "decode call {call}, {message_type:?} {payload:x?}: expected {expected:x?}, got {actual:x?}"
+        )))
+    }
+}
+
+fn word(result: Result<usize, Refusal>) -> u64 {
+    match result {
+        Ok(length) => (length as u64) << 8,
+        Err(refusal) => u64::from(refusal.number()),
+    }
+}
+
+type Expected = (&'static str, &'static [u32]);
+
+/// The calls of a type, and the numbers that they can answer.
+fn numbers(message_type: MessageType) -> (Expected, Expected) {
+    const READING: &[u32] = &[0, 15, 16];
+    const WRITING: &[u32] = &[0, 8, 17];
+    match message_type {
+        MessageType::NodeStatus => (
+            ("decode NodeStatus", READING),
+            ("encode NodeStatus", WRITING),
+        ),
+        MessageType::Allocation => (
+            ("decode Allocation", READING),
+            ("encode Allocation", WRITING),
+        ),
+        MessageType::KeyValue => (("decode KeyValue", READING), ("encode KeyValue", WRITING)),
+        MessageType::LogMessage => (
+            ("decode LogMessage", READING),
+            ("encode LogMessage", WRITING),
+        ),
+        MessageType::NodeInfoRequest => (
+            ("decode GetNodeInfo request", &[0, 16]),
+            ("encode GetNodeInfo request", &[0]),
+        ),
+        MessageType::NodeInfoResponse => (
+            ("decode GetNodeInfo response", &[0, 15, 16, 17]),
+            ("encode GetNodeInfo response", WRITING),
+        ),
+    }
+}
+
+impl Lists {
+    fn new(random: &mut Random) -> Lists {
+        let mut list = || {
+            let length = random.pick(&[0, 1, 6, 16, 31, 58, 80, 90, 255, 256]);
+            random.bytes(length)
+        };
+        Lists([list(), list(), list()])
+    }
+
+    /// A list of at most so many items, rarely one more.
+    fn at_most(&self, random: &mut Random, index: usize, most: usize) -> &[u8] {
+        let list = &self.0[index];
+        let most = most + usize::from(random.once_in(8));
+        &list[..list.len().min(most)]
+    }
+}
+
+fn message<'a>(random: &mut Random, message_type: MessageType, lists: &'a Lists) -> Message<'a> {
+    match message_type {
+        MessageType::NodeStatus => Message::NodeStatus(status(random)),
+        MessageType::Allocation => Message::Allocation(Allocation {
+            node_id: number(random, 7),
+            first_part: number(random, 1),
+            unique_id: lists.at_most(random, 0, 16),
+        }),
+        MessageType::KeyValue => Message::KeyValue(KeyValue {
+            value: random.next() as u32,
+            key: lists.at_most(random, 0, 58),
+        }),
+        MessageType::LogMessage => Message::LogMessage(LogMessage {
+            level: number(random, 3),
+            source: lists.at_most(random, 0, 31),
+            text: lists.at_most(random, 1, 90),
+        }),
+        MessageType::NodeInfoRequest => Message::NodeInfoRequest,
+        MessageType::NodeInfoResponse => Message::NodeInfoResponse(info(random, lists)),
+    }
+}
+
+/// A number for a field of so many bits, rarely too large for it.
+fn number(random: &mut Random, bits: u32) -> u64 {
+    let fitting = random.next() >> (64 - bits);
+    if bits < 64 && random.once_in(40) {
+        return fitting | 1 << random.between(u64::from(bits), 63);
+    }
+    fitting
+}
+
+fn status(random: &mut Random) -> NodeStatus {
+    NodeStatus {
+        uptime: number(random, 32),
+        health: number(random, 2),
+        mode: number(random, 3),
+        sub_mode: random.next() >> random.below(64),
+        vendor_code: number(random, 16),
+    }
+}
+
+fn info<'a>(random: &mut Random, lists: &'a Lists) -> NodeInfo<'a> {
+    NodeInfo {
+        status: status(random),
+        software: SoftwareVersion {
+            major: number(random, 8),
+            minor: number(random, 8),
+            flags: number(random, 8),
+            commit: number(random, 32),
+            image_crc: number(random, 64),
+        },
+        hardware: HardwareVersion {
+            major: number(random, 8),
+            minor: number(random, 8),
+            unique_id: unique_id(random),
+            certificate: lists.at_most(random, 1, 255),
+        },
+        name: match random.below(16) {
+            0 => lists.at_most(random, 2, 80),
+            1 => &[],
+            _ => name(random),
+        },
+    }
+}
+
+/// Sixteen bytes, rarely one fewer or more.
+fn unique_id(random: &mut Random) -> &'static [u8] {
+    const BYTES: &[u8] = b"a part of these bytes: 16 of them";
+    let first = random.index(16);
+    let length = match random.below(60) {
+        0 => 15,
+        1 => 17,
+        _ => 16,
+    };
+    &BYTES[first..first + length]
+}
+
+/// A name of allowed letters, rarely too long by one.
+fn name(random: &mut Random) -> &'static [u8] {
+    const LETTERS: &[u8] = b"abcdefghijklmnopqrstuvwxyz0123456789.-_\
+        zyxwvutsrqponmlkjihgfedcba9876543210_-.abc";
+    let first = random.index(LETTERS.len());
+    match random.below(4) {
+        0 => &LETTERS[..random.between(80, 81) as usize],
+        1 => &LETTERS[first..(first + 4).min(LETTERS.len())],
+        _ => &LETTERS[first..],
+    }
+}
+
+fn spoil(random: &mut Random, payload: &mut Vec<u8>) {
+    match random.below(4) {
+        0 => payload.truncate(random.index(payload.len() + 1)),
+        1 => {
+            let count = random.pick(&[1, 2, 60, 100]);
+            payload.extend(std::iter::repeat_n(b'a', count));
+        }
+        2 if !payload.is_empty() => {
+            let at = random.index(payload.len());
+            payload[at] = random.byte();
+        }
+        _ => {
+            let length = random.index(120);
+            *payload = random.bytes(length);
+        }
+    }
+}
+
+/// The message as it comes back.
+fn without_sub_mode<'a>(message: &Message<'a>) -> Message<'a> {
+    let mut back = message.clone();
+    match &mut back {
+        Message::NodeStatus(status) => status.sub_mode = 0,
+        Message::NodeInfoResponse(info) => info.status.sub_mode = 0,
+        _ => (),
+    }
+    back
+}

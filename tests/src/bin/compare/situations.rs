@@ -1,0 +1,208 @@
+//! Names for what a frame met in the receiver, so that the counts show which rules were driven.
+
+use crate::traffic::Call;
+use reference::frame::{Stream, Tail, ID_END};
+use reference::receive::{Answer, Receiver};
+use reference::session::{Session, MOST_GATHERED, TIMEOUT};
+
+pub const CASES: [&str; 41] = [
+    "0: new session in an empty place",
+    "0: new session in an old one's place",
+    "0: old session restarted by a start",
+    "0: session with bytes in hand restarted by a start",
+    "0: start of the expected transfer",
+    "0: start out of order, nothing in hand",
+    "0: later frame",
+    "1: anonymous",
+    "1: single frame, new session in an empty place",
+    "1: single frame, new session in an old one's place",
+    "1: single frame, session there",
+    "1: several frames",
+    "1: several frames, 512 bytes",
+    "1: several frames, no payload",
+    "1: transfer ID 31, 0 expected next",
+    "4: source 0",
+    "4: destination 0",
+    "5: start with toggle 1",
+    "5: anonymous, not both start and end",
+    "5: not an end, fewer than 8 bytes",
+    "5: end without start, only the tail",
+    "6: no own ID",
+    "6: other node",
+    "8: none lent",
+    "8: 511 lent",
+    "9: oldest session of age 2,000,000",
+    "9: all sessions younger",
+    "10: no session, no start",
+    "10: old session, no start",
+    "10: toggle differs",
+    "10: transfer ID differs",
+    "10: start with bytes in hand",
+    "10: no start with nothing in hand",
+    "11: at an end",
+    "11: before an end",
+    "12: checksum differs",
+    "new session in the place of one of age 2,000,001",
+    "age exactly 2,000,000",
+    "age 2,000,001",
+    "earlier than its session",
+    "start taken earlier than its session",
+];
+
+/// The frame, and what it finds; taken down before it is received.
+pub struct Found {
+    stream: Stream,
+    tail: Tail,
+    payload: usize,
+    room: usize,
+    named: bool,
+    session: Option<Seen>,
+    empty_place: bool,
+    /// The greatest age in the table.
+    oldest: u64,
+}
+
+struct Seen {
+    age: Option<u64>,
+    in_hand: usize,
+    toggle: bool,
+    expected_id: u8,
+}
+
+impl Found {
+    pub fn new(receiver: &Receiver, call: &Call) -> Found {
+        let stream = Stream::of_id(call.id % ID_END);
+        let place = receiver.place_of(&stream);
+        let session = place.and_then(|place| receiver.places[place].as_ref());
+        Found {
+            stream,
+            tail: Tail::of_byte(call.data.last().copied().unwrap_or(0)),
+            payload: call.data.len().saturating_sub(1),
+            room: call.room,
+            named: receiver.own != 0,
+            session: session.map(|session| Seen::new(session, call.time)),
+            empty_place: receiver.places.iter().any(Option::is_none),
+            oldest: oldest_age(receiver, call.time),
+        }
+    }
+
+    /// The cases that a frame with this answer belongs to.
+    pub fn cases(&self, answer: &Answer) -> Vec<&'static str> {
+        let mut cases = vec![self.case(answer)];
+        if let (Answer::HandedOut(transfer), Some(_)) = (answer, &self.session) {
+            if transfer.transfer_id == 31 {
+                cases.push("1: transfer ID 31, 0 expected next");
+            }
+        }
+        if matches!(answer.number(), 0 | 1 | 10..=12) {
+            cases.push(self.age_case(answer));
+        }
+        cases.retain(|case| !case.is_empty());
+        cases
+    }
+
+    fn case(&self, answer: &Answer) -> &'static str {
+        match answer {
+            Answer::Taken => self.taken(),
+            Answer::HandedOut(transfer) => self.handed_out(transfer.payload.len()),
+            Answer::UnnamedService if self.stream.source == 0 => "4: source 0",
+            Answer::UnnamedService => "4: destination 0",
+            Answer::TailShape => self.shape(),
+            Answer::OtherNode if self.named => "6: other node",
+            Answer::OtherNode => "6: no own ID",
+            Answer::OutputTooSmall if self.room == 0 => "8: none lent",
+            Answer::OutputTooSmall if self.room == 511 => "8: 511 lent",
+            Answer::TableFull if self.oldest == TIMEOUT => "9: oldest session of age 2,000,000",
+            Answer::TableFull => "9: all sessions younger",
+            Answer::PassedOver => self.passed_over(),
+            Answer::PayloadTooLong if self.tail.end => "11: at an end",
+            Answer::PayloadTooLong => "11: before an end",
+            Answer::ChecksumDiffers => "12: checksum differs",
+            _ => "",
+        }
+    }
+
+    fn taken(&self) -> &'static str {
+        match &self.session {
+            None if self.empty_place => "0: new session in an empty place",
+            None => "0: new session in an old one's place",
+            Some(_) if !self.tail.start => "0: later frame",
+            Some(seen) if seen.is_old() => "0: old session restarted by a start",
+            Some(seen) if seen.in_hand > 0 => "0: session with bytes in hand restarted by a start",
+            Some(seen) if seen.expected_id == self.tail.transfer_id => {
+                "0: start of the expected transfer"
+            }
+            Some(_) => "0: start out of order, nothing in hand",
+        }
+    }
+
+    fn handed_out(&self, length: usize) -> &'static str {
+        match &self.session {
+            _ if self.stream.is_anonymous() => "1: anonymous",
+            _ if !self.tail.start && length == MOST_GATHERED - 2 => "1: several frames, 512 bytes",
+            _ if !self.tail.start && length == 0 => "1: several frames, no payload",
+            _ if !self.tail.start => "1: several frames",
+            Some(_) => "1: single frame, session there",
+            None if self.empty_place => "1: single frame, new session in an empty place",
+            None => "1: single frame, new session in an old one's place",
+        }
+    }
+
+    fn shape(&self) -> &'static str {
+        if self.tail.start && self.tail.toggle {
+            "5: start with toggle 1"
+        } else if self.stream.is_anonymous() && !(self.tail.start && self.tail.end) {
+            "5: anonymous, not both start and end"
+        } else if !self.tail.end && self.payload < 7 {
+            "5: not an end, fewer than 8 bytes"
+        } else {
+            "5: end without start, only the tail"
+        }
+    }
+
+    fn passed_over(&self) -> &'static str {
+        match &self.session {
+            None => "10: no session, no start",
+            Some(seen) if seen.is_old() => "10: old session, no start",
+            Some(seen) if seen.toggle != self.tail.toggle => "10: toggle differs",
+            Some(seen) if seen.expected_id != self.tail.transfer_id => "10: transfer ID differs",
+            Some(_) if self.tail.start => "10: start with bytes in hand",
+            Some(_) => "10: no start with nothing in hand",
+        }
+    }
+
+    fn age_case(&self, answer: &Answer) -> &'static str {
+        let taken = matches!(answer.number(), 0 | 1);
+        match self.session.as_ref().map(|seen| seen.age) {
+            Some(Some(age)) if age == TIMEOUT => "age exactly 2,000,000",
+            Some(Some(age)) if age == TIMEOUT + 1 => "age 2,000,001",
+            Some(None) if taken && self.tail.start => "start taken earlier than its session",
+            Some(None) => "earlier than its session",
+            None if taken && !self.empty_place && self.oldest == TIMEOUT + 1 => {
+                "new session in the place of one of age 2,000,001"
+            }
+            _ => "",
+        }
+    }
+}
+
+fn oldest_age(receiver: &Receiver, time: u64) -> u64 {
+    let sessions = receiver.places.iter().flatten();
+    let ages = sessions.map(|session| time.saturating_sub(session.time));
+    ages.max().unwrap_or(0)
+}
+
+impl Seen {
+    fn new(session: &Session, time: u64) -> Seen {
+        Seen {
+            age: time.checked_sub(session.time),
+            in_hand: session.gathered.len(),
+            toggle: session.toggle,
+            expected_id: session.expected_id,
+        }
+    }
+
+    fn is_old(&self) -> bool {
+        self.age.is_some_and(|age| age > TIMEOUT)
+    }
+}

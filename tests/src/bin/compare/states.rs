@@ -1,0 +1,147 @@
+//! Receivers at random, none with a fault: subscriptions, streams and sessions.
+
+use crate::random::Random;
+use reference::crc::transfer_checksum;
+use reference::frame::{Stream, TransferType};
+use reference::receive::{Receiver, Subscription, MOST_SUBSCRIPTIONS, PLACES};
+use reference::session::{Session, MOST_GATHERED, TIMEOUT};
+
+/// A receiver as C may lend it: sessions of any kind, whatever the setup.
+pub fn receiver(random: &mut Random, clock: u64) -> Receiver {
+    let mut receiver = empty(random);
+    let filled = random.pick(&[1, 8, 24, 31, 32, 32]);
+    let common_time = random.coin().then(|| time_near(random, clock));
+    let on_the_brim = random.coin();
+    for place in 0..filled {
+        let mut session = session(random, &receiver, clock);
+        if let Some(time) = common_time {
+            session.time = time.saturating_add(random.below(3));
+        }
+        if on_the_brim {
+            session.time = clock.saturating_sub(random.below(1000));
+            session.gathered = brim(random, receiver.signature(&session.stream));
+        }
+        if receiver.place_of(&session.stream).is_none() {
+            receiver.places[place] = Some(session);
+        }
+    }
+    let turn = random.index(PLACES);
+    receiver.places.rotate_left(turn);
+    receiver
+}
+
+/// Gathered bytes that the next frame may make too many, or the fewest: half of the checksum of
+/// nothing.
+fn brim(random: &mut Random, signature: Option<u64>) -> Vec<u8> {
+    match (random.coin(), signature) {
+        (true, Some(signature)) => vec![transfer_checksum(signature, &[]) as u8],
+        _ => {
+            let count = random.between(507, MOST_GATHERED as u64);
+            random.bytes(count as usize)
+        }
+    }
+}
+
+/// A receiver fresh from setup.
+pub fn empty(random: &mut Random) -> Receiver {
+    let own = if random.once_in(16) {
+        0
+    } else {
+        random.pick(&[1, 2, 63, 126, 127])
+    };
+    Receiver::setup(own, subscriptions(random)).expect("kinds and types that differ")
+}
+
+pub fn subscriptions(random: &mut Random) -> Vec<Subscription> {
+    let most = match random.below(8) {
+        0 => random.below(3),
+        1 => MOST_SUBSCRIPTIONS as u64,
+        2 => random.between(0, 64),
+        _ => random.between(2, 9),
+    };
+    let mut list: Vec<Subscription> = Vec::new();
+    while (list.len() as u64) < most {
+        let one = subscription(random);
+        if !list.iter().any(|other| other.same_type(&one)) {
+            list.push(one);
+        }
+    }
+    list
+}
+
+fn subscription(random: &mut Random) -> Subscription {
+    let service = random.once_in(3);
+    let type_id = match random.below(4) {
+        0 if !service => random.below(4),
+        1 => random.pick(&[0, 255]),
+        2 if !service => random.pick(&[256, 341, 16383, 65535]),
+        _ => random.below(if service { 256 } else { 65536 }),
+    };
+    Subscription {
+        service,
+        type_id: type_id as u16,
+        signature: random.next(),
+    }
+}
+
+/// A stream with a named source, most often one that the receiver hears.
+pub fn stream(random: &mut Random, receiver: &Receiver) -> Stream {
+    let known = !receiver.subscriptions.is_empty() && !random.once_in(12);
+    let subscription = if known {
+        random.pick(&receiver.subscriptions)
+    } else {
+        subscription(random)
+    };
+    let heard = receiver.own != 0 && !random.once_in(12);
+    let destination = if heard {
+        receiver.own
+    } else {
+        random.between(1, 127) as u8
+    };
+    let few_sources = random.coin();
+    Stream {
+        transfer_type: match (subscription.service, random.coin()) {
+            (false, _) => TransferType::Message,
+            (true, true) => TransferType::Request,
+            (true, false) => TransferType::Response,
+        },
+        type_id: subscription.type_id,
+        source: random.between(1, if few_sources { 12 } else { 127 }) as u8,
+        destination: if subscription.service { destination } else { 0 },
+    }
+}
+
+fn session(random: &mut Random, receiver: &Receiver, clock: u64) -> Session {
+    let count = match random.below(4) {
+        0 => 0,
+        1 => 7 * random.between(1, 73),
+        2 => random.between(1, 8),
+        _ => random.between(1, MOST_GATHERED as u64),
+    };
+    Session {
+        stream: stream(random, receiver),
+        expected_id: transfer_id(random),
+        gathered: random.bytes(count as usize),
+        toggle: count > 0 && random.coin(),
+        time: time_near(random, clock),
+    }
+}
+
+pub fn transfer_id(random: &mut Random) -> u8 {
+    match random.below(4) {
+        0 => random.pick(&[0, 31]),
+        _ => random.below(32) as u8,
+    }
+}
+
+/// A time that a frame at `clock` may find in a session: recent, at the edge, old, or later.
+pub fn time_near(random: &mut Random, clock: u64) -> u64 {
+    match random.below(12) {
+        0 => random.next(),
+        1 => random.pick(&[0, u64::MAX]),
+        2 => clock.saturating_add(random.below(TIMEOUT)),
+        3..=5 => clock.saturating_sub(TIMEOUT + random.below(3)),
+        6 => clock.saturating_sub(random.below(3 * TIMEOUT)),
+        _ => clock.saturating_sub(random.below(TIMEOUT)),
+    }
+}

@@ -1,0 +1,354 @@
+//! Bus traffic at random: nodes that talk over a poor link, frames aimed at a session, and frames
+//! of any shape.
+
+use crate::random::Random;
+use crate::states;
+use reference::crc::transfer_checksum;
+use reference::frame::{next_transfer_id, Stream, Tail, ID_END};
+use reference::receive::Receiver;
+use reference::send::split;
+use reference::session::{Session, MOST_GATHERED, TIMEOUT};
+
+pub const MOST_DATA: usize = 20;
+pub const MOST_ROOM: usize = 600;
+
+/// A frame to be received, and the room it is given.
+#[derive(Clone, Debug)]
+pub struct Call {
+    pub id: u32,
+    pub data: Vec<u8>,
+    pub time: u64,
+    pub room: usize,
+    pub null: bool,
+}
+
+/// What most of the traffic is.
+#[derive(Clone, Copy, PartialEq, Eq)]
+enum Mood {
+    /// Talkers, disturbed by little else, so that long transfers come to their end.
+    Calm,
+    Mixed,
+    /// Frames aimed at the sessions that are there.
+    Aimed,
+}
+
+pub struct Traffic {
+    talkers: Vec<Talker>,
+    clock: u64,
+    pace: u64,
+    mood: Mood,
+}
+
+impl Traffic {
+    pub fn new(random: &mut Random, receiver: &Receiver, clock: u64) -> Traffic {
+        let mood = match random.below(32) {
+            0 => Mood::Calm,
+            1 | 2 => Mood::Mixed,
+            _ => Mood::Aimed,
+        };
+        let (counts, paces): (&[usize], &[u64]) = match mood {
+            Mood::Calm => (&[1, 2, 4, 8, 33], &[1, 60, 2_000]),
+            Mood::Mixed => (&[1, 6, 20, 40, 60], &[1, 60, 2_000, 20_000, 200_000]),
+            Mood::Aimed => (&[6], &[1, 2_000]),
+        };
+        let count = random.pick(counts);
+        Traffic {
+            talkers: (0..count).map(|_| Talker::new(random, receiver)).collect(),
+            clock,
+            pace: random.pick(paces),
+            mood,
+        }
+    }
+
+    /// How many frames to take from this traffic. Aimed ones soon use up the state they find.
+    pub fn length(&self, random: &mut Random) -> u64 {
+        match self.mood {
+            Mood::Calm => random.pick(&[300, 3000]),
+            Mood::Mixed => random.pick(&[15, 60, 300, 3000]),
+            Mood::Aimed => random.pick(&[15, 60]),
+        }
+    }
+
+    pub fn next(&mut self, random: &mut Random, receiver: &Receiver) -> Call {
+        self.clock = self.clock.saturating_add(random.below(self.pace));
+        let session = notable(random, receiver);
+        let disturbed = self.mood != Mood::Calm || random.once_in(100);
+        let share = match self.mood {
+            Mood::Calm if !disturbed => 0,
+            Mood::Aimed => random.between(45, 90),
+            _ => random.below(100),
+        };
+        let ((id, data), near) = match (share, session) {
+            (0..=49, _) => {
+                let talker = random.index(self.talkers.len());
+                let one = self.talkers[talker].speak(random, receiver);
+                (one, disturbed && random.once_in(16))
+            }
+            (50..=84, Some(session)) => (aimed(random, receiver, session), random.once_in(5)),
+            _ => (wild(random, receiver), random.once_in(4)),
+        };
+        Call {
+            id,
+            data,
+            time: self.time(random, session.filter(|_| near), disturbed),
+            room: if disturbed { room(random) } else { 512 },
+            null: random.coin(),
+        }
+    }
+
+    /// The frame's time: the clock's, or one near the edge of a session's age. The clock may leap.
+    fn time(&mut self, random: &mut Random, near: Option<&Session>, disturbed: bool) -> u64 {
+        if let Some(session) = near {
+            let edge = session.time.saturating_add(TIMEOUT - 1 + random.below(3));
+            if edge > self.clock && edge - self.clock < 4 * TIMEOUT && random.coin() {
+                self.clock = edge;
+            }
+            return edge;
+        }
+        match random.below(200) {
+            _ if !disturbed => (),
+            0 => self.clock = self.clock.saturating_add(random.below(3 * TIMEOUT)),
+            1 => self.clock = self.clock.saturating_sub(random.below(3 * TIMEOUT)),
+            2..=6 => return self.clock.saturating_sub(random.below(3 * TIMEOUT)),
+            _ => (),
+        }
+        self.clock
+    }
+}
+
+/// A session at random, with a liking for full ones and for the oldest.
+fn notable<'a>(random: &mut Random, receiver: &'a Receiver) -> Option<&'a Session> {
+    let sessions: Vec<&Session> = receiver.places.iter().flatten().collect();
+    if sessions.is_empty() {
+        return None;
+    }
+    let (one, other) = (random.pick(&sessions), random.pick(&sessions));
+    match random.below(8) {
+        0..=3 if one.gathered.len() < other.gathered.len() => Some(other),
+        4 => sessions.into_iter().min_by_key(|session| session.time),
+        _ => Some(one),
+    }
+}
+
+fn room(random: &mut Random) -> usize {
+    match random.below(64) {
+        0 => 0,
+        1 => 511,
+        2..=4 => random.index(MOST_ROOM + 1),
+        5..=8 => MOST_ROOM,
+        _ => 512,
+    }
+}
+
+/// A node sending transfers of one stream, frame by frame.
+struct Talker {
+    stream: Stream,
+    priority: u8,
+    transfer_id: u8,
+    frames: Vec<Vec<u8>>,
+    next: usize,
+    /// How many of 256 frames suffer something.
+    trouble: u64,
+    /// Whether transfers are mostly long.
+    long: bool,
+}
+
+impl Talker {
+    fn new(random: &mut Random, receiver: &Receiver) -> Talker {
+        Talker {
+            stream: states::stream(random, receiver),
+            priority: random.below(32) as u8,
+            transfer_id: states::transfer_id(random),
+            frames: Vec::new(),
+            next: 0,
+            trouble: random.pick(&[0, 0, 2, 10, 60]),
+            long: random.once_in(4),
+        }
+    }
+
+    /// ID and data of the next frame; on a poor link it may be another one, or damaged.
+    fn speak(&mut self, random: &mut Random, receiver: &Receiver) -> (u32, Vec<u8>) {
+        let mut damaged = false;
+        if self.next > 0 && random.below(256) < self.trouble {
+            match random.below(6) {
+                0 | 1 => self.next += 1,
+                2 | 3 => self.next -= 1,
+                4 => self.next = random.index(self.next),
+                _ => damaged = true,
+            }
+        }
+        if self.next >= self.frames.len() || random.below(4096) < self.trouble {
+            self.begin(random, receiver);
+        }
+        let mut data = self.frames[self.next].clone();
+        let mut id = self.stream.id(self.priority, 0);
+        self.next += 1;
+        if damaged {
+            let at = random.index(data.len() + 2);
+            match data.get_mut(at) {
+                Some(byte) => *byte ^= 1 << random.below(8),
+                None => id ^= 1 << random.below(29),
+            }
+        }
+        (id, data)
+    }
+
+    fn begin(&mut self, random: &mut Random, receiver: &Receiver) {
+        let subscribed = receiver.signature(&self.stream).unwrap_or(0);
+        let signature = if random.once_in(50) {
+            random.next()
+        } else {
+            subscribed
+        };
+        if random.once_in(20) {
+            self.transfer_id = states::transfer_id(random);
+        }
+        if random.once_in(8) {
+            self.priority = random.below(32) as u8;
+        }
+        let length = payload_length(random, self.long);
+        let payload = random.bytes(length);
+        self.frames = split(&payload, signature, self.transfer_id);
+        self.transfer_id = next_transfer_id(self.transfer_id);
+        self.next = 0;
+    }
+}
+
+pub fn payload_length(random: &mut Random, long: bool) -> usize {
+    let kind = if long { 3 } else { random.below(3) };
+    let length = match kind {
+        0 => random.between(0, 8),
+        1 => random.between(0, 30),
+        2 => random.between(0, 120),
+        _ => random.pick(&[505, 506, 511, 512, 512, 513, 514, 515, 519, 600]),
+    };
+    length as usize
+}
+
+/// A frame of a session's stream that fits it, or nearly so.
+fn aimed(random: &mut Random, receiver: &Receiver, session: &Session) -> (u32, Vec<u8>) {
+    let tail = aimed_tail(random, session);
+    let count = aimed_count(random, tail, session);
+    let mut data = random.bytes(count);
+    let signature = receiver.signature(&session.stream).unwrap_or(0);
+    if tail.end && !random.once_in(4) {
+        forge(&mut data, signature, &session.gathered);
+    }
+    data.push(tail.byte());
+    (session.stream.id(random.below(32) as u8, 0), data)
+}
+
+/// How many payload bytes: seven before an end, at an end any number or what fills the session.
+fn aimed_count(random: &mut Random, tail: Tail, session: &Session) -> usize {
+    let left = MOST_GATHERED - session.gathered.len();
+    match (tail.end, random.below(40)) {
+        (false, 0) => 6,
+        (false, _) => 7,
+        (true, 0..=19) if session.gathered.len() == 1 => 1,
+        (true, 0..=19) => (left + random.index(2)).min(7),
+        (true, _) => random.index(8),
+    }
+}
+
+fn aimed_tail(random: &mut Random, session: &Session) -> Tail {
+    let fitting = !random.once_in(4);
+    Tail {
+        start: if fitting {
+            session.gathered.is_empty()
+        } else {
+            random.coin()
+        },
+        end: random.coin(),
+        toggle: if fitting || random.coin() {
+            session.toggle
+        } else {
+            random.coin()
+        },
+        transfer_id: match random.below(8) {
+            0 | 1 => (session.expected_id + 32 - random.between(1, 3) as u8) % 32,
+            2 => random.below(32) as u8,
+            _ => session.expected_id,
+        },
+    }
+}
+
+/// Sets the last bytes so that the checksum in front of the gathered bytes comes out right.
+fn forge(data: &mut [u8], signature: u64, gathered: &[u8]) {
+    let whole = [gathered, data].concat();
+    if let ([_], [high]) = (gathered, &mut *data) {
+        *high = transfer_checksum(signature, &[]).to_le_bytes()[1];
+    }
+    if whole.len() < 4 || data.len() < 2 {
+        return;
+    }
+    let register = transfer_checksum(signature, &whole[2..whole.len() - 2]);
+    let mut wanted = u16::from_le_bytes([whole[0], whole[1]]);
+    // Back through the sixteen steps of two bytes: the polynomial's lowest bit tells each one.
+    for _ in 0..16 {
+        let subtracted = wanted & 1 == 1;
+        wanted = if subtracted { wanted ^ 0x1021 } else { wanted };
+        wanted = wanted >> 1 | u16::from(subtracted) << 15;
+    }
+    let free = data.len() - 2;
+    data[free..].copy_from_slice(&(register ^ wanted).to_be_bytes());
+}
+
+/// A frame of any shape.
+fn wild(random: &mut Random, receiver: &Receiver) -> (u32, Vec<u8>) {
+    let stream = states::stream(random, receiver);
+    let named = stream.id(random.below(32) as u8, 0);
+    match random.below(10) {
+        0 => (random.next() as u32, wild_data(random)),
+        1 => (ID_END | random.next() as u32, wild_data(random)),
+        2 => (random.next() as u32 % ID_END, wild_data(random)),
+        3 => (unnamed(random, named), wild_data(random)),
+        4 => (named, any_length(random)),
+        5 => (anonymous(random), anonymous_data(random)),
+        _ => (named, first_frame(random)),
+    }
+}
+
+/// Data of a length that a frame may have, with any tail.
+fn wild_data(random: &mut Random) -> Vec<u8> {
+    let length = random.pick(&[1, 2, 7, 8, 8, 8]);
+    random.bytes(length)
+}
+
+/// Data of any length, most often of one that a frame may not have.
+fn any_length(random: &mut Random) -> Vec<u8> {
+    let length = match random.below(3) {
+        0 => 0,
+        1 => 9,
+        _ => random.index(MOST_DATA + 1),
+    };
+    random.bytes(length)
+}
+
+/// The ID with source or destination 0, or both.
+fn unnamed(random: &mut Random, id: u32) -> u32 {
+    let mask: u32 = random.pick(&[0x7F, 0x7F00, 0x7F7F]);
+    id & !mask
+}
+
+fn anonymous(random: &mut Random) -> u32 {
+    let upper = random.below(1 << 21) as u32;
+    upper << 8
+}
+
+fn anonymous_data(random: &mut Random) -> Vec<u8> {
+    let length = random.index(8);
+    let mut data = random.bytes(length);
+    let shape = random.pick(&[0xC0, 0xC0, 0xC0, 0xE0, 0x80, 0x40]);
+    data.push(shape | random.below(32) as u8);
+    data
+}
+
+/// A transfer's first frame, alone or with more to come.
+fn first_frame(random: &mut Random) -> Vec<u8> {
+    let single = random.coin();
+    let length = if single { random.index(8) } else { 7 };
+    let mut data = random.bytes(length);
+    let shape = if single { 0xC0 } else { 0x80 };
+    data.push(shape | states::transfer_id(random));
+    data
+}

@@ -1,0 +1,174 @@
+//! Fields of a serialized message, a bit at a time (004, "Byte order and bit order").
+//!
+//! A number is cut into octets from its low end; each, the last one perhaps short, goes highest
+//! bit first into bytes filled from the top.
+
+/// Why a message is not read or written.
+#[derive(Clone, Copy, Debug, PartialEq, Eq)]
+pub enum Refusal {
+    OutputTooSmall,
+    PayloadEnds,
+    TooMany,
+    NotAllowed,
+}
+
+impl Refusal {
+    pub fn number(self) -> u32 {
+        match self {
+            Refusal::OutputTooSmall => 8,
+            Refusal::PayloadEnds => 15,
+            Refusal::TooMany => 16,
+            Refusal::NotAllowed => 17,
+        }
+    }
+}
+
+/// The fewest bits that hold `most`.
+fn length_bits(most: usize) -> u32 {
+    (0..usize::BITS)
+        .find(|&bits| most >> bits == 0)
+        .unwrap_or(usize::BITS)
+}
+
+/// The widths of a number's octets, from its low end.
+fn octets(bits: u32) -> impl Iterator<Item = (u32, u32)> {
+    (0..bits)
+        .step_by(8)
+        .map(move |low| (low, 8.min(bits - low)))
+}
+
+pub struct Reader<'a> {
+    payload: &'a [u8],
+    position: usize,
+}
+
+impl<'a> Reader<'a> {
+    pub fn new(payload: &'a [u8]) -> Reader<'a> {
+        Reader {
+            payload,
+            position: 0,
+        }
+    }
+
+    pub fn number(&mut self, bits: u32) -> Result<u64, Refusal> {
+        let mut value = 0;
+        for (low, width) in octets(bits) {
+            for place in (0..width).rev() {
+                value |= self.bit()? << (low + place);
+            }
+        }
+        Ok(value)
+    }
+
+    fn bit(&mut self) -> Result<u64, Refusal> {
+        let byte = self
+            .payload
+            .get(self.position / 8)
+            .ok_or(Refusal::PayloadEnds)?;
+        let bit = byte >> (7 - self.position % 8) & 1;
+        self.position += 1;
+        Ok(u64::from(bit))
+    }
+
+    /// So many bytes as a part of the payload. Every list of the five types starts at a byte.
+    pub fn bytes(&mut self, count: usize) -> Result<&'a [u8], Refusal> {
+        assert_eq!(self.position % 8, 0, "a list inside a byte");
+        let rest = &self.payload[self.position / 8..];
+        let bytes = rest.get(..count).ok_or(Refusal::PayloadEnds)?;
+        self.position += 8 * count;
+        Ok(bytes)
+    }
+
+    /// A list behind its length field.
+    pub fn list(&mut self, most: usize) -> Result<&'a [u8], Refusal> {
+        let count = self.number(length_bits(most))? as usize;
+        let bytes = self.bytes(count)?;
+        if count > most {
+            return Err(Refusal::TooMany);
+        }
+        Ok(bytes)
+    }
+
+    /// A list that ends the transfer: the rest of the payload, without a length field.
+    pub fn last_list(&mut self, most: usize) -> Result<&'a [u8], Refusal> {
+        let bytes = self.bytes(self.payload.len() - self.position / 8)?;
+        if bytes.len() > most {
+            return Err(Refusal::TooMany);
+        }
+        Ok(bytes)
+    }
+
+    /// The end of a message that no list ends.
+    pub fn end(&self) -> Result<(), Refusal> {
+        if self.position < 8 * self.payload.len() {
+            return Err(Refusal::TooMany);
+        }
+        Ok(())
+    }
+}
+
+/// Gathers bits, and whether any field was given a value it does not take.
+#[derive(Default)]
+pub struct Writer {
+    bytes: Vec<u8>,
+    bits: usize,
+    refused: bool,
+}
+
+impl Writer {
+    /// Writes a number, by its low bits; one that does not fit is refused in the end.
+    pub fn number(&mut self, value: u64, bits: u32) {
+        self.require(bits == 64 || value >> bits == 0);
+        for (low, width) in octets(bits) {
+            for place in (0..width).rev() {
+                self.bit(value >> (low + place) & 1);
+            }
+        }
+    }
+
+    fn bit(&mut self, bit: u64) {
+        if self.bits.is_multiple_of(8) {
+            self.bytes.push(0);
+        }
+        if bit == 1 {
+            *self.bytes.last_mut().expect("pushed") |= 128 >> (self.bits % 8);
+        }
+        self.bits += 1;
+    }
+
+    pub fn require(&mut self, allowed: bool) {
+        self.refused |= !allowed;
+    }
+
+    pub fn bytes(&mut self, bytes: &[u8]) {
+        for &byte in bytes {
+            self.number(u64::from(byte), 8);
+        }
+    }
+
+    pub fn list(&mut self, items: &[u8], most: usize) {
+        self.number(items.len() as u64, length_bits(most));
+        self.last_list(items, most);
+    }
+
+    pub fn last_list(&mut self, items: &[u8], most: usize) {
+        self.require(items.len() <= most);
+        self.bytes(items);
+    }
+
+    /// The bytes written, the last one filled up with zero bits, whatever was refused.
+    pub fn into_bytes(self) -> Vec<u8> {
+        self.bytes
+    }
+
+    /// Puts what was written to the front of the output and gives its length.
+    pub fn finish(self, out: &mut [u8]) -> Result<usize, Refusal> {
+        if self.refused {
+            return Err(Refusal::NotAllowed);
+        }
+        let bytes = self.into_bytes();
+        let room = out.get_mut(..bytes.len()).ok_or(Refusal::OutputTooSmall)?;
+        room.copy_from_slice(&bytes);
+        Ok(bytes.len())
+    }
+}

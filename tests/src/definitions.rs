@@ -1,0 +1,87 @@
+//! The five types' IDs and their signatures, worked out by the rule of 004 from the normalized
+//! definitions (003; SoftwareVersion and HardwareVersion from the public set).
+
+use crate::crc::{extend, hash};
+
+pub const NODE_STATUS: u16 = 341;
+pub const ALLOCATION: u16 = 1;
+pub const KEY_VALUE: u16 = 16370;
+pub const LOG_MESSAGE: u16 = 16383;
+pub const GET_NODE_INFO: u16 = 1;
+
+pub fn node_status() -> u64 {
+    hash(
+        b"uavcan.protocol.NodeStatus\n\
+        saturated uint32 uptime_sec\n\
+        saturated uint2 health\n\
+        saturated uint3 mode\n\
+        saturated uint3 sub_mode\n\
+        saturated uint16 vendor_specific_status_code",
+    )
+}
+
+pub fn allocation() -> u64 {
+    hash(
+        b"uavcan.protocol.dynamic_node_id.Allocation\n\
+        saturated uint7 node_id\n\
+        saturated bool first_part_of_unique_id\n\
+        saturated uint8[<=16] unique_id",
+    )
+}
+
+pub fn key_value() -> u64 {
+    hash(
+        b"uavcan.protocol.debug.KeyValue\n\
+        saturated float32 value\n\
+        saturated uint8[<=58] key",
+    )
+}
+
+pub fn log_message() -> u64 {
+    let own = hash(
+        b"uavcan.protocol.debug.LogMessage\n\
+        uavcan.protocol.debug.LogLevel level\n\
+        saturated uint8[<=31] source\n\
+        saturated uint8[<=90] text",
+    );
+    extend(own, log_level())
+}
+
+pub fn get_node_info() -> u64 {
+    let own = hash(
+        b"uavcan.protocol.GetNodeInfo\n\
+        ---\n\
+        uavcan.protocol.NodeStatus status\n\
+        uavcan.protocol.SoftwareVersion software_version\n\
+        uavcan.protocol.HardwareVersion hardware_version\n\
+        saturated uint8[<=80] name",
+    );
+    [node_status(), software_version(), hardware_version()]
+        .into_iter()
+        .fold(own, extend)
+}
+
+fn log_level() -> u64 {
+    hash(b"uavcan.protocol.debug.LogLevel\nsaturated uint3 value")
+}
+
+fn software_version() -> u64 {
+    hash(
+        b"uavcan.protocol.SoftwareVersion\n\
+        saturated uint8 major\n\
+        saturated uint8 minor\n\
+        saturated uint8 optional_field_flags\n\
+        saturated uint32 vcs_commit\n\
+        saturated uint64 image_crc",
+    )
+}
+
+fn hardware_version() -> u64 {
+    hash(
+        b"uavcan.protocol.HardwareVersion\n\
+        saturated uint8 major\n\
+        saturated uint8 minor\n\
+        saturated uint8[16] unique_id\n\
+        saturated uint8[<=255] certificate_of_authenticity",
+    )
+}

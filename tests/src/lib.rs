@@ -1,0 +1,15 @@
+//! A second implementation of the UAVCAN v0 transport and its messages, written from the papers
+//! alone (01, 002, 003, 004), to be compared with the proved one.
+
+pub mod bits;
+pub mod crc;
+pub mod definitions;
+pub mod entry;
+pub mod frame;
+pub mod logs;
+pub mod map;
+pub mod messages;
+pub mod receive;
+pub mod send;
+pub mod session;
+pub mod state;

@@ -1,0 +1,256 @@
+//! The five message types, both ways (01, "Messages"; layouts in 003 and the public set).
+//!
+//! Numbers are held wider than their fields, so that a caller's number may be too large.
+
+use crate::bits::{Reader, Refusal, Writer};
+
+#[derive(Clone, Debug, PartialEq, Eq)]
+pub struct NodeStatus {
+    pub uptime: u64,
+    pub health: u64,
+    pub mode: u64,
+    pub sub_mode: u64,
+    pub vendor_code: u64,
+}
+
+#[derive(Clone, Debug, PartialEq, Eq)]
+pub struct Allocation<'a> {
+    pub node_id: u64,
+    pub first_part: u64,
+    pub unique_id: &'a [u8],
+}
+
+#[derive(Clone, Debug, PartialEq, Eq)]
+pub struct KeyValue<'a> {
+    /// The float32 as its bits: no pattern is changed on the way.
+    pub value: u32,
+    pub key: &'a [u8],
+}
+
+#[derive(Clone, Debug, PartialEq, Eq)]
+pub struct LogMessage<'a> {
+    pub level: u64,
+    pub source: &'a [u8],
+    pub text: &'a [u8],
+}
+
+#[derive(Clone, Debug, PartialEq, Eq)]
+pub struct SoftwareVersion {
+    pub major: u64,
+    pub minor: u64,
+    pub flags: u64,
+    pub commit: u64,
+    pub image_crc: u64,
+}
+
+#[derive(Clone, Debug, PartialEq, Eq)]
+pub struct HardwareVersion<'a> {
+    pub major: u64,
+    pub minor: u64,
+    pub unique_id: &'a [u8],
+    pub certificate: &'a [u8],
+}
+
+#[derive(Clone, Debug, PartialEq, Eq)]
+pub struct NodeInfo<'a> {
+    pub status: NodeStatus,
+    pub software: SoftwareVersion,
+    pub hardware: HardwareVersion<'a>,
+    pub name: &'a [u8],
+}
+
+#[derive(Clone, Debug, PartialEq, Eq)]
+pub enum Message<'a> {
+    NodeStatus(NodeStatus),
+    Allocation(Allocation<'a>),
+    KeyValue(KeyValue<'a>),
+    LogMessage(LogMessage<'a>),
+    NodeInfoRequest,
+    NodeInfoResponse(NodeInfo<'a>),
+}
+
+#[derive(Clone, Copy, Debug, PartialEq, Eq)]
+pub enum MessageType {
+    NodeStatus,
+    Allocation,
+    KeyValue,
+    LogMessage,
+    NodeInfoRequest,
+    NodeInfoResponse,
+}
+
+impl MessageType {
+    pub const ALL: [MessageType; 6] = [
+        MessageType::NodeStatus,
+        MessageType::Allocation,
+        MessageType::KeyValue,
+        MessageType::LogMessage,
+        MessageType::NodeInfoRequest,
+        MessageType::NodeInfoResponse,
+    ];
+}
+
+/// Reads a payload field by field; the first failing field decides the refusal.
+pub fn decode(message_type: MessageType, payload: &[u8]) -> Result<Message<'_>, Refusal> {
+    let reader = &mut Reader::new(payload);
+    let message = match message_type {
+        MessageType::NodeStatus => Message::NodeStatus(NodeStatus::read(reader)?),
+        MessageType::Allocation => Message::Allocation(Allocation::read(reader)?),
+        MessageType::KeyValue => Message::KeyValue(KeyValue::read(reader)?),
+        MessageType::LogMessage => Message::LogMessage(LogMessage::read(reader)?),
+        MessageType::NodeInfoRequest => Message::NodeInfoRequest,
+        MessageType::NodeInfoResponse => Message::NodeInfoResponse(NodeInfo::read(reader)?),
+    };
+    reader.end()?;
+    Ok(message)
+}
+
+/// Writes a message to the front of the output and gives its length.
+pub fn encode(message: &Message, out: &mut [u8]) -> Result<usize, Refusal> {
+    let mut writer = Writer::default();
+    match message {
+        Message::NodeStatus(one) => one.write(&mut writer),
+        Message::Allocation(one) => one.write(&mut writer),
+        Message::KeyValue(one) => one.write(&mut writer),
+        Message::LogMessage(one) => one.write(&mut writer),
+        Message::NodeInfoRequest => (),
+        Message::NodeInfoResponse(one) => one.write(&mut writer),
+    }
+    writer.finish(out)
+}
+
+impl NodeStatus {
+    fn read(reader: &mut Reader) -> Result<NodeStatus, Refusal> {
+        let (uptime, health, mode) = (reader.number(32)?, reader.number(2)?, reader.number(3)?);
+        reader.number(3)?;
+        Ok(NodeStatus {
+            uptime,
+            health,
+            mode,
+            sub_mode: 0,
+            vendor_code: reader.number(16)?,
+        })
+    }
+
+    fn write(&self, writer: &mut Writer) {
+        writer.number(self.uptime, 32);
+        writer.number(self.health, 2);
+        writer.number(self.mode, 3);
+        writer.number(0, 3);
+        writer.number(self.vendor_code, 16);
+    }
+}
+
+impl<'a> Allocation<'a> {
+    fn read(reader: &mut Reader<'a>) -> Result<Allocation<'a>, Refusal> {
+        Ok(Allocation {
+            node_id: reader.number(7)?,
+            first_part: reader.number(1)?,
+            unique_id: reader.last_list(16)?,
+        })
+    }
+
+    fn write(&self, writer: &mut Writer) {
+        writer.number(self.node_id, 7);
+        writer.number(self.first_part, 1);
+        writer.last_list(self.unique_id, 16);
+    }
+}
+
+impl<'a> KeyValue<'a> {
+    fn read(reader: &mut Reader<'a>) -> Result<KeyValue<'a>, Refusal> {
+        Ok(KeyValue {
+            value: reader.number(32)? as u32,
+            key: reader.last_list(58)?,
+        })
+    }
+
+    fn write(&self, writer: &mut Writer) {
+        writer.number(u64::from(self.value), 32);
+        writer.last_list(self.key, 58);
+    }
+}
+
+impl<'a> LogMessage<'a> {
+    fn read(reader: &mut Reader<'a>) -> Result<LogMessage<'a>, Refusal> {
+        Ok(LogMessage {
+            level: reader.number(3)?,
+            source: reader.list(31)?,
+            text: reader.last_list(90)?,
+        })
+    }
+
+    fn write(&self, writer: &mut Writer) {
+        writer.number(self.level, 3);
+        writer.list(self.source, 31);
+        writer.last_list(self.text, 90);
+    }
+}
+
+impl SoftwareVersion {
+    fn read(reader: &mut Reader) -> Result<SoftwareVersion, Refusal> {
+        Ok(SoftwareVersion {
+            major: reader.number(8)?,
+            minor: reader.number(8)?,
+            flags: reader.number(8)?,
+            commit: reader.number(32)?,
+            image_crc: reader.number(64)?,
+        })
+    }
+
+    fn write(&self, writer: &mut Writer) {
+        writer.number(self.major, 8);
+        writer.number(self.minor, 8);
+        writer.number(self.flags, 8);
+        writer.number(self.commit, 32);
+        writer.number(self.image_crc, 64);
+    }
+}
+
+impl<'a> HardwareVersion<'a> {
+    fn read(reader: &mut Reader<'a>) -> Result<HardwareVersion<'a>, Refusal> {
+        Ok(HardwareVersion {
+            major: reader.number(8)?,
+            minor: reader.number(8)?,
+            unique_id: reader.bytes(16)?,
+            certificate: reader.list(255)?,
+        })
+    }
+
+    fn write(&self, writer: &mut Writer) {
+        writer.number(self.major, 8);
+        writer.number(self.minor, 8);
+        writer.require(self.unique_id.len() == 16);
+        writer.bytes(self.unique_id);
+        writer.list(self.certificate, 255);
+    }
+}
+
+impl<'a> NodeInfo<'a> {
+    fn read(reader: &mut Reader<'a>) -> Result<NodeInfo<'a>, Refusal> {
+        let info = NodeInfo {
+            status: NodeStatus::read(reader)?,
+            software: SoftwareVersion::read(reader)?,
+            hardware: HardwareVersion::read(reader)?,
+            name: reader.last_list(80)?,
+        };
+        if !is_name(info.name) {
+            return Err(Refusal::NotAllowed);
+        }
+        Ok(info)
+    }
+
+    fn write(&self, writer: &mut Writer) {
+        self.status.write(writer);
+        self.software.write(writer);
+        self.hardware.write(writer);
+        writer.require(is_name(self.name));
+        writer.last_list(self.name, 80);
+    }
+}
+
+/// Not empty, and only a-z, 0-9, dot, dash and underscore.
+fn is_name(name: &[u8]) -> bool {
+    let allowed = |byte: &u8| matches!(byte, b'a'..=b'z' | b'0'..=b'9' | b'.' | b'-' | b'_');
+    !name.is_empty() && name.iter().all(allowed)
+}

@@ -1,0 +1,148 @@
+//! The receiver as the bytes that C lends: layout, reading with the faults of 20, and writing.
+//!
+//! A write touches only what means something: nothing of an empty place but its key, and of a
+//! session's room only the bytes in hand. So it leaves all else as it was.
+
+use crate::frame::{largest_type, Stream, TransferType};
+use crate::receive::{
+    all_differ, Receiver, Subscription, LARGEST_NODE, MOST_SUBSCRIPTIONS, PLACES,
+};
+use crate::session::{Session, MOST_GATHERED};
+
+pub const OWN: usize = 0;
+pub const COUNT: usize = 1;
+pub const SIGNATURES: usize = 8;
+pub const TIMES: usize = 520;
+pub const SUBSCRIPTION_KEYS: usize = 776;
+pub const STREAM_KEYS: usize = 1032;
+pub const CONTROLS: usize = 1160;
+pub const GATHERED: usize = 1288;
+pub const SIZE: usize = 17736;
+
+/// The receiver that the bytes hold; none if they have a fault that 20 names.
+pub fn read(bytes: &[u8]) -> Option<Receiver> {
+    if bytes.len() < SIZE
+        || u32::from(bytes[OWN]) > LARGEST_NODE
+        || usize::from(bytes[COUNT]) > MOST_SUBSCRIPTIONS
+    {
+        return None;
+    }
+    let subscriptions: Vec<Subscription> = (0..usize::from(bytes[COUNT]))
+        .map(|index| read_subscription(bytes, index))
+        .collect::<Option<_>>()?;
+    let places: Vec<Option<Session>> = (0..PLACES)
+        .map(|place| read_place(bytes, place))
+        .collect::<Option<_>>()?;
+    if !all_differ(&subscriptions) || !streams_differ(&places) {
+        return None;
+    }
+    Some(Receiver {
+        own: bytes[OWN],
+        subscriptions,
+        places,
+    })
+}
+
+/// Writes a receiver over the bytes of one.
+pub fn write(receiver: &Receiver, bytes: &mut [u8]) {
+    bytes[OWN] = receiver.own;
+    bytes[COUNT] = receiver.subscriptions.len() as u8;
+    for (index, subscription) in receiver.subscriptions.iter().enumerate() {
+        put_u64(bytes, SIGNATURES + 8 * index, subscription.signature);
+        let key = u32::from(subscription.service) << 16 | u32::from(subscription.type_id);
+        put_u32(bytes, SUBSCRIPTION_KEYS + 4 * index, key);
+    }
+    for (place, session) in receiver.places.iter().enumerate() {
+        match session {
+            Some(session) => write_session(session, bytes, place),
+            None => put_u32(bytes, STREAM_KEYS + 4 * place, 0),
+        }
+    }
+}
+
+/// A stream's key: never 0, as every session has a named source.
+pub fn stream_key(stream: &Stream) -> u32 {
+    let upper = stream.transfer_type.number() << 16 | u32::from(stream.type_id);
+    upper << 14 | u32::from(stream.source) << 7 | u32::from(stream.destination)
+}
+
+fn read_subscription(bytes: &[u8], index: usize) -> Option<Subscription> {
+    let key = get_u32(bytes, SUBSCRIPTION_KEYS + 4 * index);
+    let signature = get_u64(bytes, SIGNATURES + 8 * index);
+    Subscription::of_numbers(key >> 16, key & 0xFFFF, signature)
+}
+
+/// A place, empty or not; none at all if it is at fault.
+fn read_place(bytes: &[u8], place: usize) -> Option<Option<Session>> {
+    let key = get_u32(bytes, STREAM_KEYS + 4 * place);
+    if key == 0 {
+        return Some(None);
+    }
+    let stream = read_stream(key)?;
+    let control = &bytes[CONTROLS + 4 * place..][..4];
+    let count = usize::from(u16::from_le_bytes([control[0], control[1]]));
+    let (expected_id, toggle) = (control[2], control[3]);
+    if count > MOST_GATHERED || expected_id > 31 || toggle > 1 || (toggle == 1 && count == 0) {
+        return None;
+    }
+    Some(Some(Session {
+        stream,
+        expected_id,
+        gathered: bytes[gathered_at(place)..][..count].to_vec(),
+        toggle: toggle == 1,
+        time: get_u64(bytes, TIMES + 8 * place),
+    }))
+}
+
+fn read_stream(key: u32) -> Option<Stream> {
+    let transfer_type = TransferType::of_number(key >> 30)?;
+    let service = transfer_type.is_service();
+    let type_id = key >> 14 & 0xFFFF;
+    let (source, destination) = ((key >> 7 & 127) as u8, (key & 127) as u8);
+    if source == 0 || service != (destination != 0) || type_id > largest_type(service) {
+        return None;
+    }
+    Some(Stream {
+        transfer_type,
+        type_id: type_id as u16,
+        source,
+        destination,
+    })
+}
+
+fn streams_differ(places: &[Option<Session>]) -> bool {
+    let streams: Vec<&Stream> = places.iter().flatten().map(|one| &one.stream).collect();
+    (0..streams.len()).all(|index| !streams[..index].contains(&streams[index]))
+}
+
+fn write_session(session: &Session, bytes: &mut [u8], place: usize) {
+    let count = session.gathered.len();
+    put_u32(bytes, STREAM_KEYS + 4 * place, stream_key(&session.stream));
+    let control = &mut bytes[CONTROLS + 4 * place..][..4];
+    control[..2].copy_from_slice(&(count as u16).to_le_bytes());
+    control[2] = session.expected_id;
+    control[3] = u8::from(session.toggle);
+    put_u64(bytes, TIMES + 8 * place, session.time);
+    bytes[gathered_at(place)..][..count].copy_from_slice(&session.gathered);
+}
+
+/// Where a place's room for gathered bytes begins.
+pub fn gathered_at(place: usize) -> usize {
+    GATHERED + MOST_GATHERED * place
+}
+
+pub fn get_u32(bytes: &[u8], at: usize) -> u32 {
+    u32::from_le_bytes(bytes[at..at + 4].try_into().expect("four bytes"))
+}
+
+pub fn get_u64(bytes: &[u8], at: usize) -> u64 {
+    u64::from_le_bytes(bytes[at..at + 8].try_into().expect("eight bytes"))
+}
+
+pub fn put_u32(bytes: &mut [u8], at: usize, value: u32) {
+    bytes[at..at + 4].copy_from_slice(&value.to_le_bytes());
+}
+
+pub fn put_u64(bytes: &mut [u8], at: usize, value: u64) {
+    bytes[at..at + 8].copy_from_slice(&value.to_le_bytes());
+}

@@ -1,0 +1,49 @@
+//! Checksums and signatures against the numbers that 002, 003 and the public set give.
+
+use reference::crc::{crc16, extend, hash, transfer_checksum};
+use reference::definitions;
+
+#[test]
+fn check_value_of_the_transfer_checksum() {
+    assert_eq!(crc16(b"123456789"), 0x29B1);
+    assert_eq!(crc16(b""), 0xFFFF);
+}
+
+#[test]
+fn transfer_checksum_runs_over_signature_then_payload() {
+    let signature = 0x0B2A_8126_20A1_1D40;
+    let bytes = [0x40, 0x1D, 0xA1, 0x20, 0x26, 0x81, 0x2A, 0x0B, 1, 2, 3];
+    assert_eq!(transfer_checksum(signature, &[1, 2, 3]), crc16(&bytes));
+}
+
+#[test]
+fn allocation_log_checksums() {
+    let second = b"\x00\x44\xC0\x8B\x63\x5E\x05\xF4\xBC\x10\x96\xDF\x11";
+    let third = b"\xFA\x44\xC0\x8B\x63\x5E\x05\xF4\xBC\x10\x96\xDF\x11\xA8\xBA\x54\x47";
+    let signature = definitions::allocation();
+    assert_eq!(transfer_checksum(signature, second), 0xB005);
+    assert_eq!(transfer_checksum(signature, third), 0xBA29);
+}
+
+#[test]
+fn check_value_of_the_signature_hash() {
+    assert_eq!(hash(b"123456789"), 0x62EC_59E3_F1A4_F00A);
+    assert_eq!(hash(b""), 0);
+}
+
+#[test]
+fn extension_feeds_the_other_hash_then_the_saved_one() {
+    let own = hash(b"own");
+    let other = hash(b"other");
+    let bytes = [b"own".as_slice(), &other.to_le_bytes(), &own.to_le_bytes()];
+    assert_eq!(extend(own, other), hash(&bytes.concat()));
+}
+
+#[test]
+fn signatures_of_the_public_set() {
+    assert_eq!(definitions::node_status(), 0x0F08_68D0_C1A7_C6F1);
+    assert_eq!(definitions::get_node_info(), 0xEE46_8A81_21C4_6A9E);
+    assert_eq!(definitions::allocation(), 0x0B2A_8126_20A1_1D40);
+    assert_eq!(definitions::key_value(), 0xE02F_25D6_E0C9_8AE0);
+    assert_eq!(definitions::log_message(), 0xD654_A48E_0C04_9D75);
+}

@@ -1,0 +1,296 @@
+//! Messages (01, 003, 004): bit order, the five types both ways, and their refusals.
+
+use crate::allocation_log::{ALLOCATION_LOG, UNIQUE_ID};
+use reference::bits::{Refusal, Writer};
+use reference::messages::{
+    decode, encode, Allocation, HardwareVersion, KeyValue, LogMessage, Message, MessageType,
+    NodeInfo, NodeStatus, SoftwareVersion,
+};
+
+fn written(fields: &[(i64, u32)]) -> Vec<u8> {
+    let mut writer = Writer::default();
+    for &(value, bits) in fields {
+        writer.number(value as u64, bits);
+    }
+    writer.into_bytes()
+}
+
+fn encoded(message: &Message) -> Result<Vec<u8>, Refusal> {
+    let mut out = [0xEE; 600];
+    let length = encode(message, &mut out)?;
+    assert!(out[length..].iter().all(|&byte| byte == 0xEE));
+    Ok(out[..length].to_vec())
+}
+
+/// The number that refuses a payload.
+fn refusal(message_type: MessageType, payload: &[u8]) -> u32 {
+    decode(message_type, payload)
+        .expect_err("a refusal")
+        .number()
+}
+
+#[test]
+fn bit_order() {
+    assert_eq!(written(&[(0xEDA, 12), (5, 4)]), [0xDA, 0xE5]);
+    let example = [(0xBEDA, 12), (-1, 3), (-5, 4), (-1, 2), (0x88, 4)];
+    assert_eq!(written(&example), [0xDA, 0xEF, 0x7C, 0x00]);
+    assert_eq!(written(&[(1, 2), (7, 8)]), [0b0100_0001, 0b1100_0000]);
+}
+
+fn status() -> NodeStatus {
+    NodeStatus {
+        uptime: 0x0403_0201,
+        health: 2,
+        mode: 5,
+        sub_mode: 0,
+        vendor_code: 0xBEEF,
+    }
+}
+
+fn info() -> NodeInfo<'static> {
+    NodeInfo {
+        status: status(),
+        software: SoftwareVersion {
+            major: 1,
+            minor: 2,
+            flags: 3,
+            commit: 0x1122_3344,
+            image_crc: 0x0102_0304_0506_0708,
+        },
+        hardware: HardwareVersion {
+            major: 4,
+            minor: 5,
+            unique_id: &UNIQUE_ID,
+            certificate: &[0xC1, 0xC2],
+        },
+        name: b"com.maker.gimbal-2_a",
+    }
+}
+
+#[test]
+fn node_status() {
+    let bytes = [1, 2, 3, 4, 0b1010_1000, 0xEF, 0xBE];
+    let message = Message::NodeStatus(status());
+    assert_eq!(encoded(&message).unwrap(), bytes);
+    assert_eq!(decode(MessageType::NodeStatus, &bytes), Ok(message));
+    let with_sub_mode = [1, 2, 3, 4, 0b1010_1111, 0xEF, 0xBE];
+    let read = decode(MessageType::NodeStatus, &with_sub_mode);
+    assert_eq!(read, Ok(Message::NodeStatus(status())));
+    let given = NodeStatus {
+        sub_mode: u64::MAX,
+        ..status()
+    };
+    assert_eq!(encoded(&Message::NodeStatus(given)).unwrap(), bytes);
+    for length in 0..7 {
+        assert_eq!(refusal(MessageType::NodeStatus, &bytes[..length]), 15);
+    }
+    assert_eq!(refusal(MessageType::NodeStatus, &[0; 8]), 16);
+}
+
+#[test]
+fn numbers_too_large_for_their_fields() {
+    let refused = [
+        NodeStatus {
+            uptime: 1 << 32,
+            ..status()
+        },
+        NodeStatus {
+            health: 4,
+            ..status()
+        },
+        NodeStatus {
+            mode: 8,
+            ..status()
+        },
+        NodeStatus {
+            vendor_code: 65536,
+            ..status()
+        },
+    ];
+    for status in refused {
+        let message = Message::NodeStatus(status);
+        assert_eq!(encode(&message, &mut []), Err(Refusal::NotAllowed));
+    }
+}
+
+#[test]
+fn allocation() {
+    let payload = [&[0xFA], &UNIQUE_ID[..]].concat();
+    let message = Message::Allocation(Allocation {
+        node_id: 125,
+        first_part: 0,
+        unique_id: &UNIQUE_ID,
+    });
+    assert_eq!(encoded(&message).unwrap(), payload);
+    assert_eq!(decode(MessageType::Allocation, &payload), Ok(message));
+    let (_, _, first) = ALLOCATION_LOG[0];
+    match decode(MessageType::Allocation, &first[..7]) {
+        Ok(Message::Allocation(one)) => {
+            assert_eq!((one.node_id, one.first_part), (0, 1));
+            assert_eq!(one.unique_id, &UNIQUE_ID[..6]);
+        }
+        other => panic!("{other:?}"),
+    }
+    assert_eq!(refusal(MessageType::Allocation, &[]), 15);
+    assert!(decode(MessageType::Allocation, &[0; 17]).is_ok());
+    assert_eq!(refusal(MessageType::Allocation, &[0; 18]), 16);
+    let refused = [(128, 0, 16), (0, 2, 16), (0, 0, 17)];
+    for (node_id, first_part, length) in refused {
+        let message = Message::Allocation(Allocation {
+            node_id,
+            first_part,
+            unique_id: &[0; 17][..length],
+        });
+        assert_eq!(encoded(&message), Err(Refusal::NotAllowed));
+    }
+}
+
+#[test]
+fn key_value() {
+    let message = Message::KeyValue(KeyValue {
+        value: 0x7FA0_0001,
+        key: b"ab",
+    });
+    let bytes = [0x01, 0x00, 0xA0, 0x7F, b'a', b'b'];
+    assert_eq!(encoded(&message).unwrap(), bytes);
+    assert_eq!(decode(MessageType::KeyValue, &bytes), Ok(message));
+    assert_eq!(refusal(MessageType::KeyValue, &[0; 3]), 15);
+    assert!(decode(MessageType::KeyValue, &[0; 62]).is_ok());
+    assert_eq!(refusal(MessageType::KeyValue, &[0; 63]), 16);
+    let long = Message::KeyValue(KeyValue {
+        value: 0,
+        key: &[0; 59],
+    });
+    assert_eq!(encoded(&long), Err(Refusal::NotAllowed));
+}
+
+#[test]
+fn log_message() {
+    let message = Message::LogMessage(LogMessage {
+        level: 5,
+        source: b"src",
+        text: b"text",
+    });
+    let bytes = b"\xA3srctext";
+    assert_eq!(encoded(&message).unwrap(), bytes);
+    assert_eq!(decode(MessageType::LogMessage, bytes), Ok(message));
+    assert_eq!(refusal(MessageType::LogMessage, &[]), 15);
+    assert_eq!(refusal(MessageType::LogMessage, b"\x03sr"), 15);
+    assert!(decode(MessageType::LogMessage, &[0; 91]).is_ok());
+    assert_eq!(refusal(MessageType::LogMessage, &[0; 92]), 16);
+    let refused = [(8, 0, 0), (0, 32, 0), (0, 0, 91)];
+    for (level, source, text) in refused {
+        let message = Message::LogMessage(LogMessage {
+            level,
+            source: &[0; 99][..source],
+            text: &[0; 99][..text],
+        });
+        assert_eq!(encoded(&message), Err(Refusal::NotAllowed));
+    }
+}
+
+#[test]
+fn node_info_request_is_empty() {
+    assert_eq!(encode(&Message::NodeInfoRequest, &mut []), Ok(0));
+    let read = decode(MessageType::NodeInfoRequest, &[]);
+    assert_eq!(read, Ok(Message::NodeInfoRequest));
+    assert_eq!(refusal(MessageType::NodeInfoRequest, &[0]), 16);
+}
+
+fn info_bytes() -> Vec<u8> {
+    let mut bytes = vec![1, 2, 3, 4, 0b1010_1000, 0xEF, 0xBE];
+    bytes.extend([1, 2, 3, 0x44, 0x33, 0x22, 0x11, 8, 7, 6, 5, 4, 3, 2, 1]);
+    bytes.extend([4, 5]);
+    bytes.extend(UNIQUE_ID);
+    bytes.extend([2, 0xC1, 0xC2]);
+    bytes.extend(b"com.maker.gimbal-2_a");
+    bytes
+}
+
+#[test]
+fn node_info_response() {
+    let message = Message::NodeInfoResponse(info());
+    assert_eq!(encoded(&message).unwrap(), info_bytes());
+    let bytes = info_bytes();
+    assert_eq!(decode(MessageType::NodeInfoResponse, &bytes), Ok(message));
+}
+
+#[test]
+fn node_name_is_the_rest_of_the_payload() {
+    let bytes = info_bytes();
+    let fixed = bytes.len() - info().name.len();
+    for length in 0..fixed {
+        assert_eq!(refusal(MessageType::NodeInfoResponse, &bytes[..length]), 15);
+    }
+    assert_eq!(refusal(MessageType::NodeInfoResponse, &bytes[..fixed]), 17);
+    let with_name = |name: &[u8]| [&bytes[..fixed], name].concat();
+    let longest = with_name(&[b'z'; 80]);
+    match decode(MessageType::NodeInfoResponse, &longest) {
+        Ok(Message::NodeInfoResponse(info)) => assert_eq!(info.name, [b'z'; 80]),
+        other => panic!("{other:?}"),
+    }
+    let too_long = with_name(&[b'Z'; 81]);
+    assert_eq!(refusal(MessageType::NodeInfoResponse, &too_long), 16);
+    for bad in [b'A', b' ', b'/', b'`', b'{', b':', 0, 0xE1] {
+        let name = with_name(&[b'a', bad]);
+        assert_eq!(refusal(MessageType::NodeInfoResponse, &name), 17);
+    }
+}
+
+#[test]
+fn node_info_lists_to_be_written() {
+    let hardware = |unique_id, certificate| HardwareVersion {
+        unique_id,
+        certificate,
+        ..info().hardware
+    };
+    let refused = [
+        NodeInfo {
+            name: b"",
+            ..info()
+        },
+        NodeInfo {
+            name: b"Name",
+            ..info()
+        },
+        NodeInfo {
+            name: &[b'a'; 81],
+            ..info()
+        },
+        NodeInfo {
+            hardware: hardware(&[0; 15], &[]),
+            ..info()
+        },
+        NodeInfo {
+            hardware: hardware(&[0; 17], &[]),
+            ..info()
+        },
+        NodeInfo {
+            hardware: hardware(&[0; 16], &[0; 256]),
+            ..info()
+        },
+    ];
+    for info in refused {
+        let message = Message::NodeInfoResponse(info);
+        assert_eq!(encode(&message, &mut []), Err(Refusal::NotAllowed));
+    }
+    let longest = Message::NodeInfoResponse(NodeInfo {
+        hardware: hardware(&[0; 16], &[9; 255]),
+        name: &[b'a'; 80],
+        ..info()
+    });
+    assert_eq!(encoded(&longest).unwrap().len(), 7 + 15 + 18 + 256 + 80);
+}
+
+#[test]
+fn room_of_exactly_the_length_suffices() {
+    let message = Message::NodeInfoResponse(info());
+    let length = info_bytes().len();
+    let mut out = vec![0xEE; length];
+    assert_eq!(
+        encode(&message, &mut out[..length - 1]),
+        Err(Refusal::OutputTooSmall)
+    );
+    assert_eq!(out, vec![0xEE; length]);
+    assert_eq!(encode(&message, &mut out), Ok(length));
+}
