@@ -8,7 +8,7 @@ use borrow.Author.Tests.{leb-true, ltb-true, ltb-false, ne-eqb}
 use lib.Dec.{eqb, ltb, leb}
 use lib.ListN.{length}
 use Rattle.model.specs.Setup.{acceptable}
-use Rattle.model.specs.Sound.{streamFits, sessionFits, placeFits, allFit, apart, sound}
+use Rattle.model.specs.Sound.{streamFits, sessionFits, placeFits, placesFit, apart, sound}
 use Rattle.model.specs.Table.{Place, empty, held}
 use Rattle.model.specs.Tests.{pick, isEmpty}
 use Rattle.state.specs.Layout.{size, tabulate, setupOf, keyAt, countAt, expectedAt, toggleAt, gatheredAt, sessionAt, placeAt, placesOf, streamOfKey}
@@ -26,7 +26,7 @@ every-at f (suc n) i e l h k = go (λ p. every-at f n (suc i) (and-right (f i) (
       ap f (sym q) ∙ and-left (f i) (every f (suc i) n) e
 
 -- all places are in range: every one is
-fit-every : (f : ℕ → Place) (n i : ℕ) → allFit (tabulate f i n) ≡ every (λ l. placeFits (f l)) i n
+fit-every : (f : ℕ → Place) (n i : ℕ) → placesFit (tabulate f i n) ≡ every (λ l. placeFits (f l)) i n
 unfolding every
 fit-every f zero i = refl
 fit-every f (suc n) i = ap (λ (b : Bool). placeFits (f i) && b) (fit-every f n (suc i))
@@ -56,7 +56,7 @@ module _ (m : List ℕ) (fine : soundState m ≡ true) where
   unfolding sound placesOf
   place-at l h =
       every-at (λ k. placeFits (placeAt m k)) 32 0
-      (sym (fit-every (placeAt m) 32 0) ∙ and-left (allFit (placesOf m)) (apart (placesOf m)) (and-right (eqb (length (placesOf m)) 32) (allFit (placesOf m) && apart (placesOf m)) table-sound))
+      (sym (fit-every (placeAt m) 32 0) ∙ and-left (placesFit (placesOf m)) (apart (placesOf m)) (and-right (eqb (length (placesOf m)) 32) (placesFit (placesOf m) && apart (placesOf m)) table-sound))
       l (omega arith) (omega arith)
 
   -- a place that is held

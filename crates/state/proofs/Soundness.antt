@@ -15,7 +15,7 @@ use Rattle.bits.proofs.Little.{le-lt}
 use Rattle.bits.proofs.Octets.{octets-span}
 use Rattle.bits.proofs.Splice.{length-span}
 use Rattle.model.specs.Frame.{Stream, sameStream}
-use Rattle.model.specs.Sound.{streamFits, sessionFits, placeFits, allFit, noneHolds, notAgain, apart, sound}
+use Rattle.model.specs.Sound.{streamFits, sessionFits, placeFits, placesFit, noneHolds, notAgain, apart, sound}
 use Rattle.model.specs.Table.{Place, empty, held, holds}
 use Rattle.model.specs.Tests.{pick, isEmpty}
 use Rattle.state.specs.Layout.{size, tabulate, keyAt, countAt, expectedAt, toggleAt, gatheredAt, sessionAt, placeAt, placesOf, streamOfKey}
@@ -54,7 +54,7 @@ unfolding soundFrom
 sound-step m i h =
     rw (every-step (rawFits m) i 32, tab-step (placeAt m) i 32)
     (regroup (rawFits m i) (placeFits (placeAt m i)) (notAgain (placeAt m i) (tabulate (placeAt m) (suc i) (32 - suc i)))
-    (every (rawFits m) (suc i) (32 - suc i)) (allFit (tabulate (placeAt m) (suc i) (32 - suc i))) (apart (tabulate (placeAt m) (suc i) (32 - suc i))))
+    (every (rawFits m) (suc i) (32 - suc i)) (placesFit (tabulate (placeAt m) (suc i) (32 - suc i))) (apart (tabulate (placeAt m) (suc i) (32 - suc i))))
 
 -- a fault anywhere is a fault of the whole
 pub fault-down : (m : List ℕ) (i : ℕ) → i < 32 → soundFrom m i ≡ false → soundFrom m 0 ≡ false

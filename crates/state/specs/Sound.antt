@@ -4,7 +4,7 @@ use mathlib.Core.List.{List, [], _∷_}
 use Prim.Native.Nat.{ℕ, zero, suc, _+_, _-_}
 use lib.Dec.{ltb, leb, eqb}
 use lib.ListN.{length}
-use Rattle.model.specs.Sound.{streamFits, allFit, apart, sound}
+use Rattle.model.specs.Sound.{streamFits, placesFit, apart, sound}
 use Rattle.model.specs.Setup.{acceptable}
 use Rattle.state.specs.Layout.{size, tabulate, setupOf, keyAt, countAt, expectedAt, toggleAt, streamOfKey, placeAt, placesOf}
 use Rattle.state.specs.Place.{one}
@@ -41,4 +41,4 @@ placeSound m i k seen = eqb k 0 || (streamFits (streamOfKey k) && (controlFits m
 -- the places from i on
 unfoldable pub soundFrom : List ℕ → ℕ → Bool
 soundFrom m i =
-    every (rawFits m) i (32 - i) && (allFit (tabulate (placeAt m) i (32 - i)) && apart (tabulate (placeAt m) i (32 - i)))
+    every (rawFits m) i (32 - i) && (placesFit (tabulate (placeAt m) i (32 - i)) && apart (tabulate (placeAt m) i (32 - i)))
