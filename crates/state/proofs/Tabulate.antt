@@ -4,7 +4,7 @@ use mathlib.Core.Bool.{Bool, _&&_}
 use mathlib.Core.List.{List, [], _∷_}
 use Prim.Native.Nat.{ℕ, zero, suc, _+_, _-_, _≤_, _<_}
 use native.Mathlib.Omega.{arith}
-use lib.ListN.{length}
+use lib.ListN.{length, getD}
 use Rattle.state.specs.Layout.{tabulate}
 use Rattle.state.specs.Sound.{every}
 
@@ -27,3 +27,8 @@ pub tab-same : {A : Type 0} (f g : ℕ → A) (n j : ℕ) → ((l : ℕ) → j �
 tab-same f g zero j e = refl
 tab-same f g (suc n) j e =
     ap₂ (λ x xs. x ∷ xs) (e j (omega arith) (omega arith)) (tab-same f g n (suc j) (λ l h k. e l (omega arith) (omega arith)))
+
+pub getD-tabulate : {A : Type 0} (f : ℕ → A) (d : A) (n i j : ℕ) → j < n → getD (tabulate f i n) j d ≡ f (i + j)
+getD-tabulate f d zero i j h = absurd (omega arith)
+getD-tabulate f d (suc n) i zero h = let z : i ≡ i + 0 = omega arith in ap f z
+getD-tabulate f d (suc n) i (suc j) h = let z : suc i + j ≡ i + suc j = omega arith in getD-tabulate f d n (suc i) j (omega arith) ∙ ap f z

@@ -1,0 +1,5 @@
+mod Heads
+mod Tails
+mod Seek
+mod Lent
+mod Checks

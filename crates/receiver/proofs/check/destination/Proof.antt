@@ -1,0 +1,24 @@
+-- `check::destination` meets its contract.
+use mathlib.Core.Path.{_≡_, refl, sym, ap, _∙_}
+use mathlib.Core.Bool.{Bool, true, false, not}
+use Prim.Native.Nat.{ℕ, _/_, _%_}
+use Rattle.model.specs.Frame.{Stream}
+use Rattle.receiver.proofs.Heads.{stream-is}
+use borrow.Author.Needs.{needs}
+use Rattle.receiver.proofs.check.destination.Statement.{statement}
+use Rattle.receiver.proofs.check.destination.Tie as tie
+
+is-service-requires : tie.Need-is-service-requires
+is-service-requires c κs = search needs
+
+cast-result : tie.Need-cast-result
+cast-result c = search needs
+
+returns : tie.Need-returns
+returns c = let s = c .before in sym (ap (λ (d : Stream). d .destination) (stream-is (s .before .args .id) true (sym (s .is-service .ensures) ∙ c .if1 .taken)))
+
+returns-2 : tie.Need-returns-2
+returns-2 c = let s = c .before in sym (ap (λ (d : Stream). d .destination) (stream-is (s .before .args .id) false (sym (s .is-service .ensures) ∙ c .if1 .left)))
+
+pub destination-spec : {M : Type 1} → statement M
+destination-spec = tie.close (tie.spec is-service-requires cast-result returns returns-2)

@@ -1,0 +1,20 @@
+-- `check::is_for_another` meets its contract.
+use mathlib.Core.Path.{_≡_, refl, sym, ap, _∙_}
+use mathlib.Core.Bool.{Bool, true, false, not}
+use Prim.Native.Nat.{ℕ, _/_, _%_}
+use Rattle.receiver.proofs.Heads.{another-is}
+use borrow.Author.Needs.{needs}
+use Rattle.receiver.proofs.check.is_for_another.Statement.{statement}
+use Rattle.receiver.proofs.check.is_for_another.Tie as tie
+
+is-service-requires : tie.Need-is-service-requires
+is-service-requires c κs = search needs
+
+returns : tie.Need-returns
+returns c = let s = c .before in sym (another-is (s .before .args .id) true (sym (s .is-service .ensures) ∙ c .if1 .taken) (s .before .args .own))
+
+returns-2 : tie.Need-returns-2
+returns-2 c = let s = c .before in sym (another-is (s .before .args .id) false (sym (s .is-service .ensures) ∙ c .if1 .left) (s .before .args .own))
+
+pub is-for-another-spec : {M : Type 1} → statement M
+is-for-another-spec = tie.close (tie.spec is-service-requires returns returns-2)

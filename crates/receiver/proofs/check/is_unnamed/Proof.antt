@@ -1,0 +1,32 @@
+-- `check::is_unnamed` meets its contract.
+use mathlib.Core.Path.{_≡_, refl, sym, ap, _∙_}
+use mathlib.Core.Bool.{Bool, true, false, not}
+use Prim.Native.Nat.{ℕ, _/_, _%_}
+use borrow.Author.Tests.{eq-eqb, ne-eqb}
+use lib.Dec.{eqb}
+use Rattle.model.specs.Tests.{pick}
+use Rattle.receiver.proofs.Heads.{unnamed-is}
+use borrow.Author.Needs.{needs}
+use Rattle.receiver.proofs.check.is_unnamed.Statement.{statement}
+use Rattle.receiver.proofs.check.is_unnamed.Tie as tie
+
+is-service-requires : tie.Need-is-service-requires
+is-service-requires c κs = search needs
+
+returns : tie.Need-returns
+returns c =
+    let s = c .before .before in
+    let id = s .before .args .id in
+    sym (unnamed-is id true (sym (s .is-service .ensures) ∙ c .before .if1 .taken) ∙ ap (λ (b : Bool). pick b true (eqb (id / 256 % 128) 0)) (eq-eqb (id % 128) 0 (c .if2 .taken)))
+
+returns-2 : tie.Need-returns-2
+returns-2 c =
+    let s = c .before .before in
+    let id = s .before .args .id in
+    sym (unnamed-is id true (sym (s .is-service .ensures) ∙ c .before .if1 .taken) ∙ ap (λ (b : Bool). pick b true (eqb (id / 256 % 128) 0)) (ne-eqb (id % 128) 0 (c .if2 .left)))
+
+returns-3 : tie.Need-returns-3
+returns-3 c = let s = c .before in sym (unnamed-is (s .before .args .id) false (sym (s .is-service .ensures) ∙ c .if1 .left))
+
+pub is-unnamed-spec : {M : Type 1} → statement M
+is-unnamed-spec = tie.close (tie.spec is-service-requires returns returns-2 returns-3)

@@ -1,0 +1,20 @@
+-- `check::kind` meets its contract.
+use mathlib.Core.Path.{_≡_, refl, sym, ap, _∙_}
+use mathlib.Core.Bool.{Bool, true, false, not}
+use Prim.Native.Nat.{ℕ, _/_, _%_}
+use Rattle.model.specs.Tests.{pick}
+use borrow.Author.Needs.{needs}
+use Rattle.receiver.proofs.check.kind.Statement.{statement}
+use Rattle.receiver.proofs.check.kind.Tie as tie
+
+is-service-requires : tie.Need-is-service-requires
+is-service-requires c κs = search needs
+
+returns : tie.Need-returns
+returns c = let s = c .before in sym (ap (λ (b : Bool). pick b 1 0) (sym (s .is-service .ensures) ∙ c .if1 .taken))
+
+returns-2 : tie.Need-returns-2
+returns-2 c = let s = c .before in sym (ap (λ (b : Bool). pick b 1 0) (sym (s .is-service .ensures) ∙ c .if1 .left))
+
+pub kind-spec : {M : Type 1} → statement M
+kind-spec = tie.close (tie.spec is-service-requires returns returns-2)

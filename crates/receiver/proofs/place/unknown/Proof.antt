@@ -1,0 +1,108 @@
+-- `place::unknown` meets its contract: the lowest empty place, else the lowest old one.
+use mathlib.Core.Path.{_≡_, refl, sym, ap, _∙_}
+use mathlib.Core.List.{List}
+use mathlib.Core.Option.{Option, none, some}
+use Prim.Native.Nat.{ℕ, _≤_, _<_}
+use native.Mathlib.Omega.{arith}
+use lib.ListN.{length}
+use Rattle.bits.proofs.Octets.{octets-all}
+use Rattle.model.specs.Reception.{Step, stepNew}
+use Rattle.model.specs.Table.{Places}
+use Rattle.receiver.specs.Receive.{lent}
+use Rattle.session.specs.Session.{parsedOf}
+use Rattle.session.specs.declared.Head.{Head}
+use Rattle.state.specs.Layout.{placesOf}
+use Rattle.state.proofs.Faultless.{long}
+use Rattle.receiver.proofs.Lent.{untouched}
+use Rattle.receiver.proofs.Seek.{place-free, place-old, no-place}
+use borrow.Author.Needs.{needs}
+use Rattle.receiver.proofs.place.unknown.Statement.{statement}
+use Rattle.receiver.proofs.place.unknown.Tie as tie
+
+-- the step at the place that was found
+at-place : (m out p : List ℕ) (h : Head) {o q : Option ℕ} → o ≡ q → lent m out (stepNew q (placesOf m) (parsedOf h p)) ≡ lent m out (stepNew o (placesOf m) (parsedOf h p))
+at-place m out p h e = ap (λ (x : Option ℕ). lent m out (stepNew x (placesOf m) (parsedOf h p))) (sym e)
+
+scan-requires : tie.Need-scan-requires
+scan-requires c κs = let s = c .before .before .before .before in long (s .args .state .now) (s .pre .0 .sound)
+
+begin-requires : tie.Need-begin-requires
+begin-requires c κs = search needs
+
+same-length : tie.Need-same-length
+same-length c = search needs
+
+same-length-2 : tie.Need-same-length-2
+same-length-2 c = search needs
+
+returns : tie.Need-returns
+unfolding stepNew parsedOf
+returns c =
+    let b = c .before .before .before .before in
+    let t = b .before .before .before in
+    let n = t .before in
+    let s = n .before .before .before .before .before in
+    let a = s .args in
+    let m = a .state .now in
+    let q = s .pre .0 in
+    b .begin .ensures ∙ at-place m (a .out .now) (a .p .now) (a .h) (place-free m (a .h .time) (n .scan .result) (n .scan .ensures) (t .if1 .taken))
+
+scan-requires-2 : tie.Need-scan-requires-2
+scan-requires-2 c κs = let s = c .before .before .before .before .before .before .before in long (s .args .state .now) (s .pre .0 .sound)
+
+begin-requires-2 : tie.Need-begin-requires-2
+begin-requires-2 c κs = search needs
+
+same-length-3 : tie.Need-same-length-3
+same-length-3 c = search needs
+
+same-length-4 : tie.Need-same-length-4
+same-length-4 c = search needs
+
+returns-2 : tie.Need-returns-2
+unfolding stepNew parsedOf
+returns-2 c =
+    let b = c .before .before .before .before in
+    let t = b .before .before .before in
+    let y = t .before in
+    let e = y .before .before in
+    let n = e .before in
+    let s = n .before .before .before .before .before in
+    let a = s .args in
+    let m = a .state .now in
+    let q = s .pre .0 in
+    b .begin2 .ensures ∙ at-place m (a .out .now) (a .p .now) (a .h) (place-old m (a .h .time) (n .scan .result) (n .scan .ensures) (e .if1 .left) (y .scan2 .result) (y .scan2 .ensures) (t .if2 .taken))
+
+same-length-5 : tie.Need-same-length-5
+same-length-5 c = search needs
+
+returns-3 : tie.Need-returns-3
+unfolding stepNew
+returns-3 c =
+    let y = c .before in
+    let e = y .before .before in
+    let n = e .before in
+    let s = n .before .before .before .before .before in
+    let a = s .args in
+    let m = a .state .now in
+    let q = s .pre .0 in
+    let f = no-place m (a .h .time) (n .scan .result) (n .scan .ensures) (e .if1 .left) (y .scan2 .result) (y .scan2 .ensures) (c .if2 .left) in
+    untouched m (q .sound) (octets-all m (λ i. omega (arith, n .before .before .before .before .slice-known .given i))) (a .out .now) (stepNew none (placesOf m) (parsedOf (a .h) (a .p .now))) _ refl refl (a .out .now) refl
+    ∙ at-place m (a .out .now) (a .p .now) (a .h) f
+
+pub unknown-spec : {M : Type 1} → statement M
+unknown-spec =
+    tie.close
+    (tie.spec
+    scan-requires
+    begin-requires
+    same-length
+    same-length-2
+    returns
+    scan-requires-2
+    begin-requires-2
+    same-length-3
+    same-length-4
+    returns-2
+    same-length-5
+    returns-3)
