@@ -1,0 +1,326 @@
+/* Reception, ns per frame: the proved receiver through its C entry tecelume_receive, beside the plain C receiver of baseline.c.
+ *
+ * First each must hand out every transfer of every row with the right bytes. Then they take turns in one process, and the best of
+ * ROUNDS rounds counts. Both have five subscriptions, the time rises by 100 microseconds a frame, and both leave the payload in one
+ * flat buffer: the baseline's copy out of its chunks is part of its figure. All memory is warm, nothing is cleared between frames:
+ * state and pool are set up once a row, the output buffer keeps the last payload.
+ *
+ * The rows leave out: services, anonymous frames, refused and repeated frames, new and old sessions (every stream has one from the
+ * first round on), the driver and the decoding of messages. What the baseline does not do at all is said in baseline.h; above all it
+ * has no check of its own state (20), which the last rows show alone: a frame that is refused right behind that check, by its ID. */
+#include <stdbool.h>
+#include <stdio.h>
+#include <string.h>
+#include <time.h>
+
+#include "baseline.h"
+#include "tecelume.h"
+
+enum { ROUNDS = 101, STEP = 100, OWN = 1, FIRST_SOURCE = 10, FRAMES_MAX = 20000, PER_TRANSFER_MAX = 74, REFUSED = 10000 };
+
+/* ---- the five types ---- */
+
+static const struct type {
+    uint32_t kind, type_id;
+    uint64_t signature;
+} types[] = {
+    {TECELUME_KIND_MESSAGE, 341, 0x0F0868D0C1A7C6F1},   /* NodeStatus */
+    {TECELUME_KIND_MESSAGE, 1, 0x0B2A812620A11D40},     /* Allocation */
+    {TECELUME_KIND_MESSAGE, 16370, 0xE02F25D6E0C98AE0}, /* KeyValue */
+    {TECELUME_KIND_MESSAGE, 16383, 0xD654A48E0C049D75}, /* LogMessage */
+    {TECELUME_KIND_SERVICE, 1, 0xEE468A8121C46A9E},     /* GetNodeInfo */
+};
+
+enum { TYPES = sizeof types / sizeof types[0], NODE_STATUS = 0, LOG_MESSAGE = 3 };
+
+/* ---- the frames of a row ---- */
+
+struct row {
+    const char *name;
+    int type;
+    unsigned sources;
+    unsigned length; /* of a payload */
+    unsigned turns;  /* transfers of each source, a multiple of 32, so that the frames can be given again and again */
+};
+
+static const struct row rows[] = {
+    {"NodeStatus, 20 sources", NODE_STATUS, 20, 7, 512},
+    {"64 bytes, 8 sources interleaved", LOG_MESSAGE, 8, 64, 128},
+    {"512 bytes, 8 sources interleaved", LOG_MESSAGE, 8, 512, 32},
+};
+
+enum { ROWS = sizeof rows / sizeof rows[0] };
+
+struct frame {
+    uint32_t id;
+    uint8_t length;
+    uint8_t data[8];
+};
+
+static struct frame frames[FRAMES_MAX];
+static size_t frame_count;
+
+static uint8_t payload_byte(unsigned source, unsigned turn, unsigned i)
+{
+    return (uint8_t)(source * 89 + turn * 57 + i * 7 + i / 3);
+}
+
+/* Bit by bit: a checksum that no receiver here shares. */
+static unsigned crc(unsigned c, uint8_t byte)
+{
+    c ^= (unsigned)byte << 8;
+    for (int k = 0; k < 8; k++)
+        c = ((c & 0x8000) ? (c << 1) ^ 0x1021 : c << 1) & 0xFFFF;
+    return c;
+}
+
+/* What the frames of a transfer carry: its payload, behind a checksum if it needs more than one frame. */
+static size_t carried(const struct row *row, unsigned source, unsigned turn, uint8_t *bytes)
+{
+    size_t front = row->length > 7 ? 2 : 0;
+    unsigned c = 0xFFFF;
+    for (int i = 0; i < 8; i++)
+        c = crc(c, (uint8_t)(types[row->type].signature >> (8 * i)));
+    for (unsigned i = 0; i < row->length; i++) {
+        bytes[front + i] = payload_byte(source, turn, i);
+        c = crc(c, bytes[front + i]);
+    }
+    if (front > 0) {
+        bytes[0] = (uint8_t)c;
+        bytes[1] = (uint8_t)(c >> 8);
+    }
+    return front + row->length;
+}
+
+static size_t cut(const struct row *row, unsigned source, unsigned turn, struct frame *f)
+{
+    uint8_t bytes[2 + TECELUME_OUTPUT_SIZE];
+    size_t total = carried(row, source, turn, bytes), at = 0, n = 0;
+    for (; at < total; n++) {
+        size_t part = total - at < 7 ? total - at : 7;
+        bool start = at == 0, end = at + part == total;
+        memcpy(f[n].data, bytes + at, part);
+        f[n].data[part] = (uint8_t)(start << 7 | end << 6 | (n & 1) << 5 | turn % 32);
+        f[n].length = (uint8_t)(part + 1);
+        f[n].id = 16u << 24 | types[row->type].type_id << 8 | source;
+        at += part;
+    }
+    return n;
+}
+
+/* All transfers of the row, the sources' frames taking turns. */
+static void make_frames(const struct row *row)
+{
+    static struct frame transfer[32][PER_TRANSFER_MAX];
+    frame_count = 0;
+    for (unsigned turn = 0; turn < row->turns; turn++) {
+        size_t per = 0;
+        for (unsigned s = 0; s < row->sources; s++)
+            per = cut(row, FIRST_SOURCE + s, turn, transfer[s]);
+        for (size_t n = 0; n < per; n++)
+            for (unsigned s = 0; s < row->sources; s++)
+                frames[frame_count++] = transfer[s][n];
+    }
+}
+
+/* ---- the two receivers ---- */
+
+static uint8_t out[TECELUME_OUTPUT_SIZE];
+
+static uint8_t state[TECELUME_RECEIVER_SIZE];
+
+static bool tecelume_begin(void)
+{
+    uint8_t list[TYPES * TECELUME_SUBSCRIPTION_SIZE], *next = list;
+    for (int i = 0; i < TYPES; i++)
+        next = tecelume_subscription(next, types[i].kind, types[i].type_id, types[i].signature);
+    return tecelume_setup(state, sizeof state, OWN, list, sizeof list) == TECELUME_SUCCESS;
+}
+
+/* The length of the payload handed out, -1 if the frame hands out none. */
+static int tecelume_feed(const struct frame *f, uint64_t time)
+{
+    uint64_t result = tecelume_receive(state, sizeof state, f->id, f->data, f->length, time, out, sizeof out);
+    return tecelume_number(result) == TECELUME_HANDED_OUT ? (int)tecelume_length(result) : -1;
+}
+
+static struct baseline baseline;
+static int baseline_length;
+
+static bool is_wanted(enum baseline_kind kind, uint16_t type_id, uint64_t *signature)
+{
+    uint32_t service = kind == BASELINE_MESSAGE ? TECELUME_KIND_MESSAGE : TECELUME_KIND_SERVICE;
+    for (int i = 0; i < TYPES; i++) {
+        if (types[i].kind == service && types[i].type_id == type_id) {
+            *signature = types[i].signature;
+            return true;
+        }
+    }
+    return false;
+}
+
+static void keep(const struct baseline *r, const struct baseline_transfer *transfer)
+{
+    baseline_length = (int)baseline_copy(r, transfer, out);
+}
+
+static bool baseline_begin(void)
+{
+    baseline_init(&baseline, OWN, is_wanted, keep, NULL);
+    return true;
+}
+
+static int baseline_feed(const struct frame *f, uint64_t time)
+{
+    baseline_length = -1;
+    baseline_receive(&baseline, f->id, f->data, f->length, time);
+    return baseline_length;
+}
+
+/* Loops of their own, so that each call is a direct one. They count the transfers handed out. */
+
+static size_t tecelume_run(uint64_t time)
+{
+    size_t handed = 0;
+    for (size_t i = 0; i < frame_count; i++)
+        handed += tecelume_feed(&frames[i], time += STEP) >= 0;
+    return handed;
+}
+
+static size_t baseline_run(uint64_t time)
+{
+    size_t handed = 0;
+    for (size_t i = 0; i < frame_count; i++)
+        handed += baseline_feed(&frames[i], time += STEP) >= 0;
+    return handed;
+}
+
+static const struct side {
+    const char *name;
+    bool (*begin)(void);
+    int (*feed)(const struct frame *f, uint64_t time);
+    size_t (*run)(uint64_t time);
+} sides[] = {
+    {"Tecelume", tecelume_begin, tecelume_feed, tecelume_run},
+    {"baseline", baseline_begin, baseline_feed, baseline_run},
+};
+
+enum { SIDES = sizeof sides / sizeof sides[0] };
+
+/* ---- what must come out ---- */
+
+static bool is_payload(const struct row *row, const struct frame *f, unsigned turn, int length)
+{
+    if (length != (int)row->length)
+        return false;
+    for (unsigned i = 0; i < row->length; i++)
+        if (out[i] != payload_byte(f->id & 127, turn, i))
+            return false;
+    return true;
+}
+
+/* Exactly the frames that end a transfer hand one out, with its bytes; twice, for what the first time leaves. */
+static bool is_right(const struct side *side, const struct row *row)
+{
+    uint64_t time = 0;
+    if (!side->begin())
+        return false;
+    for (int again = 0; again < 2; again++) {
+        unsigned ended = 0;
+        for (size_t i = 0; i < frame_count; i++) {
+            const struct frame *f = &frames[i];
+            bool end = f->data[f->length - 1] >> 6 & 1;
+            int length = side->feed(f, time += STEP);
+            if (end ? !is_payload(row, f, ended / row->sources, length) : length >= 0)
+                return false;
+            ended += end;
+        }
+    }
+    return true;
+}
+
+/* ---- time ---- */
+
+static double nanoseconds(void)
+{
+    struct timespec t;
+    clock_gettime(CLOCK_MONOTONIC, &t);
+    return (double)t.tv_sec * 1e9 + (double)t.tv_nsec;
+}
+
+/* The best time of a frame for each side; false if a round did not hand out all. */
+static bool measure(const struct row *row, double best[SIDES])
+{
+    bool right = true;
+    for (int k = 0; k < SIDES; k++) {
+        sides[k].begin();
+        best[k] = 1e9;
+    }
+    for (uint64_t round = 0; round < ROUNDS; round++) {
+        for (int k = 0; k < SIDES; k++) {
+            double from = nanoseconds();
+            size_t handed = sides[k].run(round * frame_count * STEP);
+            double took = (nanoseconds() - from) / (double)frame_count;
+            if (took < best[k])
+                best[k] = took;
+            right &= handed == (size_t)row->sources * row->turns;
+        }
+    }
+    return right;
+}
+
+/* A frame that is refused by its ID (2), behind the check of the state, with one session in use for each source of the row. */
+static bool measure_check(double *best)
+{
+    const uint8_t tail = 0xC0;
+    bool right = true;
+    *best = 1e9;
+    tecelume_begin();
+    tecelume_run(0);
+    for (int round = 0; round < ROUNDS; round++) {
+        double from = nanoseconds();
+        for (int i = 0; i < REFUSED; i++)
+            right &= tecelume_receive(state, sizeof state, 1u << 29, &tail, 1, 0, out, sizeof out) == TECELUME_ID_TOO_LARGE;
+        double took = (nanoseconds() - from) / REFUSED;
+        if (took < *best)
+            *best = took;
+    }
+    return right;
+}
+
+static bool show_row(const struct row *row)
+{
+    double best[SIDES];
+    make_frames(row);
+    for (int k = 0; k < SIDES; k++) {
+        if (!is_right(&sides[k], row)) {
+            printf("%s: %s hands out the WRONG transfers\n", row->name, sides[k].name);
+            return false;
+        }
+    }
+    bool right = measure(row, best);
+    printf("%-34s %12.1f %12.1f %8.2f\n", row->name, best[0], best[1], best[0] / best[1]);
+    return right;
+}
+
+static bool show_check(const struct row *row)
+{
+    double best;
+    make_frames(row);
+    bool right = measure_check(&best);
+    printf("state check alone, %2u sessions      %12.1f\n", row->sources, best);
+    return right;
+}
+
+int main(void)
+{
+    bool right = true;
+    printf("%-34s %12s %12s %8s\n", "reception", "Tecelume ns", "baseline ns", "ratio");
+    for (int k = 0; k < ROWS; k++)
+        right &= show_row(&rows[k]);
+    right &= show_check(&rows[0]);
+    right &= show_check(&rows[1]);
+    if (!right)
+        printf("a receiver did NOT do its work\n");
+    return !right;
+}

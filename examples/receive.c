@@ -1,0 +1,99 @@
+/* Receives the dynamic node ID allocation that 003 prints as a log: a node without an ID asks in three anonymous messages, and the
+ * allocator, node 1, answers each. Its second and third answer take several frames and a checksum. The receiver is set up as node 1:
+ * it hears both sides, since a message is for everyone, its sender included.
+ *
+ *     gcc -std=c99 -Iinclude -o receive examples/receive.c target/staticlib/libgateway.a && ./receive
+ *
+ * receive.expected holds what this prints. */
+#include <stdio.h>
+
+#include "tecelume.h"
+
+struct frame {
+    uint32_t milliseconds;
+    uint32_t id;
+    uint8_t length;
+    uint8_t data[8];
+};
+
+static const struct frame frames[] = {
+    {1117, 0x1EEE8100, 8, {0x01, 0x44, 0xC0, 0x8B, 0x63, 0x5E, 0x05, 0xC0}},
+    {1117, 0x1E000101, 8, {0x00, 0x44, 0xC0, 0x8B, 0x63, 0x5E, 0x05, 0xC0}},
+    {1406, 0x1EEBE500, 8, {0x00, 0xF4, 0xBC, 0x10, 0x96, 0xDF, 0x11, 0xC1}},
+    {1406, 0x1E000101, 8, {0x05, 0xB0, 0x00, 0x44, 0xC0, 0x8B, 0x63, 0x81}},
+    {1406, 0x1E000101, 8, {0x5E, 0x05, 0xF4, 0xBC, 0x10, 0x96, 0xDF, 0x21}},
+    {1406, 0x1E000101, 2, {0x11, 0x41}},
+    {1485, 0x1E41E100, 6, {0x00, 0xA8, 0xBA, 0x54, 0x47, 0xC2}},
+    {1485, 0x1E000101, 8, {0x29, 0xBA, 0xFA, 0x44, 0xC0, 0x8B, 0x63, 0x82}},
+    {1485, 0x1E000101, 8, {0x5E, 0x05, 0xF4, 0xBC, 0x10, 0x96, 0xDF, 0x22}},
+    {1485, 0x1E000101, 6, {0x11, 0xA8, 0xBA, 0x54, 0x47, 0x42}},
+};
+
+enum { FRAMES = sizeof frames / sizeof frames[0], TYPES = 5, OWN_ID = 1 };
+
+/* The whole memory of the receiver, and the room for a payload. Static, since the state is too large for a small stack. */
+static uint8_t state[TECELUME_RECEIVER_SIZE];
+static uint8_t payload[TECELUME_OUTPUT_SIZE];
+
+/* A transfer is checked under the signature of its type, so a subscription names both. */
+static uint32_t set_up(void)
+{
+    uint8_t list[TYPES * TECELUME_SUBSCRIPTION_SIZE];
+    uint8_t *next = list;
+    next = tecelume_subscription(next, TECELUME_KIND_MESSAGE, 341, 0x0F0868D0C1A7C6F1);    /* NodeStatus */
+    next = tecelume_subscription(next, TECELUME_KIND_MESSAGE, 1, 0x0B2A812620A11D40);      /* Allocation */
+    next = tecelume_subscription(next, TECELUME_KIND_MESSAGE, 16370, 0xE02F25D6E0C98AE0);  /* KeyValue */
+    next = tecelume_subscription(next, TECELUME_KIND_MESSAGE, 16383, 0xD654A48E0C049D75);  /* LogMessage */
+    next = tecelume_subscription(next, TECELUME_KIND_SERVICE, 1, 0xEE468A8121C46A9E);      /* GetNodeInfo */
+    return tecelume_setup(state, sizeof state, OWN_ID, list, (size_t)(next - list));
+}
+
+static void print_bytes(const uint8_t *bytes, size_t length)
+{
+    for (size_t i = 0; i < length; i++)
+        printf(" %02X", (unsigned)bytes[i]);
+    printf("\n");
+}
+
+static void print_frame(const struct frame *f)
+{
+    printf("%u.%03u %08X", (unsigned)(f->milliseconds / 1000), (unsigned)(f->milliseconds % 1000), (unsigned)f->id);
+    print_bytes(f->data, f->length);
+}
+
+static void print_transfer(uint64_t result)
+{
+    static const char *const types[] = {"message", "request", "response"};
+    printf("    %s %u from %u to %u, priority %u, transfer ID %u, %u bytes:", types[tecelume_transfer_type(result)],
+           (unsigned)tecelume_type_id(result), (unsigned)tecelume_source(result), (unsigned)tecelume_destination(result),
+           (unsigned)tecelume_priority(result), (unsigned)tecelume_transfer_id(result), (unsigned)tecelume_length(result));
+    print_bytes(payload, tecelume_length(result));
+}
+
+static void receive(const struct frame *f)
+{
+    uint64_t microseconds = (uint64_t)f->milliseconds * 1000;
+    uint64_t result = tecelume_receive(state, sizeof state, f->id, f->data, f->length, microseconds, payload, sizeof payload);
+    uint32_t number = tecelume_number(result);
+    print_frame(f);
+    printf("    %u, %s\n", (unsigned)number, tecelume_text(number));
+    if (number == TECELUME_HANDED_OUT)
+        print_transfer(result);
+}
+
+int main(void)
+{
+    /* a header and an archive of different versions would not agree on the state */
+    if (tecelume_receiver_size() != TECELUME_RECEIVER_SIZE) {
+        fprintf(stderr, "header and archive do not go together\n");
+        return 1;
+    }
+    uint32_t number = set_up();
+    if (number != TECELUME_SUCCESS) {
+        fprintf(stderr, "setup: %u, %s\n", (unsigned)number, tecelume_text(number));
+        return 1;
+    }
+    for (size_t i = 0; i < FRAMES; i++)
+        receive(&frames[i]);
+    return 0;
+}
