@@ -1,0 +1,17 @@
+-- What a C entry gives: its word and the lent buffers after.
+use mathlib.Core.List.{List}
+use Prim.Native.Nat.{ℕ}
+use Rattle.gateway.specs.Word.{wordOf}
+use Rattle.receiver.specs.Receive.{Result}
+
+pub record Received : Type 0 where
+  pub word : ℕ
+  pub state : List ℕ
+  pub out : List ℕ
+
+abbrev pub entry : ℕ → List ℕ → List ℕ → Received
+entry w m out = record { word = w; state = m; out = out }
+
+-- the Rattle call's result, its answer as a word
+abbrev pub packed : Result → Received
+packed r = entry (wordOf (r .answer)) (r .state) (r .out)
