@@ -1,5 +1,5 @@
 -- Laws of `span` and `splice`: what a store at a place leaves there and elsewhere.
-use mathlib.Core.Path.{_≡_, refl, sym, ap, _∙_}
+use mathlib.Core.Path.{_≡_, refl, sym, ap, ap₂, _∙_}
 use mathlib.Core.Bool.{Bool, true, false}
 use mathlib.Core.List.{List, [], _∷_, _++_, append-assoc, append-nil}
 use Prim.Native.Nat.{ℕ, zero, suc, _+_, _-_, _≤_, _<_}
@@ -117,3 +117,17 @@ splice-same m at ys n l e =
     ∙ ap (λ x. take at m ++ (x ++ drop (at + n) m)) e
     ∙ ap (λ x. take at m ++ (span m at n ++ x)) (sym (drop-drop n at m))
     ∙ ap (λ x. take at m ++ x) (take-append-drop n (drop at m)) ∙ take-append-drop at m
+
+-- ── a list in three parts ──
+
+module _ {A : Type 0} (xs ys zs : List A) (at : ℕ) (front : length xs ≡ at) where
+  -- the part in the middle is read
+  pub span-middle : (n : ℕ) → length ys ≡ n → span (xs ++ (ys ++ zs)) at n ≡ ys
+  span-middle n l = ap (λ x. take n x) (drop-at xs (ys ++ zs) at front) ∙ take-at ys zs n l
+
+  -- the part in the middle is replaced by one as long
+  pub splice-middle : (ws : List A) → length ws ≡ length ys → splice (xs ++ (ys ++ zs)) at ws ≡ xs ++ (ws ++ zs)
+  splice-middle ws l =
+      let d : drop (at + length ws) (xs ++ (ys ++ zs)) ≡ zs =
+      sym (drop-drop (length ws) at (xs ++ (ys ++ zs))) ∙ ap (λ x. drop (length ws) x) (drop-at xs (ys ++ zs) at front) ∙ drop-at ys zs (length ws) (sym l) in
+      ap₂ (λ x y. x ++ (ws ++ y)) (take-at xs (ys ++ zs) at front) d

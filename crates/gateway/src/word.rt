@@ -1,7 +1,9 @@
-// An answer as one number.
+// Answers as numbers.
 use session::Answer;
 use session::Transfer;
+use setup::Outcome;
 ghost use mathlib.Core.Path.{_≡_};
+ghost use Rattle.setup.specs.Setup.{numberOf};
 ghost use Rattle.gateway.specs.Word.{transferWord, wordOf};
 
 fn of_transfer(t: Transfer) -> u64
@@ -14,6 +16,16 @@ fn of_transfer(t: Transfer) -> u64
                     + (t.destination as u64 % 0x80 * 0x80000000000
                         + (t.priority as u64 % 0x20 * 0x4000000000000
                             + t.transfer as u64 % 0x20 * 0x80000000000000)))))
+}
+
+pub fn of_outcome(o: Outcome) -> u32
+    ensures { λ r. ⌜ r ≡ numberOf o ⌝ }
+{
+    match o {
+        Outcome::Done => 0,
+        Outcome::Unacceptable => 13,
+        Outcome::Short => 20,
+    }
 }
 
 pub fn of_answer(a: Answer) -> u64

@@ -1,8 +1,9 @@
 -- Laws of `tabulate` and `every`, as loops use them.
 use mathlib.Core.Path.{_≡_, refl, ap, ap₂, _∙_}
-use mathlib.Core.Bool.{Bool, _&&_}
-use mathlib.Core.List.{List, [], _∷_}
+use mathlib.Core.Bool.{Bool, true, _&&_}
+use mathlib.Core.List.{List, [], _∷_, _++_}
 use Prim.Native.Nat.{ℕ, zero, suc, _+_, _-_, _≤_, _<_}
+use native.Mathlib.Nat.{zero-add, add-zero}
 use native.Mathlib.Omega.{arith}
 use lib.ListN.{length, getD}
 use Rattle.state.specs.Layout.{tabulate}
@@ -15,6 +16,13 @@ module _ {A : Type 0} (f : ℕ → A) where
   pub tab-end : (i n : ℕ) → n ≤ i → tabulate f i (n - i) ≡ []
   tab-end i n h = let k : n - i ≡ 0 = omega arith in rw k
 
+  pub tab-append : (i a b : ℕ) → tabulate f i (a + b) ≡ tabulate f i a ++ tabulate f (i + a) b
+  tab-append i zero b = rw (zero-add, add-zero)
+  tab-append i (suc a) b =
+      let n : suc a + b ≡ suc (a + b) = omega arith in
+      let e : suc i + a ≡ i + suc a = omega arith in
+      ap (tabulate f i) n ∙ ap (λ (l : List A). f i ∷ l) (tab-append (suc i) a b ∙ ap (λ (k : ℕ). tabulate f (suc i) a ++ tabulate f k b) e)
+
   pub length-tabulate : (i n : ℕ) → length (tabulate f i n) ≡ n
   length-tabulate i zero = refl
   length-tabulate i (suc n) = ap suc (length-tabulate (suc i) n)
@@ -22,6 +30,12 @@ module _ {A : Type 0} (f : ℕ → A) where
 pub every-step : (f : ℕ → Bool) (i n : ℕ) → i < n → every f i (n - i) ≡ (f i && every f (suc i) (n - suc i))
 unfolding every
 every-step f i n h = let k : n - i ≡ suc (n - suc i) = omega arith in rw k
+
+pub every-true : (f : ℕ → Bool) (n i : ℕ) → ((l : ℕ) → i ≤ l → l < i + n → f l ≡ true) → every f i n ≡ true
+unfolding every
+every-true f zero i e = refl
+every-true f (suc n) i e =
+    ap (λ (b : Bool). b && every f (suc i) n) (e i (omega arith) (omega arith)) ∙ every-true f n (suc i) (λ l h k. e l (omega arith) (omega arith))
 
 pub tab-same : {A : Type 0} (f g : ℕ → A) (n j : ℕ) → ((l : ℕ) → j ≤ l → l < j + n → f l ≡ g l) → tabulate f j n ≡ tabulate g j n
 tab-same f g zero j e = refl

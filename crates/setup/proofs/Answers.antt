@@ -1,0 +1,32 @@
+-- What a setup answers, by the tests that led there.
+use mathlib.Core.Path.{_≡_, refl, sym, ap, _∙_}
+use mathlib.Core.Bool.{Bool, true, false, _&&_}
+use mathlib.Core.List.{List, _++_}
+use Prim.Native.Nat.{ℕ, _/_, _%_, _≤_, _<_}
+use borrow.Author.Tests.{lt-ltb, le-ltb}
+use lib.Dec.{ltb, leb, eqb}
+use lib.ListN.{length, drop}
+use Rattle.model.specs.Setup.{allFit, acceptable}
+use Rattle.setup.specs.Setup.{recordAt, given, accepted, stateOf, result, setUp}
+use Rattle.setup.specs.declared.Outcome.the-variants.{Done, Unacceptable, Short}
+use Rattle.state.proofs.Tabulate.{length-tabulate}
+use Rattle.state.specs.Layout.{size, tabulate}
+
+pub tests : (own : ℕ) (r : List ℕ) (a b c d : Bool) → eqb (length r % 13) 0 ≡ a → ltb own 128 ≡ b → leb (length r / 13) 64 ≡ c
+    → allFit (tabulate (recordAt r) 0 (length r / 13)) ≡ d → accepted own r ≡ (a && (b && (c && d)))
+unfolding accepted acceptable given
+tests own r a b c d ea eb ec ed = rw (length-tabulate (recordAt r) 0 (length r / 13), ea, eb, ec, ed)
+
+module _ (m : List ℕ) (own : ℕ) (r : List ℕ) where
+  pub short : length m < size → result Short m ≡ setUp m own r
+  unfolding setUp
+  short h = rw (lt-ltb (length m) size h)
+
+  module _ (long : size ≤ length m) where
+    pub refused : accepted own r ≡ false → result Unacceptable m ≡ setUp m own r
+    unfolding setUp
+    refused e = rw (le-ltb (length m) size long, e)
+
+    pub done : accepted own r ≡ true → (m' : List ℕ) → m' ≡ stateOf (given own r) ++ drop size m → result Done m' ≡ setUp m own r
+    unfolding setUp
+    done e m' em = rw (le-ltb (length m) size long, e, em)

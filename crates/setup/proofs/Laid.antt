@@ -1,0 +1,164 @@
+-- The layout while it is written: zeros at first, then one subscription after the other.
+use mathlib.Core.Path.{_≡_, refl, sym, ap, ap₂, _∙_}
+use mathlib.Core.List.{List, [], _∷_, _++_, append-assoc, append-nil}
+use Prim.Native.Nat.{ℕ, suc, _+_, _*_, _-_, _≤_, _<_}
+use native.Mathlib.Nat.{zero-add}
+use native.Mathlib.Omega.{arith}
+use lib.ListN.{length, drop, set, replicate, length-append, length-replicate, replicate-append-replicate}
+use lib.Seq.{drop-at}
+use Rattle.bits.proofs.Little.{length-leBytes}
+use Rattle.bits.proofs.Splice.{splice-middle}
+use Rattle.bits.specs.Little.{leBytes}
+use Rattle.bits.specs.Part.{splice}
+use Rattle.model.specs.Setup.{Subscription, Setup}
+use Rattle.setup.specs.Setup.{signatures, keys, filled, stateOf}
+use Rattle.setup.specs.Subscription.{withSubscription}
+use Rattle.state.proofs.Tabulate.{tab-append, length-tabulate}
+use Rattle.state.specs.Layout.{size, tabulate}
+
+-- ── lists that are filled up with zeros ──
+
+pub zeros : (a b n : ℕ) → n ≡ a + b → (t : List ℕ) → replicate n 0 ++ t ≡ replicate a 0 ++ (replicate b 0 ++ t)
+zeros a b n e t =
+    ap (λ (k : ℕ). replicate k 0 ++ t) e ∙ ap (λ (l : List ℕ). l ++ t) (sym (replicate-append-replicate a b 0)) ∙ append-assoc (replicate a 0) (replicate b 0) t
+
+length-filled : (n : ℕ) (xs : List ℕ) → length xs ≤ n → length (filled n xs) ≡ n
+length-filled n xs h = length-append xs (replicate (n - length xs) 0) ∙ omega (arith, length-replicate {A = ℕ} (n - length xs) 0)
+
+-- a store behind what is there
+fill-more : (pre xs ys post : List ℕ) (n at : ℕ) → length pre + length xs ≡ at → length xs + length ys ≤ n
+    → splice (pre ++ (filled n xs ++ post)) at ys ≡ pre ++ (filled n (xs ++ ys) ++ post)
+fill-more pre xs ys post n at e h =
+    let l : n - length xs ≡ length ys + (n - length (xs ++ ys)) = omega (arith, length-append xs ys) in
+    let zs : List ℕ = replicate (n - length (xs ++ ys)) 0 in
+    let cut : pre ++ (filled n xs ++ post) ≡ (pre ++ xs) ++ (replicate (length ys) 0 ++ (zs ++ post)) =
+    ap (λ (x : List ℕ). pre ++ x) (append-assoc xs (replicate (n - length xs) 0) post ∙ ap (λ (x : List ℕ). xs ++ x) (zeros (length ys) (n - length (xs ++ ys)) (n - length xs) l post))
+    ∙ sym (append-assoc pre xs (replicate (length ys) 0 ++ (zs ++ post))) in
+    ap (λ (x : List ℕ). splice x at ys) cut
+    ∙ splice-middle (pre ++ xs) (replicate (length ys) 0) (zs ++ post) at (length-append pre xs ∙ e) ys (sym (length-replicate (length ys) 0))
+    ∙ simp append-assoc
+
+-- ── the layout ──
+
+-- with these bytes of signatures and of kinds and types, and the bytes past it
+unfoldable pub laid : ℕ → ℕ → List ℕ → List ℕ → List ℕ → List ℕ
+laid own n ss ks rest = own ∷ n ∷ (replicate 6 0 ++ (filled 512 ss ++ (replicate 256 0 ++ (filled 256 ks ++ (replicate 16704 0 ++ rest)))))
+
+-- what stands before the signatures, before the keys, and before the places
+abbrev pub head : ℕ → ℕ → List ℕ
+head own n = own ∷ n ∷ replicate 6 0
+
+abbrev pub toKeys : ℕ → ℕ → List ℕ → List ℕ
+toKeys own n ss = head own n ++ (filled 512 ss ++ replicate 256 0)
+
+abbrev pub toPlaces : ℕ → ℕ → List ℕ → List ℕ → List ℕ
+toPlaces own n ss ks = toKeys own n ss ++ filled 256 ks
+
+module _ (own n : ℕ) (ss ks rest : List ℕ) where
+  pub at-signatures : laid own n ss ks rest ≡ head own n ++ (filled 512 ss ++ (replicate 256 0 ++ (filled 256 ks ++ (replicate 16704 0 ++ rest))))
+  unfolding laid
+  at-signatures = refl
+
+  pub at-keys : laid own n ss ks rest ≡ toKeys own n ss ++ (filled 256 ks ++ (replicate 16704 0 ++ rest))
+  unfolding laid
+  at-keys = ap (λ (x : List ℕ). head own n ++ x) (sym (append-assoc (filled 512 ss) (replicate 256 0) (filled 256 ks ++ (replicate 16704 0 ++ rest))))
+
+  pub at-places : laid own n ss ks rest ≡ toPlaces own n ss ks ++ (replicate 16704 0 ++ rest)
+  at-places = at-keys ∙ sym (append-assoc (toKeys own n ss) (filled 256 ks) (replicate 16704 0 ++ rest))
+
+  module _ (fewS : length ss ≤ 512) (fewK : length ks ≤ 256) where
+    pub length-toKeys : length (toKeys own n ss) ≡ 776
+    length-toKeys = length-append (head own n) (filled 512 ss ++ replicate 256 0) ∙ omega (arith, length-append (filled 512 ss) (replicate 256 0), length-filled 512 ss fewS)
+
+    pub length-toPlaces : length (toPlaces own n ss ks) ≡ 1032
+    length-toPlaces = length-append (toKeys own n ss) (filled 256 ks) ∙ omega (arith, length-toKeys, length-filled 256 ks fewK)
+
+    -- ── one subscription more ──
+
+    pub more-signatures : (ys : List ℕ) (at : ℕ) → 8 + length ss ≡ at → length ss + length ys ≤ 512 → splice (laid own n ss ks rest) at ys ≡ laid own n (ss ++ ys) ks rest
+    unfolding laid
+    more-signatures ys at e h = fill-more (head own n) ss ys (replicate 256 0 ++ (filled 256 ks ++ (replicate 16704 0 ++ rest))) 512 at e h
+
+more-keys : (own n : ℕ) (ss ks rest ys : List ℕ) (at : ℕ) → length ss ≤ 512 → 776 + length ks ≡ at → length ks + length ys ≤ 256
+    → splice (laid own n ss ks rest) at ys ≡ laid own n ss (ks ++ ys) rest
+more-keys own n ss ks rest ys at few e h =
+    let l = length-toKeys own n ss ks rest few (omega arith) in
+    ap (λ (x : List ℕ). splice x at ys) (at-keys own n ss ks rest)
+    ∙ fill-more (toKeys own n ss) ks ys (replicate 16704 0 ++ rest) 256 at (omega arith) h ∙ sym (at-keys own n ss (ks ++ ys) rest)
+
+length-signatures : (xs : List Subscription) → length (signatures xs) ≡ length xs * 8
+unfolding signatures
+length-signatures [] = refl
+length-signatures (a ∷ xs) = length-append (leBytes 8 (a .signature)) (signatures xs) ∙ omega (arith, length-leBytes 8 (a .signature), length-signatures xs)
+
+length-keys : (xs : List Subscription) → length (keys xs) ≡ length xs * 4
+unfolding keys
+length-keys [] = refl
+length-keys (a ∷ xs) = let k = a .kind * 65536 + a .type in length-append (leBytes 4 k) (keys xs) ∙ omega (arith, length-leBytes 4 k, length-keys xs)
+
+signatures-append : (xs ys : List Subscription) → signatures (xs ++ ys) ≡ signatures xs ++ signatures ys
+unfolding signatures
+signatures-append [] ys = refl
+signatures-append (a ∷ xs) ys = rw (signatures-append xs ys, append-assoc)
+
+keys-append : (xs ys : List Subscription) → keys (xs ++ ys) ≡ keys xs ++ keys ys
+unfolding keys
+keys-append [] ys = refl
+keys-append (a ∷ xs) ys = rw (keys-append xs ys, append-assoc)
+
+last-signature : (xs : List Subscription) (a : Subscription) → signatures xs ++ leBytes 8 (a .signature) ≡ signatures (xs ++ (a ∷ []))
+unfolding signatures
+last-signature xs a = ap (λ (x : List ℕ). signatures xs ++ x) (sym (append-nil (leBytes 8 (a .signature)))) ∙ sym (signatures-append xs (a ∷ []))
+
+last-key : (xs : List Subscription) (a : Subscription) → keys xs ++ leBytes 4 (a .kind * 65536 + a .type) ≡ keys (xs ++ (a ∷ []))
+unfolding keys
+last-key xs a = ap (λ (x : List ℕ). keys xs ++ x) (sym (append-nil (leBytes 4 (a .kind * 65536 + a .type)))) ∙ sym (keys-append xs (a ∷ []))
+
+-- of a list of subscriptions
+abbrev pub laidOut : ℕ → ℕ → List Subscription → List ℕ → List ℕ
+laidOut own n xs rest = laid own n (signatures xs) (keys xs) rest
+
+laid-more : (own n : ℕ) (xs : List Subscription) (a : Subscription) (rest : List ℕ) (j : ℕ) → length xs ≡ j → j < 64
+    → withSubscription (laidOut own n xs rest) j a ≡ laidOut own n (xs ++ (a ∷ [])) rest
+unfolding withSubscription
+laid-more own n xs a rest j e h =
+    let ls = length-signatures xs in
+    let lk = length-keys xs in
+    let s = leBytes 8 (a .signature) in
+    let k = leBytes 4 (a .kind * 65536 + a .type) in
+    let n₁ = length-leBytes 8 (a .signature) in
+    let n₂ = length-leBytes 4 (a .kind * 65536 + a .type) in
+    ap (λ (x : List ℕ). splice x (776 + j * 4) k) (more-signatures own n (signatures xs) (keys xs) rest (omega arith) (omega arith) s (8 + j * 8) (omega arith) (omega arith))
+    ∙ more-keys own n (signatures xs ++ s) (keys xs) rest k (776 + j * 4) (omega (arith, length-append (signatures xs) s)) (omega arith) (omega arith)
+    ∙ ap₂ (λ (x y : List ℕ). laid own n x y rest) (last-signature xs a) (last-key xs a)
+
+-- one turn of the loop
+pub laid-turn : (own n : ℕ) (f : ℕ → Subscription) (rest : List ℕ) (j : ℕ) → j < 64
+    → withSubscription (laidOut own n (tabulate f 0 j) rest) j (f j) ≡ laidOut own n (tabulate f 0 (j + 1)) rest
+laid-turn own n f rest j h =
+    laid-more own n (tabulate f 0 j) (f j) rest j (length-tabulate f 0 j) h
+    ∙ ap (λ (x : List Subscription). laidOut own n x rest) (ap (λ (k : ℕ). tabulate f 0 j ++ (f k ∷ [])) (sym (zero-add j)) ∙ sym (tab-append f 0 j 1))
+
+-- ── the first and the last ──
+
+-- zeros, the own ID and the number of subscriptions
+pub laid-first : (own n z : ℕ) (rest : List ℕ) → z ≡ size → set (set (replicate z 0 ++ rest) 0 own) 1 n ≡ laidOut own n [] rest
+unfolding laid signatures keys
+laid-first own n z rest e =
+    ap (λ (x : List ℕ). set (set x 0 own) 1 n)
+    (zeros 8 17728 z e rest ∙ ap (λ (x : List ℕ). replicate 8 0 ++ x) (zeros 512 17216 17728 refl rest ∙ ap (λ (x : List ℕ). replicate 512 0 ++ x)
+    (zeros 256 16960 17216 refl rest ∙ ap (λ (x : List ℕ). replicate 256 0 ++ x) (zeros 256 16704 16960 refl rest))))
+
+pub laid-last : (u : Setup) (rest : List ℕ) → stateOf u ++ rest ≡ laidOut (u .own) (length (u .subscriptions)) (u .subscriptions) rest
+unfolding laid stateOf
+laid-last u rest = simp append-assoc
+
+-- the bytes past the layout
+pub past : (own n : ℕ) (xs : List Subscription) (rest : List ℕ) → length xs ≤ 64 → drop size (laidOut own n xs rest) ≡ rest
+past own n xs rest h =
+    let ls = length-signatures xs in
+    let lk = length-keys xs in
+    let p = toPlaces own n (signatures xs) (keys xs) in
+    let l = length-toPlaces own n (signatures xs) (keys xs) rest (omega arith) (omega arith) in
+    ap (λ (x : List ℕ). drop size x) (at-places own n (signatures xs) (keys xs) rest ∙ sym (append-assoc p (replicate 16704 0) rest))
+    ∙ drop-at (p ++ replicate 16704 0) rest size (length-append p (replicate 16704 0) ∙ omega (arith, length-replicate {A = ℕ} 16704 0))

@@ -1,0 +1,64 @@
+-- 01, Reception: setting a receiver up in lent bytes. The subscriptions come as records of 13 bytes: kind (1), type ID (4, low first),
+-- signature (8, low first).
+use mathlib.Core.Bool.{Bool, true, false, _&&_}
+use mathlib.Core.List.{List, [], _∷_, _++_}
+use Prim.Native.Nat.{ℕ, _+_, _*_, _-_, _/_, _%_}
+use lib.Dec.{ltb, eqb}
+use lib.ListN.{length, getD, drop, replicate}
+use Rattle.bits.specs.Little.{le, leBytes}
+use Rattle.bits.specs.Part.{span}
+use Rattle.model.specs.Setup.{Subscription, Setup, acceptable}
+use Rattle.model.specs.Tests.{pick}
+use Rattle.setup.specs.declared.Outcome.{Outcome}
+use Rattle.setup.specs.declared.Outcome.the-variants.{Done, Unacceptable, Short}
+use Rattle.state.specs.Layout.{size, tabulate}
+
+-- 01, Numbers answered
+abbrev pub numberOf : Outcome → ℕ
+numberOf Done = 0
+numberOf Unacceptable = 13
+numberOf Short = 20
+
+unfoldable pub recordAt : List ℕ → ℕ → Subscription
+recordAt r j = record { kind = getD r (j * 13) 0; type = le (span r (j * 13 + 1) 4); signature = le (span r (j * 13 + 5) 8) }
+
+unfoldable pub given : ℕ → List ℕ → Setup
+given own r = record { own = own; subscriptions = tabulate (recordAt r) 0 (length r / 13) }
+
+-- a list that is no whole number of records is refused too
+unfoldable pub accepted : ℕ → List ℕ → Bool
+accepted own r = eqb (length r % 13) 0 && acceptable (given own r)
+
+-- ── the state of a setup: nothing is held ──
+
+unfoldable pub signatures : List Subscription → List ℕ
+signatures [] = []
+signatures (a ∷ more) = leBytes 8 (a .signature) ++ signatures more
+
+unfoldable pub keys : List Subscription → List ℕ
+keys [] = []
+keys (a ∷ more) = leBytes 4 (a .kind * 65536 + a .type) ++ keys more
+
+-- filled up with zeros to n bytes
+abbrev pub filled : ℕ → List ℕ → List ℕ
+filled n xs = xs ++ replicate (n - length xs) 0
+
+unfoldable pub stateOf : Setup → List ℕ
+stateOf u =
+    u .own ∷ length (u .subscriptions) ∷ (replicate 6 0 ++ (filled 512 (signatures (u .subscriptions))
+    ++ (replicate 256 0 ++ (filled 256 (keys (u .subscriptions)) ++ replicate 16704 0))))
+
+-- ── the call ──
+
+pub record Result : Type 0 where
+  pub answer : Outcome
+  pub state : List ℕ
+
+abbrev pub result : Outcome → List ℕ → Result
+result a m = record { answer = a; state = m }
+
+-- 20 comes first; a refused setup leaves the state as it was; bytes past the layout stay
+unfoldable pub setUp : List ℕ → ℕ → List ℕ → Result
+setUp m own r =
+    pick (ltb (length m) size) (result Short m)
+    (pick (accepted own r) (result Done (stateOf (given own r) ++ drop size m)) (result Unacceptable m))
