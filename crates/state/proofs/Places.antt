@@ -25,11 +25,11 @@ use Rattle.state.proofs.Keys.{key-stream}
 use Rattle.state.proofs.Soundness.{key-lt}
 use Rattle.state.proofs.View.{Clear, length-withKey, key-clear, length-withSession, session-clear, session-back}
 
-and-left : (a b : Bool) → (a && b) ≡ true → a ≡ true
+pub and-left : (a b : Bool) → (a && b) ≡ true → a ≡ true
 and-left true b e = refl
 and-left false b e = e
 
-and-right : (a b : Bool) → (a && b) ≡ true → b ≡ true
+pub and-right : (a b : Bool) → (a && b) ≡ true → b ≡ true
 and-right true b e = e
 and-right false b e = absurd (let z : _≡_ {A = ℕ} 0 1 = cc in omega arith)
 
