@@ -1,7 +1,7 @@
 -- The layout while it is written: zeros at first, then one subscription after the other.
 use mathlib.Core.Path.{_≡_, refl, sym, ap, ap₂, _∙_}
 use mathlib.Core.List.{List, [], _∷_, _++_, append-assoc, append-nil}
-use Prim.Native.Nat.{ℕ, suc, _+_, _*_, _-_, _≤_, _<_}
+use Prim.Native.Nat.{ℕ, _+_, _*_, _-_, _/_, _≤_, _<_}
 use native.Mathlib.Nat.{zero-add}
 use native.Mathlib.Omega.{arith}
 use lib.ListN.{length, drop, set, replicate, length-append, length-replicate, replicate-append-replicate}
@@ -11,7 +11,7 @@ use Rattle.bits.proofs.Splice.{splice-middle}
 use Rattle.bits.specs.Little.{leBytes}
 use Rattle.bits.specs.Part.{splice}
 use Rattle.model.specs.Setup.{Subscription, Setup}
-use Rattle.setup.specs.Setup.{signatures, keys, filled, stateOf}
+use Rattle.setup.specs.Setup.{recordAt, given, signatures, keys, filled, stateOf}
 use Rattle.setup.specs.Subscription.{withSubscription}
 use Rattle.state.proofs.Tabulate.{tab-append, length-tabulate}
 use Rattle.state.specs.Layout.{size, tabulate}
@@ -66,42 +66,41 @@ module _ (own n : ℕ) (ss ks rest : List ℕ) where
   pub at-places : laid own n ss ks rest ≡ toPlaces own n ss ks ++ (replicate 16704 0 ++ rest)
   at-places = at-keys ∙ sym (append-assoc (toKeys own n ss) (filled 256 ks) (replicate 16704 0 ++ rest))
 
-  module _ (fewS : length ss ≤ 512) (fewK : length ks ≤ 256) where
-    pub length-toKeys : length (toKeys own n ss) ≡ 776
-    length-toKeys = length-append (head own n) (filled 512 ss ++ replicate 256 0) ∙ omega (arith, length-append (filled 512 ss) (replicate 256 0), length-filled 512 ss fewS)
+pub length-toKeys : (own n : ℕ) (ss : List ℕ) → length ss ≤ 512 → length (toKeys own n ss) ≡ 776
+length-toKeys own n ss h = length-append (head own n) (filled 512 ss ++ replicate 256 0) ∙ omega (arith, length-append (filled 512 ss) (replicate 256 0), length-filled 512 ss h)
 
-    pub length-toPlaces : length (toPlaces own n ss ks) ≡ 1032
-    length-toPlaces = length-append (toKeys own n ss) (filled 256 ks) ∙ omega (arith, length-toKeys, length-filled 256 ks fewK)
+length-toPlaces : (own n : ℕ) (ss ks : List ℕ) → length ss ≤ 512 → length ks ≤ 256 → length (toPlaces own n ss ks) ≡ 1032
+length-toPlaces own n ss ks h k = length-append (toKeys own n ss) (filled 256 ks) ∙ omega (arith, length-toKeys own n ss h, length-filled 256 ks k)
 
-    -- ── one subscription more ──
+-- ── one subscription more ──
 
-    pub more-signatures : (ys : List ℕ) (at : ℕ) → 8 + length ss ≡ at → length ss + length ys ≤ 512 → splice (laid own n ss ks rest) at ys ≡ laid own n (ss ++ ys) ks rest
-    unfolding laid
-    more-signatures ys at e h = fill-more (head own n) ss ys (replicate 256 0 ++ (filled 256 ks ++ (replicate 16704 0 ++ rest))) 512 at e h
+more-signatures : (own n : ℕ) (ss ks rest ys : List ℕ) (at : ℕ) → 8 + length ss ≡ at → length ss + length ys ≤ 512 → splice (laid own n ss ks rest) at ys ≡ laid own n (ss ++ ys) ks rest
+unfolding laid
+more-signatures own n ss ks rest ys at e h = fill-more (head own n) ss ys (replicate 256 0 ++ (filled 256 ks ++ (replicate 16704 0 ++ rest))) 512 at e h
 
 more-keys : (own n : ℕ) (ss ks rest ys : List ℕ) (at : ℕ) → length ss ≤ 512 → 776 + length ks ≡ at → length ks + length ys ≤ 256
     → splice (laid own n ss ks rest) at ys ≡ laid own n ss (ks ++ ys) rest
 more-keys own n ss ks rest ys at few e h =
-    let l = length-toKeys own n ss ks rest few (omega arith) in
+    let l = length-toKeys own n ss few in
     ap (λ (x : List ℕ). splice x at ys) (at-keys own n ss ks rest)
     ∙ fill-more (toKeys own n ss) ks ys (replicate 16704 0 ++ rest) 256 at (omega arith) h ∙ sym (at-keys own n ss (ks ++ ys) rest)
 
-length-signatures : (xs : List Subscription) → length (signatures xs) ≡ length xs * 8
+pub length-signatures : (xs : List Subscription) → length (signatures xs) ≡ length xs * 8
 unfolding signatures
 length-signatures [] = refl
 length-signatures (a ∷ xs) = length-append (leBytes 8 (a .signature)) (signatures xs) ∙ omega (arith, length-leBytes 8 (a .signature), length-signatures xs)
 
-length-keys : (xs : List Subscription) → length (keys xs) ≡ length xs * 4
+pub length-keys : (xs : List Subscription) → length (keys xs) ≡ length xs * 4
 unfolding keys
 length-keys [] = refl
 length-keys (a ∷ xs) = let k = a .kind * 65536 + a .type in length-append (leBytes 4 k) (keys xs) ∙ omega (arith, length-leBytes 4 k, length-keys xs)
 
-signatures-append : (xs ys : List Subscription) → signatures (xs ++ ys) ≡ signatures xs ++ signatures ys
+pub signatures-append : (xs ys : List Subscription) → signatures (xs ++ ys) ≡ signatures xs ++ signatures ys
 unfolding signatures
 signatures-append [] ys = refl
 signatures-append (a ∷ xs) ys = rw (signatures-append xs ys, append-assoc)
 
-keys-append : (xs ys : List Subscription) → keys (xs ++ ys) ≡ keys xs ++ keys ys
+pub keys-append : (xs ys : List Subscription) → keys (xs ++ ys) ≡ keys xs ++ keys ys
 unfolding keys
 keys-append [] ys = refl
 keys-append (a ∷ xs) ys = rw (keys-append xs ys, append-assoc)
@@ -114,7 +113,7 @@ last-key : (xs : List Subscription) (a : Subscription) → keys xs ++ leBytes 4 
 unfolding keys
 last-key xs a = ap (λ (x : List ℕ). keys xs ++ x) (sym (append-nil (leBytes 4 (a .kind * 65536 + a .type)))) ∙ sym (keys-append xs (a ∷ []))
 
--- of a list of subscriptions
+-- with these subscriptions
 abbrev pub laidOut : ℕ → ℕ → List Subscription → List ℕ → List ℕ
 laidOut own n xs rest = laid own n (signatures xs) (keys xs) rest
 
@@ -128,7 +127,7 @@ laid-more own n xs a rest j e h =
     let k = leBytes 4 (a .kind * 65536 + a .type) in
     let n₁ = length-leBytes 8 (a .signature) in
     let n₂ = length-leBytes 4 (a .kind * 65536 + a .type) in
-    ap (λ (x : List ℕ). splice x (776 + j * 4) k) (more-signatures own n (signatures xs) (keys xs) rest (omega arith) (omega arith) s (8 + j * 8) (omega arith) (omega arith))
+    ap (λ (x : List ℕ). splice x (776 + j * 4) k) (more-signatures own n (signatures xs) (keys xs) rest s (8 + j * 8) (omega arith) (omega arith))
     ∙ more-keys own n (signatures xs ++ s) (keys xs) rest k (776 + j * 4) (omega (arith, length-append (signatures xs) s)) (omega arith) (omega arith)
     ∙ ap₂ (λ (x y : List ℕ). laid own n x y rest) (last-signature xs a) (last-key xs a)
 
@@ -142,23 +141,42 @@ laid-turn own n f rest j h =
 -- ── the first and the last ──
 
 -- zeros, the own ID and the number of subscriptions
-pub laid-first : (own n z : ℕ) (rest : List ℕ) → z ≡ size → set (set (replicate z 0 ++ rest) 0 own) 1 n ≡ laidOut own n [] rest
+pub laid-first : (own n : ℕ) (rest : List ℕ) → set (set (replicate size 0 ++ rest) 0 own) 1 n ≡ laidOut own n [] rest
 unfolding laid signatures keys
-laid-first own n z rest e =
+laid-first own n rest =
     ap (λ (x : List ℕ). set (set x 0 own) 1 n)
-    (zeros 8 17728 z e rest ∙ ap (λ (x : List ℕ). replicate 8 0 ++ x) (zeros 512 17216 17728 refl rest ∙ ap (λ (x : List ℕ). replicate 512 0 ++ x)
+    (zeros 8 17728 size refl rest ∙ ap (λ (x : List ℕ). replicate 8 0 ++ x) (zeros 512 17216 17728 refl rest ∙ ap (λ (x : List ℕ). replicate 512 0 ++ x)
     (zeros 256 16960 17216 refl rest ∙ ap (λ (x : List ℕ). replicate 256 0 ++ x) (zeros 256 16704 16960 refl rest))))
 
+-- the state of a setup
 pub laid-last : (u : Setup) (rest : List ℕ) → stateOf u ++ rest ≡ laidOut (u .own) (length (u .subscriptions)) (u .subscriptions) rest
 unfolding laid stateOf
 laid-last u rest = simp append-assoc
 
--- the bytes past the layout
-pub past : (own n : ℕ) (xs : List Subscription) (rest : List ℕ) → length xs ≤ 64 → drop size (laidOut own n xs rest) ≡ rest
-past own n xs rest h =
-    let ls = length-signatures xs in
-    let lk = length-keys xs in
-    let p = toPlaces own n (signatures xs) (keys xs) in
-    let l = length-toPlaces own n (signatures xs) (keys xs) rest (omega arith) (omega arith) in
-    ap (λ (x : List ℕ). drop size x) (at-places own n (signatures xs) (keys xs) rest ∙ sym (append-assoc p (replicate 16704 0) rest))
-    ∙ drop-at (p ++ replicate 16704 0) rest size (length-append p (replicate 16704 0) ∙ omega (arith, length-replicate {A = ℕ} 16704 0))
+-- the state of the setup that records give
+pub given-laid : (own : ℕ) (r rest : List ℕ) (n : ℕ) → n ≡ length r / 13 → laidOut own n (tabulate (recordAt r) 0 n) rest ≡ stateOf (given own r) ++ rest
+unfolding given
+given-laid own r rest n e =
+    let l : n ≡ length (tabulate (recordAt r) 0 (length r / 13)) = e ∙ sym (length-tabulate (recordAt r) 0 (length r / 13)) in
+    ap (λ (k : ℕ). laidOut own n (tabulate (recordAt r) 0 k) rest) e ∙ ap (λ (k : ℕ). laidOut own k (tabulate (recordAt r) 0 (length r / 13)) rest) l
+    ∙ sym (laid-last (given own r) rest)
+
+-- ── lengths ──
+
+module _ (own n : ℕ) (xs : List Subscription) (few : length xs ≤ 64) where
+  pub places-at : length (toPlaces own n (signatures xs) (keys xs)) ≡ 1032
+  places-at = length-toPlaces own n (signatures xs) (keys xs) (omega (arith, length-signatures xs)) (omega (arith, length-keys xs))
+
+  whole : length (toPlaces own n (signatures xs) (keys xs) ++ replicate 16704 0) ≡ size
+  whole = length-append (toPlaces own n (signatures xs) (keys xs)) (replicate 16704 0) ∙ omega (arith, places-at, length-replicate {A = ℕ} 16704 0)
+
+  split : (rest : List ℕ) → laidOut own n xs rest ≡ (toPlaces own n (signatures xs) (keys xs) ++ replicate 16704 0) ++ rest
+  split rest =
+      at-places own n (signatures xs) (keys xs) rest ∙ sym (append-assoc (toPlaces own n (signatures xs) (keys xs)) (replicate 16704 0) rest)
+
+  -- the bytes past the layout
+  pub past : (rest : List ℕ) → drop size (laidOut own n xs rest) ≡ rest
+  past rest = ap (λ (x : List ℕ). drop size x) (split rest) ∙ drop-at (toPlaces own n (signatures xs) (keys xs) ++ replicate 16704 0) rest size whole
+
+  pub length-laid : (rest : List ℕ) → length (laidOut own n xs rest) ≡ size + length rest
+  length-laid rest = ap length (split rest) ∙ length-append (toPlaces own n (signatures xs) (keys xs) ++ replicate 16704 0) rest ∙ ap (λ (k : ℕ). k + length rest) whole

@@ -1,3 +1,4 @@
 pub mod Records
 pub mod Laid
 pub mod Answers
+pub mod Fresh

@@ -1,6 +1,6 @@
 -- 01, Reception: setting a receiver up in lent bytes. The subscriptions come as records of 13 bytes: kind (1), type ID (4, low first),
 -- signature (8, low first).
-use mathlib.Core.Bool.{Bool, true, false, _&&_}
+use mathlib.Core.Bool.{Bool, _&&_}
 use mathlib.Core.List.{List, [], _∷_, _++_}
 use Prim.Native.Nat.{ℕ, _+_, _*_, _-_, _/_, _%_}
 use lib.Dec.{ltb, eqb}

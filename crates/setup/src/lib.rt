@@ -1,4 +1,6 @@
 // Setting a receiver up in a lent state.
+pub mod laws;
+
 ghost use mathlib.Core.Path.{_≡_};
 ghost use mathlib.Core.List.{_++_};
 ghost use Prim.Native.Nat.{_+_, _*_, _-_, _/_, _≤_, _<_};
@@ -99,7 +101,7 @@ fn put(state: &mut [u8], records: &[u8], j: usize)
     bits::le::put_at(state, 776 + j * 4, 4, k % 256 * 65536 + k / 256);
 }
 
-// The whole layout, for n records that are accepted.
+// The whole layout, from n records.
 fn write(state: &mut [u8], own: u32, records: &[u8], n: usize)
     requires { ⌜ ((size ≤ length (now state)) × (own < 128)) × ((n ≤ 64) × (n ≡ length (now records) / 13)) ⌝ }
     ensures { λ _. ⌜ now (state .exit) ≡ stateOf (given own (now (records .entry))) ++ drop size (now (state .entry)) ⌝ }
@@ -114,7 +116,8 @@ fn write(state: &mut [u8], own: u32, records: &[u8], n: usize)
     }
 }
 
-// Sets a receiver up with its own node ID (0: none yet) and subscriptions.
+// Sets a receiver up with its own node ID (0: none yet) and subscriptions: records of 13 bytes, the kind (0 message, 1 service), the
+// type ID (4, low byte first) and the signature (8, low byte first).
 pub fn setup(state: &mut [u8], own: u32, subscriptions: &[u8]) -> Outcome
     ensures { λ r. ⌜ result r (now (state .exit)) ≡ setUp (now (state .entry)) own (now (subscriptions .entry)) ⌝ }
 {

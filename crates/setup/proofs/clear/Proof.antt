@@ -1,22 +1,19 @@
 -- `clear` meets its contract. The invariant: i zeros, and then what was there.
 use mathlib.Core.Path.{_≡_, refl, sym, ap, _∙_}
-use mathlib.Core.List.{List, [], _∷_, _++_}
-use Prim.Native.Nat.{ℕ, zero, suc, _-_, _≤_, _<_}
+use mathlib.Core.List.{List, _++_}
+use Prim.Native.Nat.{ℕ, suc, _-_, _≤_, _<_}
 use native.Mathlib.Numerals.{add-one}
 use native.Mathlib.Omega.{arith}
 use lib.ListN.{length, drop, set, replicate, length-set, length-replicate}
 use lib.Seq.{drop-cons, set-at}
+use Rattle.setup.proofs.Laid.{zeros}
 use Rattle.setup.proofs.clear.Statement.{statement}
 use Rattle.setup.proofs.clear.Tie as tie
-
-zero-behind : (i : ℕ) (t : List ℕ) → replicate i 0 ++ (0 ∷ t) ≡ replicate (suc i) 0 ++ t
-zero-behind zero t = refl
-zero-behind (suc i) t = ap (λ (l : List ℕ). 0 ∷ l) (zero-behind i t)
 
 turn : (s m : List ℕ) (i : ℕ) → i < length m → s ≡ replicate i 0 ++ drop i m → set s i 0 ≡ replicate (suc i) 0 ++ drop (suc i) m
 turn s m i h e =
     ap (λ (l : List ℕ). set l i 0) (e ∙ ap (λ (l : List ℕ). replicate i 0 ++ l) (drop-cons m i 0 h))
-    ∙ set-at (replicate i 0) _ (drop (suc i) m) 0 i (length-replicate i 0) ∙ zero-behind i (drop (suc i) m)
+    ∙ set-at (replicate i 0) _ (drop (suc i) m) 0 i (length-replicate i 0) ∙ sym (zeros i 1 (suc i) (omega arith) (drop (suc i) m))
 
 abbrev Inv-loop : tie.InvT-loop
 Inv-loop state₀ n i₀ state i = (i ≤ n) × ((length state ≡ length state₀) × (state ≡ replicate i 0 ++ drop i state₀))

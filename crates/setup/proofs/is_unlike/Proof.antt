@@ -1,12 +1,11 @@
 -- `is_unlike` meets its contract: what is left decides.
 use mathlib.Core.Path.{_≡_, refl, sym, ap, _∙_}
 use mathlib.Core.Bool.{true, false}
-use Prim.Native.Nat.{_-_, _+_, _*_}
+use Prim.Native.Nat.{_+_, _-_}
 use native.Mathlib.Omega.{arith}
 use borrow.Author.Tests.{eq-eqb, ne-eqb}
 use Rattle.model.specs.Setup.{unlike}
 use Rattle.setup.specs.Setup.{recordAt}
-use Rattle.setup.specs.Subscription.{Keyed}
 use Rattle.setup.proofs.Records.{unlike-turn}
 use Rattle.state.proofs.Tabulate.{tab-end}
 use Rattle.state.specs.Layout.{tabulate}

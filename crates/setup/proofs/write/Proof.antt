@@ -1,36 +1,32 @@
 -- `write` meets its contract. The invariant: the layout with the first j subscriptions.
 use mathlib.Core.Path.{_≡_, refl, sym, ap, ap₂, _∙_}
-use mathlib.Core.List.{List, [], _∷_, _++_}
-use Prim.Native.Nat.{ℕ, _+_, _-_, _/_, _≤_, _<_}
+use mathlib.Core.List.{List, [], _++_}
+use Prim.Native.Nat.{ℕ, _-_, _/_, _≤_}
 use native.Mathlib.Omega.{arith}
 use lib.ListN.{length, drop, set, replicate, length-set}
 use Rattle.setup.specs.Setup.{recordAt, given, stateOf}
 use Rattle.setup.specs.Subscription.{withSubscription}
-use Rattle.setup.proofs.Laid.{laidOut, laid-turn, laid-first, laid-last, past}
-use Rattle.state.proofs.Tabulate.{length-tabulate}
+use Rattle.setup.proofs.Laid.{laidOut, laid-turn, laid-first, given-laid, past}
 use Rattle.state.specs.Layout.{size, tabulate}
 use Rattle.setup.proofs.write.Statement.{statement}
 use Rattle.setup.proofs.write.Tie as tie
 
--- before the loop: z bytes are cleared, the own ID and the number are written
-module _ (m s : List ℕ) (own n z : ℕ) (all : z ≡ size) (e : s ≡ replicate z 0 ++ drop z m) where
+-- before the loop: all is cleared, the own ID and the number are written
+module _ (m s : List ℕ) (own n : ℕ) (e : s ≡ replicate size 0 ++ drop size m) where
   started : set (set s 0 own) 1 n ≡ laidOut own n [] (drop size m)
-  started = ap (λ (x : List ℕ). set (set x 0 own) 1 n) e ∙ laid-first own n z (drop z m) all ∙ ap (λ (k : ℕ). laidOut own n [] (drop k m)) all
+  started = ap (λ (x : List ℕ). set (set x 0 own) 1 n) e ∙ laid-first own n (drop size m)
 
   behind : drop size (set (set s 0 own) 1 n) ≡ drop size m
-  behind = ap (drop size) started ∙ past own n [] (drop size m) (omega arith)
+  behind = ap (drop size) started ∙ past own n [] (omega arith) (drop size m)
 
-  as-long : length (set (set s 0 own) 1 n) ≡ length s
-  as-long = simp length-set
+as-long : (s : List ℕ) (own n : ℕ) → length (set (set s 0 own) 1 n) ≡ length s
+as-long s own n = simp length-set
 
 -- behind the loop
 finished : (own n j : ℕ) (r s rest rest' : List ℕ) → s ≡ laidOut own n (tabulate (recordAt r) 0 j) rest → j ≡ n → n ≡ length r / 13 → rest ≡ rest'
     → s ≡ stateOf (given own r) ++ rest'
-unfolding given
 finished own n j r s rest rest' e ej en er =
-    let l : n ≡ length (tabulate (recordAt r) 0 (length r / 13)) = en ∙ sym (length-tabulate (recordAt r) 0 (length r / 13)) in
-    e ∙ ap₂ (λ (k : ℕ) (x : List ℕ). laidOut own n (tabulate (recordAt r) 0 k) x) (ej ∙ en) er
-    ∙ ap (λ (k : ℕ). laidOut own k (tabulate (recordAt r) 0 (length r / 13)) rest') l ∙ sym (laid-last (given own r) rest')
+    e ∙ ap₂ (λ (k : ℕ) (x : List ℕ). laidOut own n (tabulate (recordAt r) 0 k) x) ej er ∙ given-laid own r rest' n en
 
 abbrev Inv-loop : tie.InvT-loop
 Inv-loop state₀ own records n j₀ state j = ((j ≤ n) × (length state ≡ length state₀)) × (state ≡ laidOut own n (tabulate (recordAt records) 0 j) (drop size state₀))
@@ -59,14 +55,14 @@ loop-holds c =
     let a = k .before .before .before .before .args in
     let m = a .state .now in
     let s = k .clear .last .0 in
-    ((omega arith, refl), started m s (a .own) (a .n) 17736 refl (k .clear .ensures) ∙ ap (laidOut (a .own) (a .n) []) (sym (behind m s (a .own) (a .n) 17736 refl (k .clear .ensures))))
+    ((omega arith, refl), started m s (a .own) (a .n) (k .clear .ensures) ∙ ap (laidOut (a .own) (a .n) []) (sym (behind m s (a .own) (a .n) (k .clear .ensures))))
 
 put-requires : tie.Need-put-requires Inv-loop μ-loop
 put-requires c κs =
     let l = c .before .before in
     let k = l .before .before .before in
     let a = k .before .before .before .before .args in
-    omega (arith, as-long (a .state .now) (k .clear .last .0) (a .own) (a .n) 17736 refl (k .clear .ensures), k .clear .kept .0, l .loop .inv .0 .1)
+    omega (arith, as-long (k .clear .last .0) (a .own) (a .n), k .clear .kept .0, l .loop .inv .0 .1)
 
 add-j : tie.Need-add-j Inv-loop μ-loop
 add-j c = omega arith
@@ -91,7 +87,7 @@ same-length c =
     let l = c .before in
     let k = l .before .before .before in
     let a = k .before .before .before .before .args in
-    l .loop .inv .0 .1 ∙ as-long (a .state .now) (k .clear .last .0) (a .own) (a .n) 17736 refl (k .clear .ensures) ∙ k .clear .kept .0
+    l .loop .inv .0 .1 ∙ as-long (k .clear .last .0) (a .own) (a .n) ∙ k .clear .kept .0
 
 returns : tie.Need-returns Inv-loop μ-loop
 returns c =
@@ -99,7 +95,7 @@ returns c =
     let k = l .before .before .before in
     let a = k .before .before .before .before .args in
     finished (a .own) (a .n) (l .loop .j) (a .records .now) (l .loop .state) _ (drop size (a .state .now)) (l .loop .inv .1) (omega arith) (omega arith)
-    (behind (a .state .now) (k .clear .last .0) (a .own) (a .n) 17736 refl (k .clear .ensures))
+    (behind (a .state .now) (k .clear .last .0) (a .own) (a .n) (k .clear .ensures))
 
 pub write-spec : {M : Type 1} → statement M
 write-spec =
