@@ -21,7 +21,7 @@ use Rattle.model.specs.Tests.{pick}
 use Rattle.setup.proofs.Laid.{zeros, laid, head, toKeys, toPlaces, at-signatures, at-keys, at-places, length-toKeys, length-signatures, length-keys, signatures-append, keys-append, laidOut, laid-last, given-laid, places-at, length-laid}
 use Rattle.setup.specs.Laws.{Fresh}
 use Rattle.setup.specs.Setup.{recordAt, given, accepted, signatures, keys, filled, stateOf}
-use Rattle.state.proofs.Places.{and-left, and-right}
+use Rattle.state.proofs.Bools.{and-left, and-right}
 use Rattle.state.proofs.Tabulate.{tab-append, length-tabulate, tab-same, every-true}
 use Rattle.state.specs.Layout.{size, tabulate, subscriptionKeyAt, subscriptionAt, setupOf, keyAt, placeAt, placesOf}
 use Rattle.state.specs.Sound.{every, rawFits, soundState}

@@ -13,23 +13,9 @@ use Rattle.model.specs.Table.{Place, empty, held}
 use Rattle.model.specs.Tests.{pick, isEmpty}
 use Rattle.state.specs.Layout.{size, tabulate, setupOf, keyAt, countAt, expectedAt, toggleAt, gatheredAt, sessionAt, placeAt, placesOf, streamOfKey}
 use Rattle.state.specs.Sound.{every, rawFits, soundState}
-use Rattle.state.proofs.Places.{and-left, and-right}
-
-every-at : (f : ℕ → Bool) (n i : ℕ) → every f i n ≡ true → (l : ℕ) → i ≤ l → l < i + n → f l ≡ true
-unfolding every
-every-at f zero i e l h k = absurd (omega arith)
-every-at f (suc n) i e l h k = go (λ p. every-at f n (suc i) (and-right (f i) (every f (suc i) n) e) l p (omega arith)) (ltb i l) refl where
-  go : (suc i ≤ l → f l ≡ true) → (b : Bool) → ltb i l ≡ b → f l ≡ true
-  go later true p = later (ltb-true i l p)
-  go later false p =
-      let q : i ≡ l = omega (arith, ltb-false i l p) in
-      ap f (sym q) ∙ and-left (f i) (every f (suc i) n) e
-
--- all places are in range: every one is
-fit-every : (f : ℕ → Place) (n i : ℕ) → placesFit (tabulate f i n) ≡ every (λ l. placeFits (f l)) i n
-unfolding every
-fit-every f zero i = refl
-fit-every f (suc n) i = ap (λ (b : Bool). placeFits (f i) && b) (fit-every f n (suc i))
+use Rattle.state.proofs.Bools.{and-left, and-right}
+use Rattle.state.proofs.Soundness.{fit-every}
+use Rattle.state.proofs.Tabulate.{every-at}
 
 module _ (m : List ℕ) (fine : soundState m ≡ true) where
   pub long : size ≤ length m

@@ -1,3 +1,4 @@
+pub mod Bools
 pub mod Keys
 pub mod Stored
 pub mod Lowest

@@ -21,17 +21,10 @@ use Rattle.model.specs.Tests.{pick}
 use Rattle.state.specs.Layout.{size, tabulate, keyAt, countAt, expectedAt, toggleAt, timeAt, gatheredAt, sessionAt, placeAt, placesOf, keyOf, streamOfKey}
 use Rattle.state.specs.Place.{one, controlOf, withKey, withSession, withPlace, written}
 use Rattle.state.specs.Sound.{rawFits}
+use Rattle.state.proofs.Bools.{and-left, and-right}
 use Rattle.state.proofs.Keys.{key-stream}
 use Rattle.state.proofs.Soundness.{key-lt}
 use Rattle.state.proofs.View.{Clear, length-withKey, key-clear, length-withSession, session-clear, session-back}
-
-pub and-left : (a b : Bool) → (a && b) ≡ true → a ≡ true
-and-left true b e = refl
-and-left false b e = e
-
-pub and-right : (a b : Bool) → (a && b) ≡ true → b ≡ true
-and-right true b e = e
-and-right false b e = absurd (let z : _≡_ {A = ℕ} 0 1 = cc in omega arith)
 
 -- what a place may be written with
 abbrev pub Few : Place → Type 0

@@ -1,79 +1,90 @@
--- The test of a lent state, place by place: from one place to those behind it, and from the whole to any place.
+-- The test of a lent state, place by place, is the test of its table.
 use mathlib.Core.Path.{_≡_, refl, sym, ap, ap₂, _∙_}
 use mathlib.Core.Bool.{Bool, true, false, not, _&&_, _||_}
 use mathlib.Core.List.{List, [], _∷_, _++_}
 use Prim.Native.Nat.{ℕ, zero, suc, _+_, _*_, _-_, _≤_, _<_}
-use native.Mathlib.Nat.{zero-add, sub-zero}
+use native.Mathlib.Nat.{zero-add}
 use native.Mathlib.Omega.{arith}
-use borrow.Author.Tests.{eq-eqb, ne-eqb, eqb-true, eqb-false, le-leb, lt-leb, leb-true, leb-false, lt-ltb, le-ltb, ltb-true, ltb-false}
+use borrow.Author.Tests.{eq-eqb, ne-eqb, eqb-true, eqb-false, leb-true, lt-ltb, le-ltb, ltb-true, ltb-false}
 use lib.Dec.{eqb, ltb, leb}
-use lib.ListN.{length, replicate, set, take, drop, length-append}
-use lib.Seq.{length-take-le}
+use lib.ListN.{length}
 use Rattle.bits.specs.Order.{Octets}
 use Rattle.bits.specs.Part.{span}
 use Rattle.bits.proofs.Little.{le-lt}
 use Rattle.bits.proofs.Octets.{octets-span}
 use Rattle.bits.proofs.Splice.{length-span}
-use Rattle.model.specs.Frame.{Stream, sameStream}
 use Rattle.model.specs.Sound.{streamFits, sessionFits, placeFits, placesFit, noneHolds, notAgain, apart, sound}
 use Rattle.model.specs.Table.{Place, empty, held, holds}
 use Rattle.model.specs.Tests.{pick, isEmpty}
 use Rattle.state.specs.Layout.{size, tabulate, keyAt, countAt, expectedAt, toggleAt, gatheredAt, sessionAt, placeAt, placesOf, streamOfKey}
 use Rattle.state.specs.Place.{one}
-use Rattle.state.specs.Sound.{every, rawFits, controlFits, times, placeSound, soundFrom}
+use Rattle.state.specs.Sound.{every, rawFits, controlFits, times, keysOf, placeSound}
+use Rattle.state.proofs.Bools.{and-left, and-right}
 use Rattle.state.proofs.Keys.{same-key}
-use Rattle.state.proofs.Tabulate.{tab-step, every-step}
-
--- the keys of the places from i on, behind i zeros: what the loop has seen
-abbrev pub keysFrom : List ℕ → ℕ → List ℕ
-keysFrom m i = replicate i 0 ++ tabulate (keyAt m) i (32 - i)
+use Rattle.state.proofs.Tabulate.{tab-step, tab-append, every-at, every-true}
 
 -- ── Booleans ──
 
-regroup : (a b c r s t : Bool) → ((a && r) && ((b && s) && (c && t))) ≡ ((a && (b && c)) && (r && (s && t)))
-regroup true true true r s t = refl
-regroup true true false true true t = refl
-regroup true true false true false t = refl
-regroup true true false false s t = refl
-regroup true false c true s t = refl
-regroup true false c false s t = refl
-regroup false b c r s t = refl
+-- two tests that imply each other
+same-test : (a b : Bool) → (a ≡ true → b ≡ true) → (b ≡ true → a ≡ true) → a ≡ b
+same-test true b f g = sym (f refl)
+same-test false true f g = g refl
+same-test false false f g = refl
 
-and-false : (b : Bool) → (b && false) ≡ false
-and-false true = refl
-and-false false = refl
+-- ── counting keys ──
 
--- ── one place ──
-
--- what is asked of place i: its own fields, and that no later place has its stream
-abbrev pub here : List ℕ → ℕ → Bool
-here m i = rawFits m i && (placeFits (placeAt m i) && notAgain (placeAt m i) (tabulate (placeAt m) (suc i) (32 - suc i)))
-
-pub sound-step : (m : List ℕ) (i : ℕ) → i < 32 → soundFrom m i ≡ (here m i && soundFrom m (suc i))
-unfolding soundFrom
-sound-step m i h =
-    rw (every-step (rawFits m) i 32, tab-step (placeAt m) i 32)
-    (regroup (rawFits m i) (placeFits (placeAt m i)) (notAgain (placeAt m i) (tabulate (placeAt m) (suc i) (32 - suc i)))
-    (every (rawFits m) (suc i) (32 - suc i)) (placesFit (tabulate (placeAt m) (suc i) (32 - suc i))) (apart (tabulate (placeAt m) (suc i) (32 - suc i))))
-
--- a fault anywhere is a fault of the whole
-pub fault-down : (m : List ℕ) (i : ℕ) → i < 32 → soundFrom m i ≡ false → soundFrom m 0 ≡ false
-fault-down m zero h e = e
-fault-down m (suc i) h e = fault-down m i (omega arith) (sound-step m i (omega arith) ∙ ap (λ (b : Bool). here m i && b) e ∙ and-false (here m i))
-
--- ── the keys that were seen ──
-
-times-zeros : (k n : ℕ) (xs : List ℕ) → (k ≡ 0 → ⊥) → times k (replicate n 0 ++ xs) ≡ times k xs
+times-append : (k : ℕ) (xs ys : List ℕ) → times k (xs ++ ys) ≡ times k xs + times k ys
 unfolding times
-times-zeros k zero xs z = refl
-times-zeros k (suc n) xs z =
-    let q : eqb 0 k ≡ false = ne-eqb 0 k (λ e. z (sym e)) in
-    rw q (zero-add (times k (replicate n 0 ++ xs)) ∙ times-zeros k n xs z)
+times-append k [] ys = sym (zero-add (times k ys))
+times-append k (x ∷ xs) ys = let ih : times k (xs ++ ys) ≡ times k xs + times k ys = times-append k xs ys in omega arith
 
--- the place behind has been stored in front of the keys seen
-pub set-zeros : (j k : ℕ) (xs : List ℕ) → set (replicate (suc j) 0 ++ xs) j k ≡ replicate j 0 ++ (k ∷ xs)
-set-zeros zero k xs = refl
-set-zeros (suc j) k xs = ap (λ (l : List ℕ). 0 ∷ l) (set-zeros j k xs)
+-- the count over all places: those before i, place i, those behind
+times-split : (f : ℕ → ℕ) (k i : ℕ) → i < 32
+    → times k (tabulate f 0 32) ≡ times k (tabulate f 0 i) + (one (eqb (f i) k) + times k (tabulate f (suc i) (32 - suc i)))
+unfolding times
+times-split f k i h =
+    let e : i + (32 - i) ≡ 32 = omega arith in
+    ap (λ (n : ℕ). times k (tabulate f 0 n)) (sym e) ∙ ap (times k) (tab-append f 0 i (32 - i)) ∙ times-append k (tabulate f 0 i) (tabulate f (0 + i) (32 - i))
+    ∙ ap (λ (n : ℕ). times k (tabulate f 0 i) + times k (tabulate f n (32 - i))) (zero-add i)
+    ∙ ap (λ (xs : List ℕ). times k (tabulate f 0 i) + times k xs) (tab-step f i 32 h)
+
+-- a key that does not stand in a list, and one that is nowhere in it
+times-none : (f : ℕ → ℕ) (k n i : ℕ) → times k (tabulate f i n) ≡ 0 → (l : ℕ) → i ≤ l → l < i + n → f l ≡ k → ⊥
+unfolding times
+times-none f k zero i e l a b q = absurd (omega arith)
+times-none f k (suc n) i e l a b q = go (λ h. times-none f k n (suc i) (omega arith) l h (omega arith) q) (ltb i l) refl where
+  go : (suc i ≤ l → ⊥) → (c : Bool) → ltb i l ≡ c → ⊥
+  go later true p = later (ltb-true i l p)
+  go later false p =
+      let same : i ≡ l = omega (arith, ltb-false i l p) in
+      let o : one (eqb (f i) k) ≡ 1 = ap one (eq-eqb (f i) k (ap f same ∙ q)) in
+      omega arith
+
+times-zero : (f : ℕ → ℕ) (k n i : ℕ) → ((l : ℕ) → i ≤ l → l < i + n → f l ≡ k → ⊥) → times k (tabulate f i n) ≡ 0
+unfolding times
+times-zero f k zero i e = refl
+times-zero f k (suc n) i e =
+    let o : one (eqb (f i) k) ≡ 0 = ap one (ne-eqb (f i) k (e i (omega arith) (omega arith))) in
+    let r : times k (tabulate f (suc i) n) ≡ 0 = times-zero f k n (suc i) (λ l a b. e l (omega arith) (omega arith)) in
+    omega arith
+
+-- ── the table's tests, place by place ──
+
+-- no place behind l holds its stream
+abbrev pub again : (ℕ → Place) → ℕ → ℕ → Bool
+again f e l = notAgain (f l) (tabulate f (suc l) (e - suc l))
+
+pub fit-every : (f : ℕ → Place) (n i : ℕ) → placesFit (tabulate f i n) ≡ every (λ l. placeFits (f l)) i n
+unfolding every
+fit-every f zero i = refl
+fit-every f (suc n) i = ap (λ (b : Bool). placeFits (f i) && b) (fit-every f n (suc i))
+
+apart-every : (f : ℕ → Place) (n i e : ℕ) → i + n ≡ e → apart (tabulate f i n) ≡ every (again f e) i n
+unfolding every
+apart-every f zero i e q = refl
+apart-every f (suc n) i e q =
+    let r : n ≡ e - suc i = omega arith in
+    ap₂ (λ (k : ℕ) (b : Bool). notAgain (f i) (tabulate f (suc i) k) && b) r (apart-every f n (suc i) e (omega arith))
 
 module _ (m : List ℕ) (bytes : Octets m) (long : size ≤ length m) where
   pub key-lt : (j : ℕ) → j < 32 → keyAt m j < 4294967296
@@ -142,27 +153,97 @@ module _ (m : List ℕ) (bytes : Octets m) (long : size ≤ length m) where
           (shuffle (ltb (toggleAt m i) 2) (ltb (expectedAt m i) 32) (not (eqb (toggleAt m i) 1) || not (eqb n 0))
           ∙ ap (λ (b : Bool). ltb (expectedAt m i) 32 && b) (toggles n (toggleAt m i)))
 
-  -- ── one place, as the code tests it ──
+  -- ── from the test of every place to the table, and back ──
 
-  group : (r a s n : Bool) → (r && ((a && s) && n)) ≡ (a && ((r && s) && n))
-  group true a s n = assoc a s n where
-    assoc : (a s n : Bool) → ((a && s) && n) ≡ (a && (s && n))
-    assoc true s n = refl
-    assoc false s n = refl
-  group false true s n = refl
-  group false false s n = refl
+  held-place : (i : ℕ) → (keyAt m i ≡ 0 → ⊥) → placeAt m i ≡ held (streamOfKey (keyAt m i)) (sessionAt m i)
+  unfolding placeAt
+  held-place i z = rw (ne-eqb (keyAt m i) 0 z)
 
-  pub here-is : (i k : ℕ) → i < 32 → k ≡ keyAt m i → placeSound m i k (keysFrom m (suc i)) ≡ here m i
-  unfolding placeSound rawFits placeAt
-  here-is i k h e = go (eqb (keyAt m i) 0) refl where
-    behind : (z : keyAt m i ≡ 0 → ⊥) → noneHolds (streamOfKey (keyAt m i)) (tabulate (placeAt m) (suc i) (32 - suc i)) ≡ eqb (times (keyAt m i) (keysFrom m (suc i))) 0
-    behind z =
-        none-behind (keyAt m i) z (key-lt i h) (32 - suc i) (suc i) (omega arith)
-        ∙ ap (λ (t : ℕ). eqb t 0) (sym (times-zeros (keyAt m i) (suc i) (tabulate (keyAt m) (suc i) (32 - suc i)) z))
+  empty-place : (i : ℕ) → keyAt m i ≡ 0 → placeAt m i ≡ empty
+  unfolding placeAt
+  empty-place i z = rw (eq-eqb (keyAt m i) 0 z)
 
-    go : (b : Bool) → eqb (keyAt m i) 0 ≡ b → placeSound m i k (keysFrom m (suc i)) ≡ here m i
-    go true q = rw (e, q)
-    go false q =
-        rw (e, q, behind (eqb-false (keyAt m i) 0 q))
-        (sym (group (leb (countAt m i) 514 && ltb (toggleAt m i) 2) (streamFits (streamOfKey (keyAt m i))) (sessionFits (sessionAt m i)) (eqb (times (keyAt m i) (keysFrom m (suc i))) 0)
-        ∙ ap (λ (b : Bool). streamFits (streamOfKey (keyAt m i)) && (b && eqb (times (keyAt m i) (keysFrom m (suc i))) 0)) (controls i h)))
+  -- what the table asks of place i
+  pub record Here (i : ℕ) : Type 0 where
+    pub raw : rawFits m i ≡ true
+    pub fits : placeFits (placeAt m i) ≡ true
+    pub once : again (placeAt m) 32 i ≡ true
+
+  to-table : (i : ℕ) → i < 32 → placeSound m i ≡ true → Here i
+  unfolding placeSound rawFits
+  to-table i h = go (eqb (keyAt m i) 0) refl where
+    go : (b : Bool) → eqb (keyAt m i) 0 ≡ b
+        → (b || (streamFits (streamOfKey (keyAt m i)) && (controlFits m i && eqb (times (keyAt m i) (keysOf m)) 1))) ≡ true → Here i
+    go true e t =
+        let p = empty-place i (eqb-true (keyAt m i) 0 e) in
+        record { raw = rw e; fits = rw p; once = rw p }
+    go false e t =
+        let k = keyAt m i in
+        let z = eqb-false k 0 e in
+        let p = held-place i z in
+        let rest = and-right (streamFits (streamOfKey k)) (controlFits m i && eqb (times k (keysOf m)) 1) t in
+        let r = controls i h ∙ and-left (controlFits m i) (eqb (times k (keysOf m)) 1) rest in
+        let one-time : times k (keysOf m) ≡ 1 = eqb-true (times k (keysOf m)) 1 (and-right (controlFits m i) (eqb (times k (keysOf m)) 1) rest) in
+        let self : one (eqb k k) ≡ 1 = ap one (eq-eqb k k refl) in
+        let none : times k (tabulate (keyAt m) (suc i) (32 - suc i)) ≡ 0 = omega (arith, times-split (keyAt m) k i h) in
+        record {
+          raw = rw e (and-left (leb (countAt m i) 514 && ltb (toggleAt m i) 2) (sessionFits (sessionAt m i)) r);
+          fits = rw (p, and-left (streamFits (streamOfKey k)) (controlFits m i && eqb (times k (keysOf m)) 1) t)
+              (and-right (leb (countAt m i) 514 && ltb (toggleAt m i) 2) (sessionFits (sessionAt m i)) r);
+          once = rw p (none-behind k z (key-lt i h) (32 - suc i) (suc i) (omega arith) ∙ eq-eqb (times k (tabulate (keyAt m) (suc i) (32 - suc i))) 0 none);
+        }
+
+  from-table : ((l : ℕ) → l < 32 → Here l) → (i : ℕ) → i < 32 → placeSound m i ≡ true
+  unfolding placeSound rawFits
+  from-table t i h = go (eqb (keyAt m i) 0) refl where
+    none-before : (keyAt m i ≡ 0 → ⊥) → (j : ℕ) → 0 ≤ j → j < 0 + i → keyAt m j ≡ keyAt m i → ⊥
+    none-before z j a b e =
+        let zj : keyAt m j ≡ 0 → ⊥ = λ q. z (sym e ∙ q) in
+        let o : noneHolds (streamOfKey (keyAt m j)) (tabulate (placeAt m) (suc j) (32 - suc j)) ≡ true = rw (held-place j zj) at (t j (omega arith) .once) in
+        let q : times (keyAt m j) (tabulate (keyAt m) (suc j) (32 - suc j)) ≡ 0 =
+        eqb-true (times (keyAt m j) (tabulate (keyAt m) (suc j) (32 - suc j))) 0 (sym (none-behind (keyAt m j) zj (key-lt j (omega arith)) (32 - suc j) (suc j) (omega arith)) ∙ o) in
+        times-none (keyAt m) (keyAt m j) (32 - suc j) (suc j) q i (omega arith) (omega arith) (sym e)
+
+    go : (b : Bool) → eqb (keyAt m i) 0 ≡ b
+        → (b || (streamFits (streamOfKey (keyAt m i)) && (controlFits m i && eqb (times (keyAt m i) (keysOf m)) 1))) ≡ true
+    go true e = refl
+    go false e =
+        let k = keyAt m i in
+        let z = eqb-false k 0 e in
+        let w = t i h in
+        let f : (streamFits (streamOfKey k) && sessionFits (sessionAt m i)) ≡ true = rw (held-place i z) at (w .fits) in
+        let r : (leb (countAt m i) 514 && ltb (toggleAt m i) 2) ≡ true = rw e at (w .raw) in
+        let c : controlFits m i ≡ true = sym (controls i h) ∙ ap₂ (λ (x y : Bool). x && y) r (and-right (streamFits (streamOfKey k)) (sessionFits (sessionAt m i)) f) in
+        let o : noneHolds (streamOfKey k) (tabulate (placeAt m) (suc i) (32 - suc i)) ≡ true = rw (held-place i z) at (w .once) in
+        let behind : times k (tabulate (keyAt m) (suc i) (32 - suc i)) ≡ 0 =
+        eqb-true (times k (tabulate (keyAt m) (suc i) (32 - suc i))) 0 (sym (none-behind k z (key-lt i h) (32 - suc i) (suc i) (omega arith)) ∙ o) in
+        let before : times k (tabulate (keyAt m) 0 i) ≡ 0 = times-zero (keyAt m) k i 0 (none-before z) in
+        let self : one (eqb k k) ≡ 1 = ap one (eq-eqb k k refl) in
+        let total : times k (keysOf m) ≡ 1 = omega (arith, times-split (keyAt m) k i h) in
+        rw (and-left (streamFits (streamOfKey k)) (sessionFits (sessionAt m i)) f, c, eq-eqb (times k (keysOf m)) 1 total)
+
+  pub whole : every (placeSound m) 0 32 ≡ (every (rawFits m) 0 32 && sound (placesOf m))
+  unfolding sound placesOf
+  whole = same-test (every (placeSound m) 0 32) _ forth back where
+    forth : every (placeSound m) 0 32 ≡ true → (every (rawFits m) 0 32 && (placesFit (tabulate (placeAt m) 0 32) && apart (tabulate (placeAt m) 0 32))) ≡ true
+    forth e =
+        let t : (l : ℕ) → 0 ≤ l → l < 0 + 32 → Here l = λ l a b. to-table l (omega arith) (every-at (placeSound m) 32 0 e l a b) in
+        rw (
+          every-true (rawFits m) 32 0 (λ l a b. t l a b .raw),
+          fit-every (placeAt m) 32 0,
+          every-true (λ l. placeFits (placeAt m l)) 32 0 (λ l a b. t l a b .fits),
+          apart-every (placeAt m) 32 0 32 refl,
+          every-true (again (placeAt m) 32) 32 0 (λ l a b. t l a b .once),
+        )
+
+    back : (every (rawFits m) 0 32 && (placesFit (tabulate (placeAt m) 0 32) && apart (tabulate (placeAt m) 0 32))) ≡ true → every (placeSound m) 0 32 ≡ true
+    back e =
+        let r = and-left (every (rawFits m) 0 32) _ e in
+        let g = and-right (every (rawFits m) 0 32) (placesFit (tabulate (placeAt m) 0 32) && apart (tabulate (placeAt m) 0 32)) e in
+        let f = sym (fit-every (placeAt m) 32 0) ∙ and-left (placesFit (tabulate (placeAt m) 0 32)) (apart (tabulate (placeAt m) 0 32)) g in
+        let o = sym (apart-every (placeAt m) 32 0 32 refl) ∙ and-right (placesFit (tabulate (placeAt m) 0 32)) (apart (tabulate (placeAt m) 0 32)) g in
+        every-true (placeSound m) 32 0 (λ l a b. from-table (λ j h. record {
+          raw = every-at (rawFits m) 32 0 r j (omega arith) (omega arith);
+          fits = every-at (λ x. placeFits (placeAt m x)) 32 0 f j (omega arith) (omega arith);
+          once = every-at (again (placeAt m) 32) 32 0 o j (omega arith) (omega arith);
+        }) l (omega arith))

@@ -1,12 +1,12 @@
 -- 01, Numbers answered, 20: a lent state without a fault.
 use mathlib.Core.Bool.{Bool, true, _&&_, _||_}
 use mathlib.Core.List.{List, [], _∷_}
-use Prim.Native.Nat.{ℕ, zero, suc, _+_, _-_}
+use Prim.Native.Nat.{ℕ, zero, suc, _+_}
 use lib.Dec.{ltb, leb, eqb}
 use lib.ListN.{length}
-use Rattle.model.specs.Sound.{streamFits, placesFit, apart, sound}
+use Rattle.model.specs.Sound.{streamFits, sound}
 use Rattle.model.specs.Setup.{acceptable}
-use Rattle.state.specs.Layout.{size, tabulate, setupOf, keyAt, countAt, expectedAt, toggleAt, streamOfKey, placeAt, placesOf}
+use Rattle.state.specs.Layout.{size, tabulate, setupOf, keyAt, countAt, expectedAt, toggleAt, streamOfKey, placesOf}
 use Rattle.state.specs.Place.{one}
 
 -- what the view does not show: a count and a toggle that are out of range
@@ -22,7 +22,7 @@ every f i (suc n) = f i && every f (suc i) n
 unfoldable pub soundState : List ℕ → Bool
 soundState m = leb size (length m) && (acceptable (setupOf m) && (every (rawFits m) 0 32 && sound (placesOf m)))
 
--- ── the same, place by place from the last to the first: what the code tests ──
+-- ── the same, place by place: what the code tests ──
 
 -- the bytes in hand, the expected transfer ID and the toggle of place i
 unfoldable pub controlFits : List ℕ → ℕ → Bool
@@ -34,11 +34,10 @@ unfoldable pub times : ℕ → List ℕ → ℕ
 times k [] = 0
 times k (x ∷ xs) = one (eqb x k) + times k xs
 
--- place i, with the key k, while the places behind it have the keys `seen`
-unfoldable pub placeSound : List ℕ → ℕ → ℕ → List ℕ → Bool
-placeSound m i k seen = eqb k 0 || (streamFits (streamOfKey k) && (controlFits m i && eqb (times k seen) 0))
+abbrev pub keysOf : List ℕ → List ℕ
+keysOf m = tabulate (keyAt m) 0 32
 
--- the places from i on
-unfoldable pub soundFrom : List ℕ → ℕ → Bool
-soundFrom m i =
-    every (rawFits m) i (32 - i) && (placesFit (tabulate (placeAt m) i (32 - i)) && apart (tabulate (placeAt m) i (32 - i)))
+-- place i is empty, or in range and alone with its stream
+unfoldable pub placeSound : List ℕ → ℕ → Bool
+placeSound m i =
+    eqb (keyAt m i) 0 || (streamFits (streamOfKey (keyAt m i)) && (controlFits m i && eqb (times (keyAt m i) (keysOf m)) 1))

@@ -2,12 +2,11 @@
 use super::place;
 use super::subscription;
 ghost use mathlib.Core.Path.{_≡_};
-ghost use mathlib.Core.Bool.{not};
 ghost use Prim.Native.Nat.{_≤_, _<_};
 ghost use lib.ListN.{length};
 ghost use Rattle.model.specs.Sound.{streamFits};
 ghost use Rattle.state.specs.Layout.{size, streamOfKey};
-ghost use Rattle.state.specs.Sound.{controlFits, times, placeSound, soundFrom, soundState};
+ghost use Rattle.state.specs.Sound.{every, controlFits, times, keysOf, placeSound, soundState};
 
 // The stream of a key is in range.
 fn stream_fits(k: u32) -> bool
@@ -51,47 +50,44 @@ fn control_fits(state: &[u8], i: usize) -> bool
     false
 }
 
-// How often k was seen. No early exit: over a fixed number of keys the loop becomes a few vector compares.
-fn count(seen: &[u32; 32], k: u32) -> u32
-    requires { ⌜ length (now seen) ≡ 32 ⌝ }
-    ensures { λ r. ⌜ r ≡ times k (now (seen .entry)) ⌝ }
+// How many places have the key k. No early exit: over a fixed number of keys the loop becomes a few vector compares.
+fn count(state: &[u8], k: u32) -> u32
+    requires { ⌜ size ≤ length (now state) ⌝ }
+    ensures { λ r. ⌜ r ≡ times k (keysOf (now (state .entry))) ⌝ }
 {
     let mut hits: u32 = 0;
     let mut j: usize = 0;
     while j < 32 {
-        hits += (seen[j] == k) as u32;
+        hits += (place::key(state, j) == k) as u32;
         j += 1;
     }
     hits
 }
 
-fn place_sound(state: &[u8], i: usize, k: u32, seen: &[u32; 32]) -> bool
-    requires { ⌜ ((i < 32) × (size ≤ length (now state))) × (length (now seen) ≡ 32) ⌝ }
-    ensures { λ r. ⌜ r ≡ placeSound (now (state .entry)) i k (now (seen .entry)) ⌝ }
+fn place_sound(state: &[u8], i: usize) -> bool
+    requires { ⌜ (i < 32) × (size ≤ length (now state)) ⌝ }
+    ensures { λ r. ⌜ r ≡ placeSound (now (state .entry)) i ⌝ }
 {
+    let k = place::key(state, i);
     if k == 0 {
         return true;
     }
     if stream_fits(k) {
         if control_fits(state, i) {
-            return count(seen, k) == 0;
+            return count(state, k) == 1;
         }
     }
     false
 }
 
-// From the last place to the first, so that the keys seen are those behind a place.
 fn places_sound(state: &[u8]) -> bool
     requires { ⌜ size ≤ length (now state) ⌝ }
-    ensures { λ r. ⌜ r ≡ soundFrom (now (state .entry)) 0 ⌝ }
+    ensures { λ r. ⌜ r ≡ every (placeSound (now (state .entry))) 0 32 ⌝ }
 {
-    let mut seen = [0u32; 32];
-    let mut i: usize = 32;
-    while 0 < i {
-        i -= 1;
-        let k = place::key(state, i);
-        if place_sound(state, i, k, &seen) {
-            seen[i] = k;
+    let mut i: usize = 0;
+    while i < 32 {
+        if place_sound(state, i) {
+            i += 1;
         } else {
             return false;
         }

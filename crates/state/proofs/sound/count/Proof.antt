@@ -1,56 +1,50 @@
 -- `sound::count` meets its contract: the hits so far and those to come.
 use mathlib.Core.Path.{_≡_, refl, sym, ap, _∙_}
 use mathlib.Core.Bool.{Bool, true, false}
-use mathlib.Core.List.{List, [], _∷_}
+use mathlib.Core.List.{List}
 use Prim.Native.Nat.{ℕ, suc, _+_, _-_, _≤_, _<_}
 use native.Mathlib.Nat.{zero-add}
 use native.Mathlib.Numerals.{add-one}
 use native.Mathlib.Omega.{arith}
-use borrow.Author.Needs.{needs}
 use lib.Dec.{eqb}
-use lib.ListN.{length, drop, getD}
-use lib.Seq.{drop-cons, drop-length}
 use mir.Val.{boolByte}
-use Rattle.state.specs.Sound.{times}
+use Rattle.state.specs.Layout.{tabulate, keyAt}
+use Rattle.state.specs.Sound.{times, keysOf}
 use Rattle.state.proofs.Stored.{byte-one}
+use Rattle.state.proofs.Tabulate.{tab-step, tab-end}
 use Rattle.state.proofs.sound.count.Statement.{statement}
 use Rattle.state.proofs.sound.count.Tie as tie
+
+abbrev Inv-loop : tie.InvT-loop
+Inv-loop state k hits₀ j₀ hits j = (j ≤ 32) × ((hits ≤ j) × (hits + times k (tabulate (keyAt state) j (32 - j)) ≡ times k (keysOf state)))
+
+abbrev μ-loop : tie.MeasureT-loop
+μ-loop state k hits₀ j₀ hits j = 32 - j
 
 byte-le : (b : Bool) → boolByte b ≤ 1
 byte-le true = omega arith
 byte-le false = omega arith
 
-abbrev Inv-loop : tie.InvT-loop
-Inv-loop seen k hits₀ j₀ hits j = (j ≤ 32) × ((hits ≤ j) × (hits + times k (drop j seen) ≡ times k seen))
-
-abbrev μ-loop : tie.MeasureT-loop
-μ-loop seen k hits₀ j₀ hits j = 32 - j
-
-turn : (k hits j : ℕ) (seen : List ℕ) → j < length seen → hits + boolByte (eqb (getD seen j 0) k) + times k (drop (suc j) seen) ≡ hits + times k (drop j seen)
+turn : (m : List ℕ) (k hits j x : ℕ) → j < 32 → x ≡ keyAt m j
+    → hits + boolByte (eqb x k) + times k (tabulate (keyAt m) (suc j) (32 - suc j)) ≡ hits + times k (tabulate (keyAt m) j (32 - j))
 unfolding times
-turn k hits j seen h = rw (drop-cons seen j 0, byte-one) (omega arith)
+turn m k hits j x h e = rw (tab-step (keyAt m) j 32 h, byte-one, e) (omega arith)
 
-done : (k hits j : ℕ) (seen : List ℕ) → j ≡ length seen → hits ≡ hits + times k (drop j seen)
+done : (m : List ℕ) (k hits j : ℕ) → 32 ≤ j → hits ≡ hits + times k (tabulate (keyAt m) j (32 - j))
 unfolding times
-done k hits j seen e = rw (e, drop-length) (omega arith)
+done m k hits j h = rw (tab-end (keyAt m) j 32 h) (omega arith)
 
 loop-holds : tie.Need-loop-holds Inv-loop μ-loop
-loop-holds c = (omega arith, (omega arith, zero-add (times (c .args .k) (c .args .seen .now))))
+loop-holds c = (omega arith, (omega arith, zero-add (times (c .before .args .k) (keysOf (c .before .args .state .now)))))
 
-mul-hits : tie.Need-mul-hits Inv-loop μ-loop
-mul-hits c = omega arith
-
-element-copy-out-hits : tie.Need-element-copy-out-hits Inv-loop μ-loop
-element-copy-out-hits c = omega arith
+key-requires : tie.Need-key-requires Inv-loop μ-loop
+key-requires c κs = omega arith
 
 cast-hits : tie.Need-cast-hits Inv-loop μ-loop
 cast-hits c = tt
 
 add-hits : tie.Need-add-hits Inv-loop μ-loop
-add-hits c =
-    let l = c .before .before in
-    let a = l .before .args in
-    omega (arith, byte-le (eqb (getD (a .seen .now) (l .loop .j) 0) (a .k)))
+add-hits c = omega (arith, byte-le (eqb (c .key .result) (c .before .before .before .before .args .k)))
 
 add-j : tie.Need-add-j Inv-loop μ-loop
 add-j c = omega arith
@@ -61,17 +55,15 @@ loop-less c = omega arith
 loop-again : tie.Need-loop-again Inv-loop μ-loop
 loop-again c =
     let l = c .before .before in
-    let a = l .before .args in
-    let n : length (a .seen .now) ≡ 32 = l .before .pre in
-    let b = byte-le (eqb (getD (a .seen .now) (l .loop .j) 0) (a .k)) in
-    (omega arith, (omega arith, rw add-one (turn (a .k) (l .loop .hits) (l .loop .j) (a .seen .now) (omega arith) ∙ l .loop .inv .1 .1)))
+    let a = l .before .before .args in
+    let b = byte-le (eqb (c .key .result) (a .k)) in
+    (omega arith, (omega arith, rw add-one (turn (a .state .now) (a .k) (l .loop .hits) (l .loop .j) (c .key .result) (omega arith) (c .key .ensures) ∙ l .loop .inv .1 .1)))
 
 returns : tie.Need-returns Inv-loop μ-loop
 returns c =
     let l = c .before in
-    let a = l .before .args in
-    let n : length (a .seen .now) ≡ 32 = l .before .pre in
-    done (a .k) (l .loop .hits) (l .loop .j) (a .seen .now) (omega arith) ∙ l .loop .inv .1 .1
+    let a = l .before .before .args in
+    done (a .state .now) (a .k) (l .loop .hits) (l .loop .j) (omega arith) ∙ l .loop .inv .1 .1
 
 pub count-spec : {M : Type 1} → statement M
 count-spec =
@@ -80,8 +72,7 @@ count-spec =
     Inv-loop
     μ-loop
     loop-holds
-    mul-hits
-    element-copy-out-hits
+    key-requires
     cast-hits
     add-hits
     add-j

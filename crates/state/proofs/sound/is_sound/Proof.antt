@@ -10,7 +10,10 @@ use lib.ListN.{length, getD}
 use Rattle.model.specs.Setup.{acceptable, allFit}
 use Rattle.model.specs.Sound.{sound}
 use Rattle.state.specs.Layout.{size, setupOf, subscriptionAt, placesOf}
-use Rattle.state.specs.Sound.{soundFrom, soundState}
+use Rattle.bits.specs.Order.{Octets}
+use Rattle.bits.proofs.Octets.{octets-all}
+use Rattle.state.specs.Sound.{every, placeSound, soundState}
+use Rattle.state.proofs.Soundness.{whole}
 use Rattle.state.proofs.Tabulate.{length-tabulate}
 use borrow.Author.Needs.{needs}
 use Rattle.state.proofs.sound.is_sound.Statement.{statement}
@@ -36,9 +39,9 @@ module _ (m : List ℕ) where
           rw (le-leb size (length m) long, named, length-tabulate (subscriptionAt m) 0 (getD m 1 0), lt-leb (getD m 1 0) 64 h)
 
       module _ (few : getD m 1 0 ≤ 64) (b : Bool) (fit : allFit (setupOf m .subscriptions) ≡ b) where
-        left : (b && soundFrom m 0) ≡ soundState m
-        unfolding soundState acceptable setupOf soundFrom sound placesOf
-        left = rw (le-leb size (length m) long, named, length-tabulate (subscriptionAt m) 0 (getD m 1 0), le-leb (getD m 1 0) 64 few, fit)
+        left : Octets m → (b && every (placeSound m) 0 32) ≡ soundState m
+        unfolding soundState acceptable setupOf
+        left bytes = rw (whole m bytes long, le-leb size (length m) long, named, length-tabulate (subscriptionAt m) 0 (getD m 1 0), le-leb (getD m 1 0) 64 few, fit)
 
 returns : tie.Need-returns
 returns c = short _ (c .if1 .taken)
@@ -65,13 +68,19 @@ returns-4 : tie.Need-returns-4
 returns-4 c =
     let a = c .before .before in
     let e = a .before .before .before in
-    c .places-sound .ensures ∙ left _ (e .before .before .if1 .left) (e .if2 .left) (a .before .if3 .left) true (sym (a .all-fit .ensures) ∙ c .before .if4 .taken)
+    let o = e .before .before in
+    let m = o .before .before .args .state .now in
+    let bytes = octets-all m (λ i. omega (arith, o .before .shared-slice-known .given i)) in
+    c .places-sound .ensures ∙ left m (o .if1 .left) (e .if2 .left) (a .before .if3 .left) true (sym (a .all-fit .ensures) ∙ c .before .if4 .taken) bytes
 
 returns-5 : tie.Need-returns-5
 returns-5 c =
     let a = c .before in
     let e = a .before .before .before in
-    left _ (e .before .before .if1 .left) (e .if2 .left) (a .before .if3 .left) false (sym (a .all-fit .ensures) ∙ c .if4 .left)
+    let o = e .before .before in
+    let m = o .before .before .args .state .now in
+    let bytes = octets-all m (λ i. omega (arith, o .before .shared-slice-known .given i)) in
+    left m (o .if1 .left) (e .if2 .left) (a .before .if3 .left) false (sym (a .all-fit .ensures) ∙ c .if4 .left) bytes
 
 pub is-sound-spec : {M : Type 1} → statement M
 is-sound-spec =
