@@ -82,16 +82,18 @@ pub record Passed (f : Frame) : Type 0 where
   pub some-bytes : 0 < length (f .bytes)
   pub few-bytes : length (f .bytes) ≤ 8
   pub service : unnamedService f ≡ false
+  pub tail : badTailIn f ≡ false
 
 pub passes : (u : Setup) (f : Frame) → frameCheck u f ≡ none → Passed f
 unfolding frameCheck
-passes u f e = go (largeId f) refl (badLength f) refl (unnamedService f) refl _ e where
-  go : (a : Bool) → largeId f ≡ a → (b : Bool) → badLength f ≡ b → (c : Bool) → unnamedService f ≡ c → (o : Option ℕ)
-      → pick {A = Option ℕ} a (some 2) (pick {A = Option ℕ} b (some 3) (pick {A = Option ℕ} c (some 4) o)) ≡ none → Passed f
-  go true p b q c r o e = let z : _≡_ {A = ℕ} 0 1 = cc in absurd (omega arith)
-  go false p true q c r o e = let z : _≡_ {A = ℕ} 0 1 = cc in absurd (omega arith)
-  go false p false q true r o e = let z : _≡_ {A = ℕ} 0 1 = cc in absurd (omega arith)
-  go false p false q false r o e =
+passes u f e = go (largeId f) refl (badLength f) refl (unnamedService f) refl (badTailIn f) refl _ e where
+  go : (a : Bool) → largeId f ≡ a → (b : Bool) → badLength f ≡ b → (c : Bool) → unnamedService f ≡ c → (d : Bool) → badTailIn f ≡ d → (o : Option ℕ)
+      → pick {A = Option ℕ} a (some 2) (pick {A = Option ℕ} b (some 3) (pick {A = Option ℕ} c (some 4) (pick {A = Option ℕ} d (some 5) o))) ≡ none → Passed f
+  go true p b q c r d t o e = let z : _≡_ {A = ℕ} 0 1 = cc in absurd (omega arith)
+  go false p true q c r d t o e = let z : _≡_ {A = ℕ} 0 1 = cc in absurd (omega arith)
+  go false p false q true r d t o e = let z : _≡_ {A = ℕ} 0 1 = cc in absurd (omega arith)
+  go false p false q false r true t o e = let z : _≡_ {A = ℕ} 0 1 = cc in absurd (omega arith)
+  go false p false q false r false t o e =
       let n = length (f .bytes) in
       let z = eqb-false n 0 (or-left (eqb n 0) (ltb 8 n) q) in
       record {
@@ -99,11 +101,18 @@ passes u f e = go (largeId f) refl (badLength f) refl (unnamedService f) refl _ 
         some-bytes = omega (arith, pos n z);
         few-bytes = ltb-false 8 n (or-right (eqb n 0) (ltb 8 n) q);
         service = r;
+        tail = t;
       }
     where
       pos : (n : ℕ) → (n ≡ 0 → ⊥) → 0 < n
       pos zero z = absurd (z refl)
       pos (suc n) z = omega arith
+
+-- a start has toggle 0
+pub start-toggle : (f : Frame) → Passed f → isStart (tailOf (f .bytes)) ≡ true → toggleOf (tailOf (f .bytes)) ≡ false
+start-toggle f p s =
+    let t : (isStart (tailOf (f .bytes)) && toggleOf (tailOf (f .bytes))) ≡ false = or-left (isStart (tailOf (f .bytes)) && toggleOf (tailOf (f .bytes))) _ (p .tail) in
+    rw s at t
 
 -- a frame that is not anonymous has a named source
 pub source-named : (f : Frame) → Passed f → isAnonymous (f .id) ≡ false → streamOf (f .id) .source ≡ 0 → ⊥

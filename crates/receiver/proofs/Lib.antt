@@ -3,3 +3,4 @@ mod Tails
 mod Seek
 mod Lent
 mod Checks
+mod Enter

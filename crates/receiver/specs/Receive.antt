@@ -45,6 +45,7 @@ received m f out = receivedIf (soundState m) m f out
 pub record Called (m : List ℕ) (h : Head) (p out : List ℕ) : Type 0 where
   pub sound : soundState m ≡ true
   pub transfer : h .transfer < 32
+  pub start : h .start ≡ true → h .toggle ≡ false
   pub kind : h .kind < 3
   pub type : h .«type_id» < 65536
   pub source : h .source < 128

@@ -1,16 +1,22 @@
 // A frame's session: the place that it has, or gets.
 use session::Answer;
 use session::Head;
+use session::Progress;
+use session::Session;
 use state::scan::Want;
 ghost use mathlib.Core.Path.{_≡_};
 ghost use mathlib.Core.Bool.{true};
-ghost use Prim.Native.Nat.{_<_};
+ghost use Prim.Native.Nat.{_≤_, _<_};
+ghost use lib.ListN.{length};
 ghost use Rattle.model.specs.Reception.{store, stepNew, stepSeek};
-ghost use Rattle.model.specs.Session.{fresh, proceed, react};
-ghost use Rattle.model.specs.Table.{seek, holds, placeFor};
+ghost use Rattle.model.specs.Session.{restarted, takes, react};
+ghost use Rattle.model.specs.Table.{held, seek, holds, placeFor};
+ghost use Rattle.receiver.specs.Place.{entered, Enters};
 ghost use Rattle.receiver.specs.Receive.{result, lent, Called};
-ghost use Rattle.session.specs.Session.{streamOf, parsedOf};
-ghost use Rattle.state.specs.Layout.{keyAt, keyOf, sessionAt, placesOf};
+ghost use Rattle.receiver.specs.declared.place.Way.the-variants.{New};
+ghost use Rattle.session.specs.Session.{sessionOf, streamOf, parsedOf};
+ghost use Rattle.state.specs.Layout.{size, keyAt, keyOf, countAt, sessionAt, placesOf, streamOfKey};
+ghost use Rattle.state.specs.Place.{withPlace};
 
 // The stream of a head in one number.
 fn key(h: Head) -> u32
@@ -21,46 +27,105 @@ fn key(h: Head) -> u32
         + h.destination as u32
 }
 
+// The session that a frame enters: a new one, that of its place restarted, or that of its place.
+enum Way {
+    New,
+    Again,
+    On,
+}
+
+fn session_for(state: &[u8], i: usize, way: Way, h: Head) -> Session
+    requires { ⌜ (i < 32) × ((size ≤ length (now state)) × ((way ≡ New → ⊥) → countAt (now state) i ≤ 514)) ⌝ }
+    ensures { λ r. ⌜ (sessionOf r ≡ entered way (now (state .entry)) i h) × (r .len ≤ 514) ⌝ }
+{
+    match way {
+        Way::New => Session::fresh(h.transfer, h.time),
+        Way::Again => state::place::load(state, i).restart(h.transfer),
+        Way::On => state::place::load(state, i),
+    }
+}
+
+// The frame is taken into the session of place i.
+fn enter(state: &mut [u8], i: usize, k: u32, way: Way, h: Head, p: &[u8], out: &mut [u8]) -> Answer
+    requires { ⌜ Called (now state) h (now p) (now out) ⌝ }
+    requires { ⌜ (i < 32) × ((k ≡ keyOf (streamOf h)) × Enters way (now state) i h (now p)) ⌝ }
+    ensures { λ r. ⌜ result r (now (state .exit)) (now (out .exit)) ≡ lent (now (state .entry)) (now (out .entry)) (store (placesOf (now (state .entry))) i (streamOf h) (takes (entered way (now (state .entry)) i h) (parsedOf h (now (p .entry))))) ⌝ }
+{
+    let g = session_for(state, i, way, h).take(h.start, h.time, p);
+    if h.end {
+        let answer = session::finish(&g.bytes, g.len, h, out);
+        let q = g.close();
+        let c = Progress {
+            expected: q.expected,
+            toggle: q.toggle,
+            time: q.time,
+            len: q.len,
+        };
+        state::place::store(state, i, k, c, &q.bytes);
+        return answer;
+    }
+    let c = Progress {
+        expected: g.expected,
+        toggle: g.toggle,
+        time: g.time,
+        len: g.len,
+    };
+    state::place::store(state, i, k, c, &g.bytes);
+    Answer::Taken
+}
+
+// Nothing is in hand any more: the session of place i waits for this transfer ID.
+fn reset(state: &mut [u8], i: usize, k: u32, expected: u8)
+    requires { ⌜ ((i < 32) × (size ≤ length (now state))) × ((countAt (now state) i ≤ 514) × (expected < 32)) ⌝ }
+    ensures { λ _. ⌜ now (state .exit) ≡ withPlace (now (state .entry)) i (held (streamOfKey k) (restarted (sessionAt (now (state .entry)) i) expected)) ⌝ }
+{
+    let q = state::place::load(state, i).restart(expected);
+    let c = Progress {
+        expected: q.expected,
+        toggle: q.toggle,
+        time: q.time,
+        len: q.len,
+    };
+    state::place::store(state, i, k, c, &q.bytes);
+}
+
 // The stream's session is in place i.
 fn known(state: &mut [u8], i: usize, k: u32, h: Head, p: &[u8], out: &mut [u8]) -> Answer
     requires { ⌜ Called (now state) h (now p) (now out) ⌝ }
     requires { ⌜ (i < 32) × ((k ≡ keyOf (streamOf h)) × (keyAt (now state) i ≡ k)) ⌝ }
     ensures { λ r. ⌜ result r (now (state .exit)) (now (out .exit)) ≡ lent (now (state .entry)) (now (out .entry)) (store (placesOf (now (state .entry))) i (streamOf h) (react (sessionAt (now (state .entry)) i) (parsedOf h (now (p .entry))))) ⌝ }
 {
-    let s = state::place::load(state, i);
-    let r = session::react(s, h, p, out);
-    let q = r.session;
-    if r.changed {
-        state::place::store(state, i, k, q);
+    let c = state::place::progress(state, i);
+    if session::restarts(c.expected, c.time, h) {
+        if h.start {
+            return enter(state, i, k, Way::Again, h, p, out);
+        }
+        reset(state, i, k, (h.transfer + 1) % 32);
+        return Answer::Passed;
     }
-    r.answer
-}
-
-// A new session in place i.
-fn begin(state: &mut [u8], i: usize, k: u32, h: Head, p: &[u8], out: &mut [u8]) -> Answer
-    requires { ⌜ Called (now state) h (now p) (now out) ⌝ }
-    requires { ⌜ (i < 32) × (k ≡ keyOf (streamOf h)) ⌝ }
-    ensures { λ r. ⌜ result r (now (state .exit)) (now (out .exit)) ≡ lent (now (state .entry)) (now (out .entry)) (store (placesOf (now (state .entry))) i (streamOf h) (proceed (fresh (parsedOf h (now (p .entry)))) (parsedOf h (now (p .entry))))) ⌝ }
-{
-    let r = session::begin(h, p, out);
-    let q = r.session;
-    state::place::store(state, i, k, q);
-    r.answer
+    if session::awaited(c.expected, c.toggle, c.len, h) {
+        if 514 < c.len + p.len() {
+            reset(state, i, k, (c.expected + 1) % 32);
+            return Answer::TooLong;
+        }
+        return enter(state, i, k, Way::On, h, p, out);
+    }
+    Answer::Passed
 }
 
 // A start of a stream without a session: the lowest empty place, else the lowest old session's.
 fn unknown(state: &mut [u8], k: u32, h: Head, p: &[u8], out: &mut [u8]) -> Answer
     requires { ⌜ Called (now state) h (now p) (now out) ⌝ }
-    requires { ⌜ k ≡ keyOf (streamOf h) ⌝ }
+    requires { ⌜ (k ≡ keyOf (streamOf h)) × (h .start ≡ true) ⌝ }
     ensures { λ r. ⌜ result r (now (state .exit)) (now (out .exit)) ≡ lent (now (state .entry)) (now (out .entry)) (stepNew (placeFor (h .time) (placesOf (now (state .entry)))) (placesOf (now (state .entry))) (parsedOf h (now (p .entry)))) ⌝ }
 {
     let free = state::scan::scan(state, Want::Key(0));
     if free < 32 {
-        return begin(state, free, k, h, p, out);
+        return enter(state, free, k, Way::New, h, p, out);
     }
     let old = state::scan::scan(state, Want::Old(h.time));
     if old < 32 {
-        return begin(state, old, k, h, p, out);
+        return enter(state, old, k, Way::New, h, p, out);
     }
     Answer::Full
 }

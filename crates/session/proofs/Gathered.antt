@@ -12,10 +12,9 @@ use Rattle.checksum.specs.Crc16.{checksum}
 use Rattle.model.specs.Session.{sumOk}
 use Rattle.model.specs.Tests.{isEmpty}
 
-pub empty-take : (n : ℕ) (bs : List ℕ) → n ≤ length bs → isEmpty (take n bs) ≡ eqb n 0
-empty-take zero bs h = refl
-empty-take (suc n) [] h = absurd (omega arith)
-empty-take (suc n) (b ∷ bs) h = sym (eqb·suc-zero n)
+pub empty-length : (g : List ℕ) → isEmpty g ≡ eqb (length g) 0
+empty-length [] = refl
+empty-length (b ∷ bs) = sym (eqb·suc-zero (length bs))
 
 pub take-added : (bs p : List ℕ) (n : ℕ) → n ≤ length bs → take (n + length p) (paste bs n p (length p)) ≡ take n bs ++ p
 take-added bs p n h = take-paste bs n p (length p) h (omega arith) ∙ ap (λ (l : List ℕ). take n bs ++ l) (take-length p)

@@ -1,2 +1,2 @@
 mod Gathered
-mod Rules
+pub mod Rules

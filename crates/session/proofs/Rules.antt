@@ -1,5 +1,5 @@
 -- Each case of the rules, from the tests that lead to it. Throughout, b is what a test of the code gave.
-use mathlib.Core.Path.{_≡_, refl, sym, ap, _∙_}
+use mathlib.Core.Path.{_≡_, refl, sym, ap, ap₂, _∙_}
 use mathlib.Core.Bool.{Bool, true, false, _&&_, Bool·beq, and-false, true≢false, false≢true}
 use mathlib.Core.List.{List, [], _++_}
 use mathlib.Core.Option.{Option, none, some}
@@ -14,14 +14,13 @@ use Rattle.model.specs.Check.{Parsed}
 use Rattle.model.specs.Session as rules
 use Rattle.model.specs.Session.{distance, next, sumOk, over, overIf, closed, closing, takes, takeLong, takeEnd, sinceOf, proceed, proceedIf, react, reactIf, restarts, restarted, fresh}
 use Rattle.model.specs.Tests.{pick, sameBool, isEmpty}
-use Rattle.session.specs.Answer.{told, outAfter, Does, HandsOut, Closes}
-use Rattle.session.specs.Session.{sessionOf, InRange, parsedOf, freshOf, added, restartsAt, awaitedAt}
+use Rattle.session.specs.Answer.{told, outAfter, HandsOut, Closes}
+use Rattle.session.specs.Session.{sessionOf, InRange, parsedOf, added, restartsAt, awaitedAt}
 use Rattle.session.specs.declared.Answer.{Answer}
-use Rattle.session.specs.declared.Answer.the-variants.{Taken, Passed, TooLong, BadChecksum}
+use Rattle.session.specs.declared.Answer.the-variants.{Passed, BadChecksum}
 use Rattle.session.specs.declared.Head.{Head}
 use Rattle.session.specs.declared.Session.{Session}
-use Rattle.session.specs.declared.Step.{Step}
-use Rattle.session.proofs.Gathered.{empty-take}
+use Rattle.session.proofs.Gathered.{empty-length}
 
 -- ── the tests ──
 
@@ -85,30 +84,29 @@ none-awaited false false false toggle = refl
 none-awaited false true false false = refl
 none-awaited false true false true = refl
 
-module _ (s : Session) (h : Head) (p : List ℕ) (held : s .len ≤ length (s .bytes)) (b : Bool) (e : b ≡ awaitedAt (s .expected) (s .toggle) (s .len) h) where
-  over-awaited : isNone (over (sessionOf s) (parsedOf h p)) ≡ b
-  unfolding over awaitedAt sessionOf parsedOf
-  over-awaited =
-      none-awaited (h .start) (eqb (h .transfer) (s .expected)) (isEmpty (take (s .len) (s .bytes))) (sameBool (h .toggle) (s .toggle))
-      ∙ rw (empty-take (s .len) (s .bytes) held) (sym e)
+-- the test of the code is that of the rules
+pub over-awaited : (s : rules.Session) (h : Head) (p : List ℕ) → isNone (over s (parsedOf h p)) ≡ awaitedAt (s .expected) (s .toggle) (length (s .gathered)) h
+unfolding over awaitedAt parsedOf
+over-awaited s h p =
+    none-awaited (h .start) (eqb (h .transfer) (s .expected)) (isEmpty (s .gathered)) (sameBool (h .toggle) (s .toggle))
+    ∙ ap (λ (b : Bool). eqb (h .transfer) (s .expected) && (sameBool (h .toggle) (s .toggle) && sameBool (h .start) b)) (empty-length (s .gathered))
 
-  pub proceeds-taken : b ≡ true → proceed (sessionOf s) (parsedOf h p) ≡ takes (sessionOf s) (parsedOf h p)
+module _ (s : rules.Session) (v : Parsed) where
+  proceed-taken : isNone (over s v) ≡ true → proceed s v ≡ takes s v
   unfolding proceed proceedIf
-  proceeds-taken w = go (over (sessionOf s) (parsedOf h p)) (over-awaited ∙ w)
-    where
-      go : (o : Option Reason) → isNone o ≡ true → proceedIf o (sessionOf s) (parsedOf h p) ≡ takes (sessionOf s) (parsedOf h p)
-      go none x = refl
-      go (some r) x = absurd (false≢true x)
+  proceed-taken = go (over s v) where
+    go : (o : Option Reason) → isNone o ≡ true → proceedIf o s v ≡ takes s v
+    go none x = refl
+    go (some r) x = absurd (false≢true x)
 
-  pub proceeds-passed : b ≡ false → InRange s → (out : List ℕ)
-      → Does (sessionOf s) (proceed (sessionOf s) (parsedOf h p)) (record { answer = Passed; changed = false; session = s }) out out
+  -- passed over, for whatever reason
+  proceed-passed : isNone (over s v) ≡ false → (told (proceed s v .answer) ≡ Passed) × ((proceed s v .session ≡ s) × ((out : List ℕ) → outAfter (proceed s v .answer) out ≡ out))
   unfolding proceed proceedIf
-  proceeds-passed w i out = go (over (sessionOf s) (parsedOf h p)) (over-awaited ∙ w)
-    where
-      go : (o : Option Reason) → isNone o ≡ false
-          → Does (sessionOf s) (proceedIf o (sessionOf s) (parsedOf h p)) (record { answer = Passed; changed = false; session = s }) out out
-      go none x = absurd (true≢false x)
-      go (some r) x = record { answer = refl; session = refl; inRange = i; kept = λ _. refl; out = refl }
+  proceed-passed = go (over s v) where
+    go : (o : Option Reason) → isNone o ≡ false
+        → (told (proceedIf o s v .answer) ≡ Passed) × ((proceedIf o s v .session ≡ s) × ((out : List ℕ) → outAfter (proceedIf o s v .answer) out ≡ out))
+    go none x = absurd (true≢false x)
+    go (some r) x = (refl, (refl, λ out. refl))
 
 -- ── taken ──
 
@@ -169,108 +167,86 @@ module _ (s : rules.Session) (v : Parsed) where
     unfolding takes takeLong takeEnd
     takes-more l = rw (le-ltb 514 (length (s .gathered ++ v .payload)) g, l)
 
--- the session after `stamp`
-abbrev pub stamped : Session → Bool → ℕ → Session
-stamped s start time = record { expected = s .expected; toggle = s .toggle; time = pick start time (s .time); len = s .len; bytes = s .bytes }
+-- ── what a frame does, from the tests of the code ──
+
+module _ (s : rules.Session) (h : Head) (p : List ℕ) where
+  abbrev v : Parsed
+  v = parsedOf h p
+
+  abbrev restarting : Bool
+  restarting = restartsAt (s .expected) (s .since) h
+
+  abbrev awaited : Bool
+  awaited = awaitedAt (s .expected) (s .toggle) (length (s .gathered)) h
+
+  tested : restarting ≡ restarts s v
+  unfolding restarts restartsAt parsedOf
+  tested = refl
+
+  -- a start that restarts the session is then the frame that it waits for: check 5 refused a start with toggle 1
+  pub reacts-anew : restarting ≡ true → h .start ≡ true → h .toggle ≡ false → react s v ≡ takes (restarted s (h .transfer)) v
+  unfolding react reactIf parsedOf awaitedAt
+  reacts-anew r k t =
+      let a : awaitedAt (h .transfer) false 0 h ≡ true = rw (eq-eqb (h .transfer) (h .transfer) refl, t, k) in
+      ap₂ (λ (b c : Bool). reactIf b c s v) (sym tested ∙ r) k ∙ proceed-taken (restarted s (h .transfer)) v (over-awaited (restarted s (h .transfer)) h p ∙ a)
+
+  pub reacts-skip : restarting ≡ true → h .start ≡ false → react s v ≡ record { answer = passed noTransfer; session = restarted s (next (h .transfer)) }
+  unfolding react reactIf parsedOf
+  reacts-skip r k = ap₂ (λ (b c : Bool). reactIf b c s v) (sym tested ∙ r) k
+
+  module _ (r : restarting ≡ false) where
+    on : react s v ≡ proceed s v
+    unfolding react reactIf
+    on = ap (λ (b : Bool). reactIf b (v .start) s v) (sym tested ∙ r)
+
+    pub reacts-take : awaited ≡ true → react s v ≡ takes s v
+    reacts-take a = on ∙ proceed-taken s v (over-awaited s h p ∙ a)
+
+    pub reacts-over : awaited ≡ true → 514 < length (s .gathered) + length p → length p ≤ 7 → react s v ≡ record { answer = long; session = restarted s (next (s .expected)) }
+    unfolding parsedOf
+    reacts-over a g n =
+        let e : length (s .gathered ++ p) ≡ length (s .gathered) + length p = length-append (s .gathered) p in
+        let k : h .start ≡ false = not-start (h .start) refl in
+        reacts-take a ∙ takes-long s v (omega arith) ∙ ap (λ (b : Bool). record { answer = long; session = closed s (pick b (h .time) (s .since)) }) k
+      where
+        not-start : (b : Bool) → h .start ≡ b → h .start ≡ false
+        not-start false x = x
+        not-start true x = let z : length (s .gathered) ≡ 0 = awaited-start (s .expected) (s .toggle) (length (s .gathered)) h awaited refl a x in absurd (omega arith)
+
+    pub reacts-pass : awaited ≡ false → (told (react s v .answer) ≡ Passed) × ((react s v .session ≡ s) × ((out : List ℕ) → outAfter (react s v .answer) out ≡ out))
+    reacts-pass a = rw on (proceed-passed s v (over-awaited s h p ∙ a))
+
+-- a start begins a new session
+pub begins : (h : Head) (p : List ℕ) → h .start ≡ true → h .toggle ≡ false → proceed (fresh (parsedOf h p)) (parsedOf h p) ≡ takes (fresh (parsedOf h p)) (parsedOf h p)
+unfolding parsedOf awaitedAt
+begins h p k t =
+    let a : awaitedAt (h .transfer) false 0 h ≡ true = rw (eq-eqb (h .transfer) (h .transfer) refl, t, k) in
+    proceed-taken (fresh (parsedOf h p)) (parsedOf h p) (over-awaited (fresh (parsedOf h p)) h p ∙ a)
+
+-- ── a frame is taken ──
 
 -- the session after `close`
 abbrev shut : Session → Session
 shut g = record { expected = next (g .expected); toggle = false; time = g .time; len = 0; bytes = g .bytes }
 
-shut-added : (s : rules.Session) (start : Bool) (time : ℕ) (p : List ℕ) (g : Session) → sessionOf g ≡ added s start time p
-    → sessionOf (shut g) ≡ closed s (pick start time (s .since))
-unfolding sessionOf
-shut-added s start time p g e = ap (λ (x : rules.Session). closed x (x .since)) e
-
-shut-range : (g : Session) → InRange (shut g)
+pub shut-range : (g : Session) → InRange (shut g)
 shut-range g = record { expected = omega arith; len = lit≤ tt }
 
-module _ (s : Session) (h : Head) (p : List ℕ) (held : s .len ≤ length (s .bytes)) (out : List ℕ) where
-  abbrev before : rules.Session
-  before = sessionOf s
+-- s the session before, w what `take` made of it
+module _ (s : rules.Session) (h : Head) (p : List ℕ) (w : Session) (e : sessionOf w ≡ added s (h .start) (h .time) p) (g : length (s .gathered) + length p ≤ 514) where
+  few : length (s .gathered ++ p) ≤ 514
+  few = omega (arith, length-append (s .gathered) p)
 
-  in-hand : length (before .gathered ++ p) ≡ s .len + length p
-  unfolding sessionOf
-  in-hand = omega (arith, length-append (take (s .len) (s .bytes)) p, length-take-le (s .len) (s .bytes) held)
+  pub takes-on : h .end ≡ false → takes s (parsedOf h p) ≡ record { answer = taken; session = sessionOf w }
+  unfolding parsedOf
+  takes-on l = takes-more s (parsedOf h p) few l ∙ ap (λ (x : rules.Session). record { answer = taken; session = x }) (sym e)
 
-  pub accepts-long : 514 < s .len + length p → (w q : Session) → w ≡ stamped s (h .start) (h .time) → q ≡ shut w
-      → Does before (takes before (parsedOf h p)) (record { answer = TooLong; changed = true; session = q }) out out
+  pub takes-last : h .end ≡ true → (a : Answer) (out out' : List ℕ) → Closes h (take (w .len) (w .bytes)) a out out'
+      → (a ≡ told (takes s (parsedOf h p) .answer)) × ((sessionOf (shut w) ≡ takes s (parsedOf h p) .session) × (out' ≡ outAfter (takes s (parsedOf h p) .answer) out))
   unfolding sessionOf parsedOf
-  accepts-long g w q e e' =
-      rw (takes-long before (parsedOf h p) (omega (arith, in-hand)), e', e)
-      (record { answer = refl; session = refl; inRange = shut-range (stamped s (h .start) (h .time)); kept = λ k. absurd (true≢false k); out = refl })
-
-  module _ (g : s .len + length p ≤ 514) (w : Session) (e : sessionOf w ≡ added before (h .start) (h .time) p) where
-    pub accepts-end : h .end ≡ true → (q : Session) → q ≡ shut w → (a : Answer) (out' : List ℕ) → Closes h (take (w .len) (w .bytes)) a out out'
-        → Does before (takes before (parsedOf h p)) (record { answer = a; changed = true; session = q }) out out'
-    unfolding sessionOf parsedOf
-    accepts-end l q e' a out' d =
-        let all = before .gathered ++ p in
-        let y = closing-alike (h .start) (sumOk (h .signature) all) all h p in
-        let x : Closes h all a out out' = rw (ap (λ (z : rules.Session). z .gathered) e) at d in
-        rw (takes-end before (parsedOf h p) (omega (arith, in-hand)) l, e')
-        (record {
-          answer = x .answer ∙ ap told y;
-          session = shut-added before (h .start) (h .time) p w e;
-          inRange = shut-range w;
-          kept = λ k. absurd (true≢false k);
-          out = x .out ∙ ap (λ z. outAfter z out) y;
-        })
-
-    pub accepts-more : h .end ≡ false → InRange w → Does before (takes before (parsedOf h p)) (record { answer = Taken; changed = true; session = w }) out out
-    unfolding sessionOf parsedOf
-    accepts-more l i =
-        rw (takes-more before (parsedOf h p) (omega (arith, in-hand)) l)
-        (record { answer = refl; session = e; inRange = i; kept = λ k. absurd (true≢false k); out = refl })
-
--- ── restarted ──
-
-module _ (s : rules.Session) (v : Parsed) where
-  react-start : restarts s v ≡ true → v .start ≡ true → react s v ≡ proceed (restarted s (v .transfer)) v
-  unfolding react reactIf
-  react-start r k = rw (r, k)
-
-  react-other : restarts s v ≡ true → v .start ≡ false → react s v ≡ record { answer = passed noTransfer; session = restarted s (next (v .transfer)) }
-  unfolding react reactIf
-  react-other r k = rw (r, k)
-
-  react-on : restarts s v ≡ false → react s v ≡ proceed s v
-  unfolding react reactIf
-  react-on r = rw r
-
--- the session after `restart`
-abbrev anew : Session → ℕ → Session
-anew s t = record { expected = t; toggle = false; time = s .time; len = 0; bytes = s .bytes }
-
-module _ (h : Head) (p out : List ℕ) where
-  abbrev v : Parsed
-  v = parsedOf h p
-
-  module _ (s : Session) (b : Bool) (t : b ≡ restartsAt (s .expected) (s .time) h) where
-    tested : b ≡ restarts (sessionOf s) v
-    unfolding restarts restartsAt sessionOf parsedOf
-    tested = t
-
-    pub reacts-start : b ≡ true → h .start ≡ true → (q : Session) → q ≡ anew s (h .transfer) → (r : Step) (out' : List ℕ)
-        → Does (sessionOf q) (proceed (sessionOf q) v) r out out'
-        → Does (sessionOf s) (react (sessionOf s) v) (record { answer = r .answer; changed = true; session = r .session }) out out'
-    unfolding sessionOf parsedOf
-    reacts-start y k q e r out' d =
-        let x : Does (sessionOf (anew s (h .transfer))) (proceed (sessionOf (anew s (h .transfer))) v) r out out' = rw e at d in
-        rw (react-start (sessionOf s) v (sym tested ∙ y) k)
-        (record { answer = x .answer; session = x .session; inRange = x .inRange; kept = λ f. absurd (true≢false f); out = x .out })
-
-    pub reacts-other : b ≡ true → h .start ≡ false → (q : Session) → q ≡ anew s (next (h .transfer))
-        → Does (sessionOf s) (react (sessionOf s) v) (record { answer = Passed; changed = true; session = q }) out out
-    unfolding sessionOf parsedOf
-    reacts-other y k q e =
-        rw (react-other (sessionOf s) v (sym tested ∙ y) k, e)
-        (record { answer = refl; session = refl; inRange = record { expected = omega arith; len = lit≤ tt }; kept = λ f. absurd (true≢false f); out = refl })
-
-    pub reacts-on : b ≡ false → (r : Step) (out' : List ℕ) → Does (sessionOf s) (proceed (sessionOf s) v) r out out' → Does (sessionOf s) (react (sessionOf s) v) r out out'
-    reacts-on y r out' d = rw (react-on (sessionOf s) v (sym tested ∙ y)) d
-
-  pub begins : (q : Session) → q ≡ freshOf (h .transfer) (h .time) → (r : Step) (out' : List ℕ) → Does (sessionOf q) (proceed (sessionOf q) v) r out out'
-      → Does (fresh v) (proceed (fresh v) v) r out out'
-  unfolding sessionOf parsedOf
-  begins q e r out' d = rw e at d
+  takes-last l a out out' d =
+      let all = s .gathered ++ p in
+      let y = closing-alike (h .start) (sumOk (h .signature) all) all h p in
+      let x : Closes h all a out out' = rw (ap (λ (z : rules.Session). z .gathered) e) at d in
+      rw (takes-end s (parsedOf h p) few l)
+      (x .answer ∙ ap told y, (ap (λ (z : rules.Session). closed z (z .since)) e, x .out ∙ ap (λ z. outAfter z out) y))

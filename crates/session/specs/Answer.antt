@@ -1,17 +1,15 @@
 -- The receiver's answers: the number of 01 and the values of each case, and what an answer leaves in the output buffer.
 use mathlib.Core.Path.{_≡_}
-use mathlib.Core.Bool.{false}
 use mathlib.Core.List.{List, []}
 use Prim.Native.Nat.{ℕ}
 use lib.ListN.{length}
 use Rattle.bits.specs.Part.{splice}
 use Rattle.model.specs.Answer as rules
-use Rattle.model.specs.Session.{Session, Out, closing, sumOk}
-use Rattle.session.specs.Session.{sessionOf, InRange, streamOf, parsedOf}
+use Rattle.model.specs.Session.{closing, sumOk}
+use Rattle.session.specs.Session.{streamOf, parsedOf}
 use Rattle.session.specs.declared.Answer.{Answer}
 use Rattle.session.specs.declared.Answer.the-variants.{Taken, Handed, Refused, Full, Passed, TooLong, BadChecksum, Faulty}
 use Rattle.session.specs.declared.Head.{Head}
-use Rattle.session.specs.declared.Step.{Step}
 
 -- 01, Numbers answered
 abbrev pub numberOf : Answer → ℕ
@@ -44,15 +42,6 @@ outAfter rules.full out = out
 outAfter (rules.passed r) out = out
 outAfter rules.long out = out
 outAfter rules.differs out = out
-
--- the code's step does what the rules say of a session s: the answer, the session after, the output buffer; `changed` tells whether the
--- session has to be stored
-pub record Does (s : Session) (o : Out) (r : Step) (before after : List ℕ) : Type 0 where
-  pub answer : r .answer ≡ told (o .answer)
-  pub session : sessionOf (r .session) ≡ o .session
-  pub inRange : InRange (r .session)
-  pub kept : r .changed ≡ false → o .session ≡ s
-  pub out : after ≡ outAfter (o .answer) before
 
 -- the payload p is handed out under the head h
 pub record HandsOut (h : Head) (p : List ℕ) (r : Answer) (before after : List ℕ) : Type 0 where

@@ -4,12 +4,12 @@ use mathlib.Core.Bool.{Bool, false, not, _&&_, _||_}
 use Prim.Native.Nat.{ℕ, _+_, _-_, _≤_, _<_}
 use lib.Dec.{ltb, eqb}
 use lib.ListN.{length, take, replicate}
-use lib.Seq.{paste}
 use Rattle.model.specs.Check.{Parsed}
 use Rattle.model.specs.Frame.{Stream}
 use Rattle.model.specs.Session as rules
 use Rattle.model.specs.Tests.{pick, sameBool}
 use Rattle.session.specs.declared.Head.{Head}
+use Rattle.session.specs.declared.Progress.{Progress}
 use Rattle.session.specs.declared.Session.{Session}
 
 -- the bytes gathered are the first `len` of the array
@@ -48,11 +48,6 @@ added s start time p =
 abbrev pub freshOf : ℕ → ℕ → Session
 freshOf transfer time = record { expected = transfer; toggle = false; time = time; len = 0; bytes = replicate 514 0 }
 
--- the bytes of p behind those in hand
-unfoldable pub appended : Session → List ℕ → Session
-appended s p =
-    record { expected = s .expected; toggle = s .toggle; time = s .time; len = s .len + length p; bytes = paste (s .bytes) (s .len) p (length p) }
-
 -- the restart test and the test of a frame that is not passed over, on the fields that they read
 unfoldable pub restartsAt : ℕ → ℕ → Head → Bool
 restartsAt expected time h = ltb 2000000 (h .time - time) || (h .start && ltb 1 (rules.distance (h .transfer) expected))
@@ -61,9 +56,10 @@ unfoldable pub awaitedAt : ℕ → Bool → ℕ → Head → Bool
 awaitedAt expected toggle len h =
     eqb (h .transfer) expected && (sameBool (h .toggle) toggle && sameBool (h .start) (eqb len 0))
 
--- what a frame that passed the checks brings: at most seven payload bytes, a transfer ID, and room for a payload
-pub record Ready (s : Session) (h : Head) (p out : List ℕ) : Type 0 where
-  pub inRange : InRange s
-  pub transfer : h .transfer < 32
-  pub payload : length p ≤ 7
-  pub room : 512 ≤ length out
+-- what decides on a frame, of a session of the rules
+abbrev pub progressOf : rules.Session → Progress
+progressOf s = record { expected = s .expected; toggle = s .toggle; time = s .since; len = length (s .gathered) }
+
+-- the session with these bytes
+abbrev pub whole : Progress → List ℕ → Session
+whole c bytes = record { expected = c .expected; toggle = c .toggle; time = c .time; len = c .len; bytes = bytes }

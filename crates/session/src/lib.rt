@@ -1,15 +1,14 @@
-// One session and one frame of its stream: the session goes by value through restart, take and close, and comes back.
+// A session by value with its methods, and the tests and answers of one frame of its stream.
 ghost use mathlib.Core.Path.{_≡_};
 ghost use mathlib.Core.Bool.{true, false};
 ghost use Prim.Native.Nat.{_+_, _-_, _≤_, _<_};
 ghost use lib.Dec.{ltb};
 ghost use lib.ListN.{length, take};
 ghost use Rattle.bits.specs.Part.{span};
-ghost use Rattle.model.specs.Session.{next, sumOk, takes};
-ghost use Rattle.model.specs.Session as rules;
+ghost use Rattle.model.specs.Session.{next, sumOk};
 ghost use Rattle.model.specs.Tests.{pick};
-ghost use Rattle.session.specs.Session.{sessionOf, parsedOf, freshOf, added, appended, restartsAt, awaitedAt, Ready};
-ghost use Rattle.session.specs.Answer.{Does, HandsOut, Closes};
+ghost use Rattle.session.specs.Session.{sessionOf, freshOf, added, restartsAt, awaitedAt};
+ghost use Rattle.session.specs.Answer.{HandsOut, Closes};
 
 // A session by value.
 pub struct Session {
@@ -58,10 +57,12 @@ pub enum Answer {
     Faulty,
 }
 
-pub struct Step {
-    pub answer: Answer,
-    pub changed: bool,
-    pub session: Session,
+// A session but for its bytes: what decides on a frame.
+pub struct Progress {
+    pub expected: u8,
+    pub toggle: bool,
+    pub time: u64,
+    pub len: usize,
 }
 
 impl Session {
@@ -89,30 +90,10 @@ impl Session {
         self
     }
 
-    // A start sets the time.
-    fn stamp(mut self, start: bool, time: u64) -> Self
-        ensures { λ r. ⌜ r ≡ record { expected = self .expected; toggle = self .toggle; time = pick start time (self .time); len = self .len; bytes = self .bytes } ⌝ }
-    {
-        if start {
-            self.time = time;
-        }
-        self
-    }
-
-    // A frame is taken: a start sets the time, the bytes are added and the toggle turns.
-    pub fn take(self, start: bool, time: u64, p: &[u8]) -> Self
+    // Internal. A frame is taken: its bytes come behind those in hand, a start sets the time, the toggle turns.
+    pub fn take(mut self, start: bool, time: u64, p: &[u8]) -> Self
         requires { ⌜ self .len + length (now p) ≤ 514 ⌝ }
         ensures { λ r. ⌜ (sessionOf r ≡ added (sessionOf self) start time (now (p .entry))) × ((r .len ≡ self .len + length (now (p .entry))) × (r .expected ≡ self .expected)) ⌝ }
-    {
-        let mut s = self.stamp(start, time).append(p);
-        s.toggle = !s.toggle;
-        s
-    }
-
-    // The bytes of p behind those in hand.
-    fn append(mut self, p: &[u8]) -> Self
-        requires { ⌜ self .len + length (now p) ≤ 514 ⌝ }
-        ensures { λ r. ⌜ r ≡ appended self (now (p .entry)) ⌝ }
     {
         let at = self.len;
         let mut i = 0;
@@ -121,10 +102,12 @@ impl Session {
             i += 1;
         }
         self.len = at + i;
+        self.time = started(start, time, self.time);
+        self.toggle = !self.toggle;
         self
     }
 
-    // The transfer is over: nothing in hand, toggle 0, the expected transfer ID raised by one.
+    // Internal. The transfer is over: nothing in hand, toggle 0, the expected transfer ID raised by one.
     pub fn close(self) -> Self
         requires { ⌜ self .expected < 32 ⌝ }
         ensures { λ r. ⌜ r ≡ record { expected = next (self .expected); toggle = false; time = self .time; len = 0; bytes = self .bytes } ⌝ }
@@ -132,6 +115,16 @@ impl Session {
         let next = (self.expected + 1) % 32;
         self.restart(next)
     }
+}
+
+// The time of the last start.
+fn started(start: bool, time: u64, before: u64) -> u64
+    ensures { λ r. ⌜ r ≡ pick start time before ⌝ }
+{
+    if start {
+        return time;
+    }
+    before
 }
 
 // The age is above 2,000,000. An earlier time counts as age 0.
@@ -144,8 +137,8 @@ fn is_old(since: u64, time: u64) -> bool
     false
 }
 
-// The session restarts: it is old, or the frame is a start of another transfer.
-fn restarts(expected: u8, time: u64, h: Head) -> bool
+// Internal. The session restarts: it is old, or the frame is a start of another transfer.
+pub fn restarts(expected: u8, time: u64, h: Head) -> bool
     requires { ⌜ (expected < 32) × (h .transfer < 32) ⌝ }
     ensures { λ r. ⌜ r ≡ restartsAt expected time h ⌝ }
 {
@@ -158,8 +151,8 @@ fn restarts(expected: u8, time: u64, h: Head) -> bool
     false
 }
 
-// The frame is the one that the session waits for.
-fn awaited(expected: u8, toggle: bool, len: usize, h: Head) -> bool
+// Internal. The frame is the one that the session waits for.
+pub fn awaited(expected: u8, toggle: bool, len: usize, h: Head) -> bool
     ensures { λ r. ⌜ r ≡ awaitedAt expected toggle len h ⌝ }
 {
     if h.transfer == expected {
@@ -200,8 +193,8 @@ pub fn hand_out(s: &[u8], from: usize, len: usize, h: Head, out: &mut [u8]) -> A
     })
 }
 
-// An end: start and end together hand out the bytes, else the checksum in front decides.
-fn finish(s: &[u8], len: usize, h: Head, out: &mut [u8]) -> Answer
+// Internal. An end: start and end together hand out the bytes, else the checksum in front decides.
+pub fn finish(s: &[u8], len: usize, h: Head, out: &mut [u8]) -> Answer
     requires { ⌜ (len ≤ length (now s)) × ((len ≤ 514) × ((512 ≤ length (now out)) × ((h .start ≡ true) → len ≤ 512))) ⌝ }
     ensures { λ r. ⌜ Closes h (take len (now (s .entry))) r (now (out .entry)) (now (out .exit)) ⌝ }
 {
@@ -212,79 +205,4 @@ fn finish(s: &[u8], len: usize, h: Head, out: &mut [u8]) -> Answer
         return hand_out(s, 2, len, h, out);
     }
     Answer::BadChecksum
-}
-
-// The frame is taken.
-fn accept(s: Session, h: Head, p: &[u8], out: &mut [u8]) -> Step
-    requires { ⌜ Ready s h (now p) (now out) ⌝ }
-    requires { ⌜ (h .start ≡ true → s .len ≡ 0) ⌝ }
-    ensures { λ r. ⌜ Does (sessionOf s) (takes (sessionOf s) (parsedOf h (now (p .entry)))) r (now (out .entry)) (now (out .exit)) ⌝ }
-{
-    if 514 - p.len() < s.len {
-        let q = s.stamp(h.start, h.time).close();
-        return Step {
-            answer: Answer::TooLong,
-            changed: true,
-            session: q,
-        };
-    }
-    let g = s.take(h.start, h.time, p);
-    if h.end {
-        let answer = finish(&g.bytes, g.len, h, out);
-        let q = g.close();
-        return Step {
-            answer: answer,
-            changed: true,
-            session: q,
-        };
-    }
-    Step {
-        answer: Answer::Taken,
-        changed: true,
-        session: g,
-    }
-}
-
-// The session is not to be restarted, or is already.
-fn proceed(s: Session, h: Head, p: &[u8], out: &mut [u8]) -> Step
-    requires { ⌜ Ready s h (now p) (now out) ⌝ }
-    ensures { λ r. ⌜ Does (sessionOf s) (rules.proceed (sessionOf s) (parsedOf h (now (p .entry)))) r (now (out .entry)) (now (out .exit)) ⌝ }
-{
-    if awaited(s.expected, s.toggle, s.len, h) {
-        return accept(s, h, p, out);
-    }
-    Step {
-        answer: Answer::Passed,
-        changed: false,
-        session: s,
-    }
-}
-
-// Internal. A frame of the session's stream.
-pub fn react(s: Session, h: Head, p: &[u8], out: &mut [u8]) -> Step
-    requires { ⌜ Ready s h (now p) (now out) ⌝ }
-    ensures { λ r. ⌜ Does (sessionOf s) (rules.react (sessionOf s) (parsedOf h (now (p .entry)))) r (now (out .entry)) (now (out .exit)) ⌝ }
-{
-    if restarts(s.expected, s.time, h) {
-        if h.start {
-            let mut r = proceed(s.restart(h.transfer), h, p, out);
-            r.changed = true;
-            return r;
-        }
-        let q = s.restart((h.transfer + 1) % 32);
-        return Step {
-            answer: Answer::Passed,
-            changed: true,
-            session: q,
-        };
-    }
-    proceed(s, h, p, out)
-}
-
-// Internal. A start that begins a new session.
-pub fn begin(h: Head, p: &[u8], out: &mut [u8]) -> Step
-    requires { ⌜ (h .transfer < 32) × ((length (now p) ≤ 7) × (512 ≤ length (now out))) ⌝ }
-    ensures { λ r. ⌜ Does (rules.fresh (parsedOf h (now (p .entry)))) (rules.proceed (rules.fresh (parsedOf h (now (p .entry)))) (parsedOf h (now (p .entry)))) r (now (out .entry)) (now (out .exit)) ⌝ }
-{
-    proceed(Session::fresh(h.transfer, h.time), h, p, out)
 }

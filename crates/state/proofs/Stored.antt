@@ -14,7 +14,8 @@ use Rattle.bits.proofs.Little.{length-leBytes, le-one}
 use Rattle.bits.proofs.Splice.{length-splice, splice-splice, splice-all, length-span}
 use Rattle.model.specs.Session as rules
 use Rattle.model.specs.Table.{held}
-use Rattle.session.specs.Session.{sessionOf}
+use Rattle.session.specs.Session.{sessionOf, progressOf, whole}
+use Rattle.session.specs.declared.Progress.{Progress}
 use Rattle.session.specs.declared.Session.{Session}
 use Rattle.state.specs.Layout.{size, timeAt, countAt, expectedAt, toggleAt, gatheredAt, sessionAt, keyOf, streamOfKey}
 use Rattle.state.specs.Place.{one, controlOf, withKey, withSession, withPlace}
@@ -30,14 +31,16 @@ fields m i h l =
     let three : 1160 + i * 4 + 3 ≡ 1163 + i * 4 = omega arith in
     (ap (λ (k : ℕ). getD m k 0) two ∙ sym (le-one m (1162 + i * 4) (omega arith)), ap (λ (k : ℕ). getD m k 0) three ∙ sym (le-one m (1163 + i * 4) (omega arith)))
 
-pub loaded : (m : List ℕ) (i e t n : ℕ) (g : Bool) (bs : List ℕ)
-    → e ≡ expectedAt m i → g ≡ eqb (toggleAt m i) 1 → t ≡ timeAt m i → take n bs ≡ gatheredAt m i
-    → sessionOf (record { expected = e; toggle = g; time = t; len = n; bytes = bs }) ≡ sessionAt m i
-unfolding sessionOf sessionAt
-loaded m i e t n g bs p q r s = λ j. record { expected = p j; gathered = s j; toggle = q j; since = r j }
+pub progressed : (m : List ℕ) (i e t n : ℕ) (g : Bool) → i < 32 → size ≤ length m → countAt m i ≤ 514
+    → e ≡ expectedAt m i → g ≡ eqb (toggleAt m i) 1 → t ≡ timeAt m i → n ≡ countAt m i
+    → record { expected = e; toggle = g; time = t; len = n } ≡ progressOf (sessionAt m i)
+unfolding sessionAt gatheredAt
+progressed m i e t n g hi hm hc p q r s =
+    let l : n ≡ length (span m (1288 + i * 514) (countAt m i)) = s ∙ sym (length-span m (1288 + i * 514) (countAt m i) (omega arith)) in
+    λ j. record { expected = p j; toggle = q j; time = r j; len = l j }
 
 -- all 514 bytes of the place were copied
-pub gathered-copied : (m z bs : List ℕ) (i n : ℕ) → i < 32 → size ≤ length m → length z ≡ 514 → n ≡ countAt m i → n ≤ 514
+gathered-copied : (m z bs : List ℕ) (i n : ℕ) → i < 32 → size ≤ length m → length z ≡ 514 → n ≡ countAt m i → n ≤ 514
     → bs ≡ splice z 0 (span m (1288 + i * 514) 514) → take n bs ≡ gatheredAt m i
 unfolding gatheredAt
 gathered-copied m z bs i n hi hm hz e l c =
@@ -45,10 +48,13 @@ gathered-copied m z bs i n hi hm hz e l c =
     ap (take n) (c ∙ splice-all z (span m (1288 + i * 514) 514) w) ∙ take-take n 514 (drop (1288 + i * 514) m) l
     ∙ ap (λ (k : ℕ). span m (1288 + i * 514) k) e
 
--- nothing is in hand
-pub gathered-none : (m bs : List ℕ) (i n : ℕ) → n ≡ countAt m i → n ≡ 0 → take n bs ≡ gatheredAt m i
-unfolding gatheredAt
-gathered-none m bs i n e z = ap (λ (k : ℕ). take k bs) z ∙ ap (λ (k : ℕ). span m (1288 + i * 514) k) (sym z ∙ e)
+pub loaded : (m z bs : List ℕ) (i : ℕ) (c : Progress) → i < 32 → size ≤ length m → countAt m i ≤ 514 → length z ≡ 514
+    → c ≡ progressOf (sessionAt m i) → bs ≡ splice z 0 (span m (1288 + i * 514) 514) → (sessionOf (whole c bs) ≡ sessionAt m i) × (c .len ≤ 514)
+unfolding sessionOf sessionAt gatheredAt
+loaded m z bs i c hi hm hc hz e w =
+    let n : c .len ≡ countAt m i = ap (λ (x : Progress). x .len) e ∙ length-span m (1288 + i * 514) (countAt m i) (omega arith) in
+    let g = gathered-copied m z bs i (c .len) hi hm hz n (omega arith) w in
+    (λ j. record { expected = e j .expected; gathered = g j; toggle = e j .toggle; since = e j .time }, omega arith)
 
 -- ── store ──
 

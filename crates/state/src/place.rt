@@ -1,10 +1,11 @@
 // One place of the table: loading its session and storing one.
+use session::Progress;
 use session::Session;
 ghost use mathlib.Core.Path.{_≡_};
 ghost use Prim.Native.Nat.{_≤_, _<_};
 ghost use lib.ListN.{length};
 ghost use Rattle.model.specs.Table.{held};
-ghost use Rattle.session.specs.Session.{sessionOf, InRange};
+ghost use Rattle.session.specs.Session.{sessionOf, progressOf, whole};
 ghost use Rattle.state.specs.Layout.{size, keyAt, timeAt, countAt, sessionAt, streamOfKey};
 ghost use Rattle.state.specs.Place.{withPlace};
 
@@ -24,40 +25,50 @@ pub fn time(state: &[u8], i: usize) -> u64
     bits::le::get_at(state, 520 + i * 8, 8)
 }
 
-// Internal. The session of place i. With nothing in hand its bytes need not be copied.
+// Internal. The session of place i but for its bytes.
+pub fn progress(state: &[u8], i: usize) -> Progress
+    requires { ⌜ ((i < 32) × (size ≤ length (now state))) × (countAt (now state) i ≤ 514) ⌝ }
+    ensures { λ r. ⌜ r ≡ progressOf (sessionAt (now (state .entry)) i) ⌝ }
+{
+    let at = 1160 + i * 4;
+    let len = bits::le::get_at(state, at, 2) as usize;
+    let since = time(state, i);
+    Progress {
+        expected: state[at + 2],
+        toggle: state[at + 3] == 1,
+        time: since,
+        len: len,
+    }
+}
+
+// Internal. The session of place i. All 514 bytes are copied, so that the zeros below cost nothing.
 pub fn load(state: &[u8], i: usize) -> Session
     requires { ⌜ ((i < 32) × (size ≤ length (now state))) × (countAt (now state) i ≤ 514) ⌝ }
     ensures { λ r. ⌜ (sessionOf r ≡ sessionAt (now (state .entry)) i) × (r .len ≤ 514) ⌝ }
 {
     let mut bytes = [0u8; 514];
-    let at = 1160 + i * 4;
-    let len = bits::le::get_at(state, at, 2) as usize;
-    let expected = state[at + 2];
-    let toggle = state[at + 3] == 1;
-    let since = time(state, i);
-    if 0 < len {
-        bits::part::copy_span(&mut bytes, 0, state, 1288 + i * 514, 514);
-    }
+    let c = progress(state, i);
+    bits::part::copy_span(&mut bytes, 0, state, 1288 + i * 514, 514);
     Session {
-        expected: expected,
-        toggle: toggle,
-        time: since,
-        len: len,
+        expected: c.expected,
+        toggle: c.toggle,
+        time: c.time,
+        len: c.len,
         bytes: bytes,
     }
 }
 
-// Internal. The session s of the stream with the key k, stored in place i.
-pub fn store(state: &mut [u8], i: usize, k: u32, s: Session)
-    requires { ⌜ ((i < 32) × (size ≤ length (now state))) × InRange s ⌝ }
-    ensures { λ _. ⌜ now (state .exit) ≡ withPlace (now (state .entry)) i (held (streamOfKey k) (sessionOf s)) ⌝ }
+// Internal. The session of the stream with the key k, stored in place i: its bytes are the first of `bytes`.
+pub fn store(state: &mut [u8], i: usize, k: u32, c: Progress, bytes: &[u8])
+    requires { ⌜ ((i < 32) × (size ≤ length (now state))) × ((c .expected < 32) × ((c .len ≤ 514) × (c .len ≤ length (now bytes)))) ⌝ }
+    ensures { λ _. ⌜ now (state .exit) ≡ withPlace (now (state .entry)) i (held (streamOfKey k) (sessionOf (whole c (now (bytes .entry))))) ⌝ }
 {
     let at = 1160 + i * 4;
-    let n = s.len;
+    let n = c.len;
     bits::le::put_at(state, 1032 + i * 4, 4, k as u64);
     bits::le::put_at(state, at, 2, n as u64);
-    bits::le::put_at(state, at + 2, 1, s.expected as u64);
-    bits::le::put_at(state, at + 3, 1, s.toggle as u64);
-    bits::le::put_at(state, 520 + i * 8, 8, s.time);
-    bits::part::copy_span(state, 1288 + i * 514, &s.bytes, 0, n);
+    bits::le::put_at(state, at + 2, 1, c.expected as u64);
+    bits::le::put_at(state, at + 3, 1, c.toggle as u64);
+    bits::le::put_at(state, 520 + i * 8, 8, c.time);
+    bits::part::copy_span(state, 1288 + i * 514, bytes, 0, n);
 }

@@ -21,7 +21,7 @@ use Rattle.session.specs.Session.{streamOf, parsedOf}
 use Rattle.session.specs.declared.Head.{Head}
 use Rattle.state.specs.Layout.{setupOf, placesOf}
 use Rattle.state.specs.Sound.{soundState}
-use Rattle.receiver.proofs.Checks.{Passed, passes, source-named, kind-lt, destination-lt, parsed-is}
+use Rattle.receiver.proofs.Checks.{Passed, passes, source-named, start-toggle, kind-lt, destination-lt, parsed-is}
 use Rattle.receiver.proofs.Heads.{source-is, type-lt}
 use Rattle.receiver.proofs.Lent.{untouched}
 use borrow.Author.Needs.{needs}
@@ -42,6 +42,7 @@ unfolding headOf
 called m out bs id time g h e fine k a room p f = record {
   sound = fine;
   transfer = subst (λ (x : Head). x .transfer < 32) (sym e) (omega arith);
+  start = subst (λ (x : Head). x .start ≡ true → x .toggle ≡ false) (sym e) (start-toggle (frameOf id bs time) k);
   kind = subst (λ (x : Head). x .kind < 3) (sym e) (kind-lt id);
   type = subst (λ (x : Head). x .«type_id» < 65536) (sym e) (type-lt id);
   source = subst (λ (x : Head). x .source < 128) (sym e) (omega (arith, source-is id));

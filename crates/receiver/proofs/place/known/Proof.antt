@@ -1,34 +1,47 @@
--- `place::known` meets its contract: the session is written back where it changed.
+-- `place::known` meets its contract: the tests on the session's progress lead to the case of the rule.
 use mathlib.Core.Path.{_≡_, refl, sym, ap, _∙_}
+use mathlib.Core.Bool.{true, false}
 use mathlib.Core.List.{List}
-use Prim.Native.Nat.{ℕ, _≤_, _<_}
+use Prim.Native.Nat.{ℕ, _+_, _%_, _≤_, _<_}
 use native.Mathlib.Omega.{arith}
 use lib.ListN.{length}
 use Rattle.bits.proofs.Octets.{octets-all}
-use Rattle.model.specs.Session.{Out, react}
-use Rattle.model.specs.Session as rules
+use Rattle.model.specs.Reception.{store}
+use Rattle.model.specs.Session.{Session, Out, next, restarted, react}
+use Rattle.model.specs.Table.{held}
+use Rattle.receiver.specs.Receive.{lent}
 use Rattle.session.specs.Answer.{told, outAfter}
-use Rattle.session.specs.Session.{sessionOf, streamOf, parsedOf, InRange}
-use Rattle.session.specs.declared.Head.{Head}
-use Rattle.session.specs.declared.Session as coded
-use Rattle.state.specs.Layout.{keyAt, keyOf, expectedAt, sessionAt, streamOfKey}
+use Rattle.session.specs.Session.{streamOf, parsedOf}
+use Rattle.session.specs.declared.Progress.{Progress}
+use Rattle.session.proofs.Rules.{awaited-start, reacts-anew, reacts-skip, reacts-take, reacts-over, reacts-pass}
+use Rattle.state.specs.Layout.{keyAt, sessionAt, placesOf, streamOfKey}
+use Rattle.state.specs.Place.{withPlace}
+use Rattle.state.specs.Sound.{soundState}
 use Rattle.state.proofs.Faultless.{long, count-le, expected-lt}
-use Rattle.receiver.proofs.Lent.{head-key, key-some, few-of, stored, kept}
+use Rattle.receiver.proofs.Enter.{held-key, held-few, restarts-at, awaited-at}
+use Rattle.receiver.proofs.Lent.{head-key, stored, kept}
 use borrow.Author.Needs.{needs}
 use Rattle.receiver.proofs.place.known.Statement.{statement}
 use Rattle.receiver.proofs.place.known.Tie as tie
 
--- the session that was loaded is in range
-in-range : (s : coded.Session) (m : List ℕ) (i : ℕ) → sessionOf s ≡ sessionAt m i → s .len ≤ 514 → expectedAt m i < 32 → InRange s
-unfolding sessionOf sessionAt
-in-range s m i e l h = record { expected = omega (arith, ap (λ (x : rules.Session). x .expected) e); len = l }
+expected-at : (m : List ℕ) → soundState m ≡ true → (i : ℕ) → i < 32 → (keyAt m i ≡ 0 → ⊥) → sessionAt m i .expected < 32
+unfolding sessionAt
+expected-at m fine i h z = expected-lt m fine i h z
 
--- the place is held, since the stream's source is named
-held-key : (h : Head) (m : List ℕ) (i k : ℕ) → (h .source ≡ 0 → ⊥) → k ≡ keyOf (streamOf h) → keyAt m i ≡ k → keyAt m i ≡ 0 → ⊥
-held-key h m i k n e f z = key-some (streamOf h) n (sym e ∙ sym f ∙ z)
+-- the expected transfer ID is one
+expects : (g : tie.After-progress) → g .progress .result .expected < 32
+expects g =
+    let b = g .before .before .before .before in
+    let s = b .before in
+    let a = s .args in
+    let m = a .state .now in
+    let q = s .pre .0 in
+    let z = held-key (a .h) m (a .i) (a .k) (q .named) (s .pre .1 .1 .0) (s .pre .1 .1 .1) in
+    let t = sessionAt m (a .i) in
+    omega (arith, ap (λ (x : Progress). x .expected) (g .progress .ensures), expected-at m (q .sound) (a .i) (s .pre .1 .0) z)
 
-load-requires : tie.Need-load-requires
-load-requires c κs =
+progress-requires : tie.Need-progress-requires
+progress-requires c κs =
     let s = c .before .before .before .before in
     let a = s .args in
     let m = a .state .now in
@@ -36,26 +49,33 @@ load-requires c κs =
     let z = held-key (a .h) m (a .i) (a .k) (q .named) (s .pre .1 .1 .0) (s .pre .1 .1 .1) in
     ((omega arith, long m (q .sound)), count-le m (q .sound) (a .i) (s .pre .1 .0) z)
 
-react-requires : tie.Need-react-requires
-react-requires c κs =
-    let l = c .before in
-    let s = l .before .before .before .before .before in
+restarts-requires : tie.Need-restarts-requires
+restarts-requires c κs = (expects c, c .before .before .before .before .before .pre .0 .transfer)
+
+enter-requires : tie.Need-enter-requires
+enter-requires c κs =
+    let g = c .before .before .before .before .before in
+    let b = g .before .before .before .before in
+    let s = b .before in
     let a = s .args in
     let m = a .state .now in
     let q = s .pre .0 in
     let z = held-key (a .h) m (a .i) (a .k) (q .named) (s .pre .1 .1 .0) (s .pre .1 .1 .1) in
-    record {
-      inRange = in-range (l .load .result) m (a .i) (l .load .ensures .0) (l .load .ensures .1) (expected-lt m (q .sound) (a .i) (s .pre .1 .0) z);
-      transfer = q .transfer;
-      payload = q .payload;
-      room = q .room;
-    }
-
-store-requires : tie.Need-store-requires
-store-requires c κs =
-    let r = c .before .before .before .before .before in
-    let s = r .before .before .before .before .before .before .before in
-    ((omega arith, long (s .args .state .now) (s .pre .0 .sound)), r .react .ensures .inRange)
+    let t = sessionAt m (a .i) in (
+      q,
+      (
+        s .pre .1 .0,
+        (
+          s .pre .1 .1 .0,
+          record {
+            stored = λ n. count-le m (q .sound) (a .i) (s .pre .1 .0) z;
+            expected = q .transfer;
+            few = omega (arith, q .payload);
+            first = λ k. refl;
+          },
+        ),
+      ),
+    )
 
 same-length : tie.Need-same-length
 same-length c = search needs
@@ -65,61 +85,219 @@ same-length-2 c = search needs
 
 returns : tie.Need-returns
 returns c =
-    let w = c .before .before in
-    let r = w .before .before .before .before .before .before in
-    let l = r .before .before in
-    let s = l .before .before .before .before .before in
+    let n = c .before .before .before .before in
+    let k = n .before .before .before in
+    let r = k .before .before in
+    let g = r .before in
+    let b = g .before .before .before .before in
+    let s = b .before in
     let a = s .args in
     let m = a .state .now in
     let q = s .pre .0 in
     let z = held-key (a .h) m (a .i) (a .k) (q .named) (s .pre .1 .1 .0) (s .pre .1 .1 .1) in
-    let d = r .react .ensures in
-    let v = parsedOf (a .h) (a .p .now) in
-    let o = react (sessionAt m (a .i)) v in
-    let f : react (sessionOf (l .load .result)) v ≡ o = ap (λ (x : rules.Session). react x v) (l .load .ensures .0) in
-    let e = ap streamOfKey (s .pre .1 .1 .0) ∙ head-key (streamOf (a .h)) (q .kind) (q .type) (q .source) (q .destination) in
-    let g : sessionOf (r .react .result .session) ≡ o .session = d .session ∙ ap (λ (x : Out). x .session) f in
-    stored m (q .sound) (octets-all m (λ i. omega (arith, l .before .before .before .before .slice-known .given i))) (a .i) (s .pre .1 .0) (a .out .now) (streamOf (a .h)) o
-    (few-of (r .react .result .session) (d .inRange) (o .session) g) (a .k) (sessionOf (r .react .result .session)) (r .react .result .answer)
-    (w .store .last .0) _ (octets-all (w .store .last .0) (λ i. omega (arith, c .slice-known4 .given i))) e g (w .store .ensures)
-    (d .answer ∙ ap (λ (x : Out). told (x .answer)) f) (d .out ∙ ap (λ (x : Out). outAfter (x .answer) (a .out .now)) f)
+    let t = sessionAt m (a .i) in
+    let y = restarts-at t (g .progress .result) (g .progress .ensures) (a .h) (r .restarts .result) (r .restarts .ensures) true (k .before .if1 .taken) in
+    n .enter .ensures ∙ ap (λ (x : Out). lent m (a .out .now) (store (placesOf m) (a .i) (streamOf (a .h)) x)) (sym (reacts-anew t (a .h) (a .p .now) y (k .if2 .taken) (q .start (k .if2 .taken))))
+
+add-reset : tie.Need-add-reset
+add-reset c = search needs
+
+reset-requires : tie.Need-reset-requires
+reset-requires c κs =
+    let g = c .before .before .before .before .before in
+    let b = g .before .before .before .before in
+    let s = b .before in
+    let a = s .args in
+    let m = a .state .now in
+    let q = s .pre .0 in
+    let z = held-key (a .h) m (a .i) (a .k) (q .named) (s .pre .1 .1 .0) (s .pre .1 .1 .1) in
+    let t = sessionAt m (a .i) in
+    ((s .pre .1 .0, long m (q .sound)), (count-le m (q .sound) (a .i) (s .pre .1 .0) z, omega arith))
 
 same-length-3 : tie.Need-same-length-3
 same-length-3 c = search needs
 
-same-length-4 : tie.Need-same-length-4
-same-length-4 c = search needs
-
 returns-2 : tie.Need-returns-2
 returns-2 c =
-    let r = c .before .before .before .before in
-    let l = r .before .before in
-    let s = l .before .before .before .before .before in
+    let n = c .before .before in
+    let k = n .before .before .before in
+    let r = k .before .before in
+    let g = r .before in
+    let b = g .before .before .before .before in
+    let s = b .before in
     let a = s .args in
     let m = a .state .now in
     let q = s .pre .0 in
     let z = held-key (a .h) m (a .i) (a .k) (q .named) (s .pre .1 .1 .0) (s .pre .1 .1 .1) in
-    let d = r .react .ensures in
-    let v = parsedOf (a .h) (a .p .now) in
-    let o = react (sessionAt m (a .i)) v in
-    let f : react (sessionOf (l .load .result)) v ≡ o = ap (λ (x : rules.Session). react x v) (l .load .ensures .0) in
+    let t = sessionAt m (a .i) in
+    let y = restarts-at t (g .progress .result) (g .progress .ensures) (a .h) (r .restarts .result) (r .restarts .ensures) true (k .before .if1 .taken) in
+    let o = react t (parsedOf (a .h) (a .p .now)) in
+    let x = reacts-skip t (a .h) (a .p .now) y (k .if2 .left) in
+    let e = ap streamOfKey (s .pre .1 .1 .0) ∙ head-key (streamOf (a .h)) (q .kind) (q .type) (q .source) (q .destination) in
+    stored m (q .sound) (octets-all m (λ i. omega (arith, b .slice-known .given i))) (a .i) (s .pre .1 .0) (a .out .now) (streamOf (a .h)) o (rw x (omega arith)) (a .k) (restarted t (next (a .h .transfer))) _
+    (n .reset .last .0) _ (octets-all (n .reset .last .0) (λ i. omega (arith, c .slice-known5 .given i))) e (sym (ap (λ (u : Out). u .session) x)) (n .reset .ensures)
+    (sym (ap (λ (u : Out). told (u .answer)) x)) (sym (ap (λ (u : Out). outAfter (u .answer) (a .out .now)) x))
+
+awaited-requires : tie.Need-awaited-requires
+awaited-requires c κs = search needs
+
+add-if4 : tie.Need-add-if4
+add-if4 c =
+    let g = c .before .before .before .before .before in
+    let b = g .before .before .before .before in
+    let s = b .before in
+    let a = s .args in
+    let m = a .state .now in
+    let q = s .pre .0 in
+    let z = held-key (a .h) m (a .i) (a .k) (q .named) (s .pre .1 .1 .0) (s .pre .1 .1 .1) in
+    let t = sessionAt m (a .i) in
+    omega (arith, q .payload, ap (λ (x : Progress). x .len) (g .progress .ensures), held-few m (q .sound) (a .i) (s .pre .1 .0) z)
+
+add-reset-2 : tie.Need-add-reset-2
+add-reset-2 c = omega (arith, expects (c .before .before .before .before .before .before .before .before))
+
+reset-requires-2 : tie.Need-reset-requires-2
+reset-requires-2 c κs =
+    let g = c .before .before .before .before .before .before .before .before in
+    let b = g .before .before .before .before in
+    let s = b .before in
+    let a = s .args in
+    let m = a .state .now in
+    let q = s .pre .0 in
+    let z = held-key (a .h) m (a .i) (a .k) (q .named) (s .pre .1 .1 .0) (s .pre .1 .1 .1) in
+    let t = sessionAt m (a .i) in
+    ((s .pre .1 .0, long m (q .sound)), (count-le m (q .sound) (a .i) (s .pre .1 .0) z, omega arith))
+
+same-length-4 : tie.Need-same-length-4
+same-length-4 c = search needs
+
+returns-3 : tie.Need-returns-3
+returns-3 c =
+    let n = c .before .before in
+    let k = n .before .before .before in
+    let w = k .before .before .before in
+    let r = w .before .before in
+    let g = r .before in
+    let b = g .before .before .before .before in
+    let s = b .before in
+    let a = s .args in
+    let m = a .state .now in
+    let q = s .pre .0 in
+    let z = held-key (a .h) m (a .i) (a .k) (q .named) (s .pre .1 .1 .0) (s .pre .1 .1 .1) in
+    let t = sessionAt m (a .i) in
+    let p = g .progress .result in
+    let y = restarts-at t p (g .progress .ensures) (a .h) (r .restarts .result) (r .restarts .ensures) false (w .before .if1 .left) in
+    let i = awaited-at t p (g .progress .ensures) (a .h) (w .awaited .result) (w .awaited .ensures) true (k .before .before .if3 .taken) in
+    let o = react t (parsedOf (a .h) (a .p .now)) in
+    let x = reacts-over t (a .h) (a .p .now) y i (omega (arith, ap (λ (u : Progress). u .len) (g .progress .ensures), k .if4 .taken)) (q .payload) in
+    let e = ap streamOfKey (s .pre .1 .1 .0) ∙ head-key (streamOf (a .h)) (q .kind) (q .type) (q .source) (q .destination) in
+    stored m (q .sound) (octets-all m (λ i. omega (arith, b .slice-known .given i))) (a .i) (s .pre .1 .0) (a .out .now) (streamOf (a .h)) o (rw x (omega arith)) (a .k) (restarted t (next (t .expected))) _
+    (n .reset2 .last .0) _ (octets-all (n .reset2 .last .0) (λ i. omega (arith, c .slice-known6 .given i))) e (sym (ap (λ (u : Out). u .session) x))
+    (n .reset2 .ensures ∙ ap (λ (u : Progress). withPlace m (a .i) (held (streamOfKey (a .k)) (restarted t (next (u .expected))))) (g .progress .ensures))
+    (sym (ap (λ (u : Out). told (u .answer)) x)) (sym (ap (λ (u : Out). outAfter (u .answer) (a .out .now)) x))
+
+enter-requires-2 : tie.Need-enter-requires-2
+enter-requires-2 c κs =
+    let k = c .before .before in
+    let w = k .before .before .before in
+    let r = w .before .before in
+    let g = r .before in
+    let b = g .before .before .before .before in
+    let s = b .before in
+    let a = s .args in
+    let m = a .state .now in
+    let q = s .pre .0 in
+    let z = held-key (a .h) m (a .i) (a .k) (q .named) (s .pre .1 .1 .0) (s .pre .1 .1 .1) in
+    let t = sessionAt m (a .i) in
+    let p = g .progress .result in
+    let i = awaited-at t p (g .progress .ensures) (a .h) (w .awaited .result) (w .awaited .ensures) true (k .before .before .if3 .taken) in (
+      q,
+      (
+        s .pre .1 .0,
+        (
+          s .pre .1 .1 .0,
+          record {
+            stored = λ n. count-le m (q .sound) (a .i) (s .pre .1 .0) z;
+            expected = expected-at m (q .sound) (a .i) (s .pre .1 .0) z;
+            few = omega (arith, ap (λ (u : Progress). u .len) (g .progress .ensures), k .if4 .left);
+            first = awaited-start (t .expected) (t .toggle) (length (t .gathered)) (a .h) _ refl i;
+          },
+        ),
+      ),
+    )
+
+same-length-5 : tie.Need-same-length-5
+same-length-5 c = search needs
+
+same-length-6 : tie.Need-same-length-6
+same-length-6 c = search needs
+
+returns-4 : tie.Need-returns-4
+returns-4 c =
+    let n = c .before .before .before .before in
+    let k = n .before .before .before in
+    let w = k .before .before .before in
+    let r = w .before .before in
+    let g = r .before in
+    let b = g .before .before .before .before in
+    let s = b .before in
+    let a = s .args in
+    let m = a .state .now in
+    let q = s .pre .0 in
+    let z = held-key (a .h) m (a .i) (a .k) (q .named) (s .pre .1 .1 .0) (s .pre .1 .1 .1) in
+    let t = sessionAt m (a .i) in
+    let p = g .progress .result in
+    let y = restarts-at t p (g .progress .ensures) (a .h) (r .restarts .result) (r .restarts .ensures) false (w .before .if1 .left) in
+    let i = awaited-at t p (g .progress .ensures) (a .h) (w .awaited .result) (w .awaited .ensures) true (k .before .before .if3 .taken) in
+    n .enter2 .ensures ∙ ap (λ (x : Out). lent m (a .out .now) (store (placesOf m) (a .i) (streamOf (a .h)) x)) (sym (reacts-take t (a .h) (a .p .now) y i))
+
+same-length-7 : tie.Need-same-length-7
+same-length-7 c = search needs
+
+returns-5 : tie.Need-returns-5
+returns-5 c =
+    let w = c .before in
+    let r = w .before .before in
+    let g = r .before in
+    let b = g .before .before .before .before in
+    let s = b .before in
+    let a = s .args in
+    let m = a .state .now in
+    let q = s .pre .0 in
+    let z = held-key (a .h) m (a .i) (a .k) (q .named) (s .pre .1 .1 .0) (s .pre .1 .1 .1) in
+    let t = sessionAt m (a .i) in
+    let p = g .progress .result in
+    let y = restarts-at t p (g .progress .ensures) (a .h) (r .restarts .result) (r .restarts .ensures) false (w .before .if1 .left) in
+    let i = awaited-at t p (g .progress .ensures) (a .h) (w .awaited .result) (w .awaited .ensures) false (c .if3 .left) in
+    let o = react t (parsedOf (a .h) (a .p .now)) in
+    let x = reacts-pass t (a .h) (a .p .now) y i in
     let e = ap streamOfKey (s .pre .1 .1 .1 ∙ s .pre .1 .1 .0) ∙ head-key (streamOf (a .h)) (q .kind) (q .type) (q .source) (q .destination) in
-    let g : sessionOf (r .react .result .session) ≡ o .session = d .session ∙ ap (λ (x : Out). x .session) f in
-    let same : o .session ≡ sessionAt m (a .i) = sym (ap (λ (x : Out). x .session) f) ∙ d .kept (c .if1 .left) ∙ l .load .ensures .0 in
-    kept m (q .sound) (octets-all m (λ i. omega (arith, l .before .before .before .before .slice-known .given i))) (a .i) (s .pre .1 .0) (a .out .now) (streamOf (a .h)) o
-    (few-of (r .react .result .session) (d .inRange) (o .session) g) z e same (r .react .result .answer) _
-    (d .answer ∙ ap (λ (x : Out). told (x .answer)) f) (d .out ∙ ap (λ (x : Out). outAfter (x .answer) (a .out .now)) f)
+    kept m (q .sound) (octets-all m (λ i. omega (arith, b .slice-known .given i))) (a .i) (s .pre .1 .0) (a .out .now) (streamOf (a .h)) o (rw (x .1 .0) (held-few m (q .sound) (a .i) (s .pre .1 .0) z)) z e (x .1 .0) _ _
+    (sym (x .0)) (sym (x .1 .1 (a .out .now)))
 
 pub known-spec : {M : Type 1} → statement M
 known-spec =
     tie.close
     (tie.spec
-    load-requires
-    react-requires
-    store-requires
+    progress-requires
+    restarts-requires
+    enter-requires
     same-length
     same-length-2
     returns
+    add-reset
+    reset-requires
     same-length-3
+    returns-2
+    awaited-requires
+    add-if4
+    add-reset-2
+    reset-requires-2
     same-length-4
-    returns-2)
+    returns-3
+    enter-requires-2
+    same-length-5
+    same-length-6
+    returns-4
+    same-length-7
+    returns-5)

@@ -6,10 +6,14 @@ use Prim.Native.Nat.{ℕ, _≤_, _<_}
 use native.Mathlib.Omega.{arith}
 use lib.ListN.{length}
 use Rattle.bits.proofs.Octets.{octets-all}
-use Rattle.model.specs.Reception.{Step, stepNew}
+use Rattle.model.specs.Reception.{Step, store, stepNew}
+use Rattle.model.specs.Session.{Out, fresh, takes, proceed}
 use Rattle.model.specs.Table.{Places}
+use Rattle.receiver.specs.Place.{Enters}
 use Rattle.receiver.specs.Receive.{lent}
-use Rattle.session.specs.Session.{parsedOf}
+use Rattle.receiver.specs.declared.place.Way.the-variants.{New}
+use Rattle.session.specs.Session.{streamOf, parsedOf}
+use Rattle.session.proofs.Rules.{begins}
 use Rattle.session.specs.declared.Head.{Head}
 use Rattle.state.specs.Layout.{placesOf}
 use Rattle.state.proofs.Faultless.{long}
@@ -23,11 +27,26 @@ use Rattle.receiver.proofs.place.unknown.Tie as tie
 at-place : (m out p : List ℕ) (h : Head) {o q : Option ℕ} → o ≡ q → lent m out (stepNew q (placesOf m) (parsedOf h p)) ≡ lent m out (stepNew o (placesOf m) (parsedOf h p))
 at-place m out p h e = ap (λ (x : Option ℕ). lent m out (stepNew x (placesOf m) (parsedOf h p))) (sym e)
 
+-- a new session has room for the frame
+new : (s : tie.Start) (i : ℕ) → Enters New (s .args .state .now) i (s .args .h) (s .args .p .now)
+new s i = record { stored = λ n. absurd (n refl); expected = s .pre .0 .transfer; few = omega (arith, s .pre .0 .payload); first = λ k. refl }
+
+begun : (s : tie.Start) (i : ℕ)
+    → lent (s .args .state .now) (s .args .out .now) (store (placesOf (s .args .state .now)) i (streamOf (s .args .h)) (takes (fresh (parsedOf (s .args .h) (s .args .p .now))) (parsedOf (s .args .h) (s .args .p .now))))
+    ≡ lent (s .args .state .now) (s .args .out .now) (store (placesOf (s .args .state .now)) i (streamOf (s .args .h)) (proceed (fresh (parsedOf (s .args .h) (s .args .p .now))) (parsedOf (s .args .h) (s .args .p .now))))
+begun s i =
+    let a = s .args in
+    let k = s .pre .1 .1 in
+    ap (λ (x : Out). lent (a .state .now) (a .out .now) (store (placesOf (a .state .now)) i (streamOf (a .h)) x)) (sym (begins (a .h) (a .p .now) k (s .pre .0 .start k)))
+
 scan-requires : tie.Need-scan-requires
 scan-requires c κs = let s = c .before .before .before .before in long (s .args .state .now) (s .pre .0 .sound)
 
-begin-requires : tie.Need-begin-requires
-begin-requires c κs = search needs
+enter-requires : tie.Need-enter-requires
+enter-requires c κs =
+    let t = c .before .before in
+    let s = t .before .before .before .before .before .before in
+    (s .pre .0, (t .if1 .taken, (s .pre .1 .0, new s (t .before .scan .result))))
 
 same-length : tie.Need-same-length
 same-length c = search needs
@@ -45,13 +64,16 @@ returns c =
     let a = s .args in
     let m = a .state .now in
     let q = s .pre .0 in
-    b .begin .ensures ∙ at-place m (a .out .now) (a .p .now) (a .h) (place-free m (a .h .time) (n .scan .result) (n .scan .ensures) (t .if1 .taken))
+    b .enter .ensures ∙ begun s (n .scan .result) ∙ at-place m (a .out .now) (a .p .now) (a .h) (place-free m (a .h .time) (n .scan .result) (n .scan .ensures) (t .if1 .taken))
 
 scan-requires-2 : tie.Need-scan-requires-2
 scan-requires-2 c κs = let s = c .before .before .before .before .before .before .before in long (s .args .state .now) (s .pre .0 .sound)
 
-begin-requires-2 : tie.Need-begin-requires-2
-begin-requires-2 c κs = search needs
+enter-requires-2 : tie.Need-enter-requires-2
+enter-requires-2 c κs =
+    let t = c .before .before in
+    let s = t .before .before .before .before .before .before .before .before .before in
+    (s .pre .0, (t .if2 .taken, (s .pre .1 .0, new s (t .before .scan2 .result))))
 
 same-length-3 : tie.Need-same-length-3
 same-length-3 c = search needs
@@ -71,7 +93,7 @@ returns-2 c =
     let a = s .args in
     let m = a .state .now in
     let q = s .pre .0 in
-    b .begin2 .ensures ∙ at-place m (a .out .now) (a .p .now) (a .h) (place-old m (a .h .time) (n .scan .result) (n .scan .ensures) (e .if1 .left) (y .scan2 .result) (y .scan2 .ensures) (t .if2 .taken))
+    b .enter2 .ensures ∙ begun s (y .scan2 .result) ∙ at-place m (a .out .now) (a .p .now) (a .h) (place-old m (a .h .time) (n .scan .result) (n .scan .ensures) (e .if1 .left) (y .scan2 .result) (y .scan2 .ensures) (t .if2 .taken))
 
 same-length-5 : tie.Need-same-length-5
 same-length-5 c = search needs
@@ -95,12 +117,12 @@ unknown-spec =
     tie.close
     (tie.spec
     scan-requires
-    begin-requires
+    enter-requires
     same-length
     same-length-2
     returns
     scan-requires-2
-    begin-requires-2
+    enter-requires-2
     same-length-3
     same-length-4
     returns-2

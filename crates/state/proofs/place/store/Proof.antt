@@ -1,7 +1,7 @@
 -- `place::store` meets its contract: its six stores, one after the other, are the place.
 use mathlib.Core.Path.{_≡_}
-use lib.ListN.{length}
 use native.Mathlib.Omega.{arith}
+use Rattle.session.specs.Session.{whole}
 use Rattle.state.proofs.Stored.{stored}
 use borrow.Author.Needs.{needs}
 use Rattle.state.proofs.place.store.Statement.{statement}
@@ -59,7 +59,9 @@ add-copy-span : tie.Need-add-copy-span
 add-copy-span c = search needs
 
 copy-span-requires : tie.Need-copy-span-requires
-copy-span-requires c κs = search needs
+copy-span-requires c κs =
+    let p = c .before .before .before .before .before .before .before .before .before .before .before .before .before .before .before .before .before .before .before .before .before .before .before .before .before .pre in
+    (omega (arith, p .0 .0, p .0 .1, p .1 .1 .0), omega (arith, p .1 .1 .1))
 
 same-length : tie.Need-same-length
 same-length c = search needs
@@ -67,17 +69,15 @@ same-length c = search needs
 returns : tie.Need-returns
 returns c =
     let cs = c .before .before in
-    let p5 = cs .before .before .before .before .before .before .before in
+    let p5 = cs .before .before .before .before in
     let p4 = p5 .before .before .before .before in
-    let p3 = p4 .before .before .before .before in
-    let p2 = p3 .before .before .before .before in
+    let p3 = p4 .before .before .before .before .before in
+    let p2 = p3 .before .before .before .before .before in
     let p1 = p2 .before .before .before .before in
-    let start = p1 .before .before .before in
+    let start = p1 .before .before .before .before in
     let a = start .args in
-    let r = start .pre .1 in
-    let g : length (a .t4 .bytes) ≡ 514 = search needs in
     stored (a .state .now) (p1 .put-at .last .0) (p2 .put-at2 .last .0) (p3 .put-at3 .last .0) (p4 .put-at4 .last .0) (p5 .put-at5 .last .0) (cs .copy-span .last .0)
-    (a .i) (a .k) (a .t4) (omega arith) (omega arith) (omega arith) (omega (arith, r .expected)) (omega (arith, r .len))
+    (a .i) (a .k) (whole (a .c) (a .bytes .now)) (omega arith) (omega arith) (omega arith) (omega arith) (omega arith)
     (p1 .put-at .ensures) (p2 .put-at2 .ensures) (p3 .put-at3 .ensures) (p4 .put-at4 .ensures) (p5 .put-at5 .ensures) (cs .copy-span .ensures)
 
 pub store-spec : {M : Type 1} → statement M

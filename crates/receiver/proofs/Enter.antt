@@ -1,0 +1,72 @@
+-- The session that a frame enters, and the place it comes from.
+use mathlib.Core.Path.{_≡_, refl, sym, ap, _∙_}
+use mathlib.Core.Bool.{Bool, true, false}
+use mathlib.Core.List.{List}
+use Prim.Native.Nat.{ℕ, _+_, _*_, _≤_, _<_}
+use native.Mathlib.Omega.{arith}
+use lib.ListN.{length, take}
+use lib.Seq.{length-take-le}
+use Rattle.bits.proofs.Splice.{length-span}
+use Rattle.model.specs.Session.{Session, restarted}
+use Rattle.receiver.specs.Place.{entered}
+use Rattle.receiver.specs.declared.place.Way.{Way}
+use Rattle.receiver.specs.declared.place.Way.the-variants.{New, Again, On}
+use Rattle.session.specs.Session.{sessionOf, streamOf, freshOf, progressOf, restartsAt, awaitedAt}
+use Rattle.session.specs.declared.Head.{Head}
+use Rattle.session.specs.declared.Progress.{Progress}
+use Rattle.session.specs.declared.Session as coded
+use Rattle.state.specs.Layout.{keyAt, keyOf, countAt, gatheredAt, sessionAt}
+use Rattle.state.specs.Sound.{soundState}
+use Rattle.state.proofs.Faultless.{long, count-le}
+use Rattle.receiver.proofs.Lent.{key-some}
+
+pub again-new : Again ≡ New → ⊥
+again-new q = let z : _≡_ {A = ℕ} 0 1 = cc in absurd (omega arith)
+
+pub on-new : On ≡ New → ⊥
+on-new q = let z : _≡_ {A = ℕ} 0 1 = cc in absurd (omega arith)
+
+module _ (m : List ℕ) (i : ℕ) (h : Head) (way : Way) where
+  pub enters-new : way ≡ New → (r : coded.Session) → r ≡ freshOf (h .transfer) (h .time) → (sessionOf r ≡ entered way m i h) × (r .len ≤ 514)
+  unfolding sessionOf
+  enters-new e r f = (ap sessionOf f ∙ ap (λ (w : Way). entered w m i h) (sym e), omega (arith, ap (λ (x : coded.Session). x .len) f))
+
+  module _ (s : coded.Session) (l : sessionOf s ≡ sessionAt m i) where
+    pub enters-again : way ≡ Again → (r : coded.Session)
+        → r ≡ record { expected = h .transfer; toggle = false; time = s .time; len = 0; bytes = s .bytes } → (sessionOf r ≡ entered way m i h) × (r .len ≤ 514)
+    unfolding sessionOf
+    enters-again e r f =
+        (ap sessionOf f ∙ ap (λ (x : Session). restarted x (h .transfer)) l ∙ ap (λ (w : Way). entered w m i h) (sym e), omega (arith, ap (λ (x : coded.Session). x .len) f))
+
+    pub enters-on : way ≡ On → s .len ≤ 514 → (sessionOf s ≡ entered way m i h) × (s .len ≤ 514)
+    enters-on e n = (l ∙ ap (λ (w : Way). entered w m i h) (sym e), n)
+
+-- the bytes in hand, and the expected transfer ID, of a session of the code
+pub in-hand : (s : coded.Session) (q : Session) → s .len ≤ length (s .bytes) → sessionOf s ≡ q → s .len ≡ length (q .gathered)
+unfolding sessionOf
+in-hand s q l e = sym (length-take-le (s .len) (s .bytes) l) ∙ ap (λ (x : Session). length (x .gathered)) e
+
+pub expected-of : (s : coded.Session) (q : Session) → sessionOf s ≡ q → s .expected ≡ q .expected
+unfolding sessionOf
+expected-of s q e = ap (λ (x : Session). x .expected) e
+
+-- the place is held, since the stream's source is named
+pub held-key : (h : Head) (m : List ℕ) (i k : ℕ) → (h .source ≡ 0 → ⊥) → k ≡ keyOf (streamOf h) → keyAt m i ≡ k → keyAt m i ≡ 0 → ⊥
+held-key h m i k n e f z = key-some (streamOf h) n (sym e ∙ sym f ∙ z)
+
+pub held-few : (m : List ℕ) → soundState m ≡ true → (i : ℕ) → i < 32 → (keyAt m i ≡ 0 → ⊥) → length (sessionAt m i .gathered) ≤ 514
+unfolding sessionAt gatheredAt
+held-few m fine i h z =
+    let n = count-le m fine i h z in
+    let l = long m fine in
+    let e : length (gatheredAt m i) ≡ countAt m i = length-span m (1288 + i * 514) (countAt m i) (omega arith) in
+    omega arith
+
+-- the code's tests are those on the session of the place
+module _ (s : Session) (c : Progress) (e : c ≡ progressOf s) (h : Head) where
+  pub restarts-at : (b : Bool) → b ≡ restartsAt (c .expected) (c .time) h → (a : Bool) → b ≡ a → restartsAt (s .expected) (s .since) h ≡ a
+  restarts-at b t a q = sym (ap (λ (x : Progress). restartsAt (x .expected) (x .time) h) e) ∙ sym t ∙ q
+
+  pub awaited-at : (b : Bool) → b ≡ awaitedAt (c .expected) (c .toggle) (c .len) h → (a : Bool) → b ≡ a
+      → awaitedAt (s .expected) (s .toggle) (length (s .gathered)) h ≡ a
+  awaited-at b t a q = sym (ap (λ (x : Progress). awaitedAt (x .expected) (x .toggle) (x .len) h) e) ∙ sym t ∙ q
