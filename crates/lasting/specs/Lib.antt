@@ -1,1 +1,3 @@
 pub mod Received
+pub mod Run
+pub mod Condition3
