@@ -21,6 +21,7 @@ use Rattle.state.proofs.Bools.{and-left, and-right}
 use Rattle.state.proofs.Places.{Few, Holdable, Aside, aside, length-withPlace, same-raw, same-place, place-back, raw-back, empty-back, raw-empty}
 use Rattle.state.proofs.Table.{Plain, octets-withPlace}
 use Rattle.state.proofs.Tabulate.{length-tabulate, tab-same}
+use Rattle.state.proofs.View.{Clear}
 
 -- a place, and a table, that the layout can hold
 abbrev pub Storable : Place → Type 0
@@ -117,6 +118,13 @@ raw-from (p ∷ ps) m j w =
 
 -- ── all 32 places ──
 
+-- a part before a field, and one past it
+ahead : {at w a n : ℕ} → a < at → a + n ≤ at → Clear at w a n
+ahead h k = record { before = λ x. k; behind = λ x. omega arith }
+
+past : {at w a n : ℕ} → at + w ≤ a → Clear at w a n
+past h = record { before = λ x. omega arith; behind = λ x. h }
+
 few-subscriptions : (m : List ℕ) → acceptable (setupOf m) ≡ true → getD m 1 0 ≤ 64
 unfolding acceptable setupOf
 few-subscriptions m e =
@@ -141,30 +149,25 @@ module _ (m : List ℕ) (ps : Places) (long : size ≤ length m) (whole : length
   pub raw-written : every (rawFits (written m 0 ps)) 0 32 ≡ true
   raw-written = ap (every (rawFits (written m 0 ps)) 0) (sym whole) ∙ raw-from ps m 0 w
 
-  -- before the times, and between the times and the keys of the places
+  -- before the times, between the times and the keys of the places, and past all
   low : (a n : ℕ) → a < 520 → a + n ≤ 520 → span (written m 0 ps) a n ≡ span m a n
   low a n l h = aside-from ps m 0 w a n (λ i k. record {
-    key = record { before = λ x. omega arith; behind = λ x. omega arith };
-    control = record { before = λ x. omega arith; behind = λ x. omega arith };
-    time = record { before = λ x. omega arith; behind = λ x. omega arith };
-    gathered = record { before = λ x. omega arith; behind = λ x. omega arith };
+    key = ahead (omega arith) (omega arith);
+    control = ahead (omega arith) (omega arith);
+    time = ahead (omega arith) (omega arith);
+    gathered = ahead (omega arith) (omega arith);
   })
 
   middle : (a n : ℕ) → 776 ≤ a → a < 1032 → a + n ≤ 1032 → span (written m 0 ps) a n ≡ span m a n
   middle a n l b h = aside-from ps m 0 w a n (λ i k. record {
-    key = record { before = λ x. omega arith; behind = λ x. omega arith };
-    control = record { before = λ x. omega arith; behind = λ x. omega arith };
-    time = record { before = λ x. omega arith; behind = λ x. omega arith };
-    gathered = record { before = λ x. omega arith; behind = λ x. omega arith };
+    key = ahead (omega arith) (omega arith);
+    control = ahead (omega arith) (omega arith);
+    time = past (omega arith);
+    gathered = ahead (omega arith) (omega arith);
   })
 
   high : (n : ℕ) → span (written m 0 ps) size n ≡ span m size n
-  high n = aside-from ps m 0 w size n (λ i k. record {
-    key = record { before = λ x. omega arith; behind = λ x. omega arith };
-    control = record { before = λ x. omega arith; behind = λ x. omega arith };
-    time = record { before = λ x. omega arith; behind = λ x. omega arith };
-    gathered = record { before = λ x. omega arith; behind = λ x. omega arith };
-  })
+  high n = aside-from ps m 0 w size n (λ i k. record { key = past (omega arith); control = past (omega arith); time = past (omega arith); gathered = past (omega arith) })
 
   -- the bytes past the layout
   pub past-written : drop size (written m 0 ps) ≡ drop size m
