@@ -1,4 +1,4 @@
--- One reception: the view of the state after, and no fault in it.
+-- A table written into a state, and one reception: the view of the state after, and no fault in it.
 use mathlib.Core.Path.{_≡_, ap, _∙_}
 use mathlib.Core.Bool.{Bool, true, false, _&&_}
 use mathlib.Core.List.{List}
@@ -13,7 +13,8 @@ use Rattle.bits.proofs.Splice.{length-span}
 use Rattle.bits.specs.Order.{Octets}
 use Rattle.bits.specs.Part.{span}
 use Rattle.lasting.specs.Received.{Typed, stepOn, ViewLaw, SoundLaw}
-use Rattle.lasting.proofs.Writable.{Writable, WritableAt, AllWritable, step-writable, all-storable, all-plain}
+use Rattle.lasting.specs.Written.{Writable, WritableAt, AllWritable, Stands, TableLaw}
+use Rattle.lasting.proofs.Writable.{step-writable, all-storable, all-plain}
 use Rattle.model.proofs.Lasting.{lasting}
 use Rattle.model.specs.Frame.{Frame}
 use Rattle.model.specs.Sound.{placesFit, apart, sound}
@@ -64,56 +65,63 @@ fitting : (ps : Places) → sound ps ≡ true → placesFit ps ≡ true
 unfolding sound
 fitting ps h = and-left (placesFit ps) (apart ps) (and-right (eqb (length ps) 32) (placesFit ps && apart ps) h)
 
+module _ (m : List ℕ) (ps : Places) (fine : soundState m ≡ true) (ok : sound ps ≡ true) (storable : AllStorable ps) where
+  no-fault : soundState (written m 0 ps) ≡ true
+  unfolding soundState
+  no-fault =
+      let l = long m fine in
+      let n = whole ps ok in
+      let u = setup-fine m fine in
+      rw (
+        length-written m ps l n storable,
+        le-leb size (length m) l,
+        setup-written m ps l n storable u,
+        u,
+        raw-written m ps l n storable,
+        view-written m ps l n storable,
+        ok,
+      )
+
+pub table-law : TableLaw
+table-law m ps fine bytes ok w =
+    let l = long m fine in
+    let n = whole ps ok in
+    let s = all-storable ps (fitting ps ok) w in
+    record {
+      sound = no-fault m ps fine ok s;
+      bytes = octets-written ps m 0 bytes (all-plain ps (fitting ps ok) w);
+      setup = setup-written m ps l n s (setup-fine m fine);
+      places = view-written m ps l n s;
+      as-long = length-written m ps l n s;
+      past = past-written m ps l n s;
+    }
+
 -- ── the state after ──
 
 module _ (m : List ℕ) (f : Frame) (out : List ℕ) (fine : soundState m ≡ true) (bytes : Octets m) (typed : Typed f) where
-  abbrev after : Places
-  after = stepOn m f out .places
-
-  state-is : received m f out .state ≡ written m 0 after
+  state-is : received m f out .state ≡ written m 0 (stepOn m f out .places)
   unfolding received receivedIf
   state-is = rw fine
 
-  sound-after : sound after ≡ true
-  sound-after = lasting .reception (setupOf m) (placesOf m) (arriving f out) (table-sound m fine)
-
-  writable : AllWritable after
-  writable = step-writable (setupOf m) (placesOf m) (arriving f out) (table-writable m bytes (long m fine)) typed
-
-  storable : AllStorable after
-  storable = all-storable after (fitting after sound-after) writable
-
-  no-fault : soundState (written m 0 after) ≡ true
-  unfolding soundState
-  no-fault =
-      let n = whole after sound-after in
-      let l = long m fine in
-      rw (
-        length-written m after l n storable,
-        le-leb size (length m) l,
-        setup-written m after l n storable (setup-fine m fine),
-        setup-fine m fine,
-        raw-written m after l n storable,
-        view-written m after l n storable,
-        sound-after,
-      )
+  stands : Stands m (stepOn m f out .places)
+  stands =
+      let u = setupOf m in
+      let r = arriving f out in
+      table-law m (stepOn m f out .places) fine bytes (lasting .reception u (placesOf m) r (table-sound m fine))
+      (step-writable u (placesOf m) r (table-writable m bytes (long m fine)) typed)
 
 pub view-law : ViewLaw
 view-law m f out fine bytes typed =
-    let ps = stepOn m f out .places in
     let e = state-is m f out fine bytes typed in
-    let l = long m fine in
-    let n = whole ps (sound-after m f out fine bytes typed) in
-    let s = storable m f out fine bytes typed in
+    let s = stands m f out fine bytes typed in
     record {
-      setup = ap setupOf e ∙ setup-written m ps l n s (setup-fine m fine);
-      places = ap placesOf e ∙ view-written m ps l n s;
-      as-long = ap length e ∙ length-written m ps l n s;
-      past = ap (drop size) e ∙ past-written m ps l n s;
+      setup = ap setupOf e ∙ s .setup;
+      places = ap placesOf e ∙ s .places;
+      as-long = ap length e ∙ s .as-long;
+      past = ap (drop size) e ∙ s .past;
     }
 
 pub sound-law : SoundLaw
 sound-law m f out fine bytes typed =
-    let ps = stepOn m f out .places in
-    let p = all-plain ps (fitting ps (sound-after m f out fine bytes typed)) (writable m f out fine bytes typed) in
-    rw (state-is m f out fine bytes typed) (no-fault m f out fine bytes typed, octets-written ps m 0 bytes p)
+    let s = stands m f out fine bytes typed in
+    rw (state-is m f out fine bytes typed) (s .sound, s .bytes)

@@ -11,6 +11,7 @@ use lib.ListN.{length, getD, set}
 use Rattle.bits.proofs.Octets.{octets-append, octets-take}
 use Rattle.bits.specs.Order.{Octets}
 use Rattle.lasting.specs.Received.{Typed}
+use Rattle.lasting.specs.Written.{Writable, WritableAt, AllWritable}
 use Rattle.model.specs.Answer.{Reason}
 use Rattle.model.specs.Check.{Reception, Parsed, parsed, check}
 use Rattle.model.specs.Frame.{Frame, Stream, isAnonymous}
@@ -28,11 +29,7 @@ use Rattle.state.specs.Layout.{keyOf}
 
 -- ── one session ──
 
-pub record Writable (s : Session) : Type 0 where
-  pub since : s .since < 2 ^ 64
-  pub bytes : Octets (s .gathered)
-
--- the same of a frame
+-- what a frame brings to one
 record Brings (v : Parsed) : Type 0 where
   time : v .time < 2 ^ 64
   bytes : Octets (v .payload)
@@ -73,14 +70,6 @@ react-writable s v h b = go (restarts s v) (v .start) where
   go false d = proceed-writable s v h b
 
 -- ── the table ──
-
-abbrev pub WritableAt : Place → Type 0
-WritableAt empty = Unit {0}
-WritableAt (held d s) = Writable s
-
-abbrev pub AllWritable : Places → Type 0
-AllWritable [] = Unit {0}
-AllWritable (p ∷ ps) = WritableAt p × AllWritable ps
 
 set-writable : (ps : Places) (i : ℕ) (q : Place) → AllWritable ps → WritableAt q → AllWritable (set ps i q)
 set-writable [] i q h k = tt

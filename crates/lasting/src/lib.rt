@@ -2,6 +2,12 @@
 ghost use Rattle.lasting.specs.Condition3.{Condition3Lent};
 ghost use Rattle.lasting.specs.Received.{ViewLaw, SoundLaw};
 ghost use Rattle.lasting.specs.Run.{RunLaw};
+ghost use Rattle.lasting.specs.Written.{TableLaw};
+
+// Every table without a fault, with times and data in range, is that of a lent state.
+pub fn tables_held()
+    ensures { λ _. ⌜ TableLaw ⌝ }
+{}
 
 // The state after a reception stands for the table that the rules' step leaves, under the same setup.
 pub fn reception_by_view()
