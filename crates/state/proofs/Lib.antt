@@ -9,4 +9,5 @@ pub mod Soundness
 pub mod View
 pub mod Places
 pub mod Table
+pub mod Written
 pub mod Faultless

@@ -4,7 +4,7 @@ use mathlib.Core.Bool.{Bool, true, false, _&&_, _||_}
 use mathlib.Core.List.{List, [], _∷_, _++_}
 use Prim.Native.Nat.{ℕ, zero, suc, _+_, _*_, _-_, _^_, _≤_, _<_}
 use native.Mathlib.Omega.{arith}
-use borrow.Author.Tests.{eqb-true, eqb-false, eq-eqb, ne-eqb, leb-true, ltb-true}
+use borrow.Author.Tests.{eqb-true, eqb-false, eq-eqb, ne-eqb, leb-true, le-leb, ltb-true}
 use lib.Dec.{eqb, ltb, leb}
 use lib.ListN.{length, take, drop, set, getD}
 use lib.Seq.{take-add, drop-cons, drop-drop}
@@ -24,7 +24,7 @@ use Rattle.state.specs.Sound.{rawFits}
 use Rattle.state.proofs.Bools.{and-left, and-right}
 use Rattle.state.proofs.Keys.{key-stream}
 use Rattle.state.proofs.Soundness.{key-lt}
-use Rattle.state.proofs.View.{Clear, length-withKey, key-clear, length-withSession, session-clear, session-back}
+use Rattle.state.proofs.View.{Clear, length-withKey, key-clear, length-withSession, session-clear, own-count, own-toggle, session-back}
 
 -- what a place may be written with
 abbrev pub Few : Place → Type 0
@@ -54,7 +54,7 @@ module _ (m : List ℕ) (i : ℕ) (long : size ≤ length m) (inTable : i < 32) 
       let l = length-withKey i inTable m (keyOf d) long in
       length-withSession i inTable s f (withKey m i (keyOf d)) (omega arith) ∙ l
 
-  aside : (p : Place) → Few p → (a n : ℕ) → Aside i a n → span (withPlace m i p) a n ≡ span m a n
+  pub aside : (p : Place) → Few p → (a n : ℕ) → Aside i a n → span (withPlace m i p) a n ≡ span m a n
   unfolding withPlace
   aside empty f a n c = key-clear i inTable m 0 a n long (c .key)
   aside (held d s) f a n c =
@@ -167,6 +167,31 @@ module _ (m : List ℕ) (i : ℕ) (long : size ≤ length m) (inTable : i < 32) 
       let z : eqb (keyOf d) 0 ≡ false = ne-eqb (keyOf d) 0 (w .some) in
       let q : sessionAt (withSession (withKey m i (keyOf d)) i s) i ≡ s = session-back i inTable s (w .few) (withKey m i (keyOf d)) (omega arith) (w .since) in
       rw (k, z, q, w .stream)
+
+  one-fits : (b : Bool) → ltb (one b) 2 ≡ true
+  one-fits true = refl
+  one-fits false = refl
+
+  pub raw-back : (d : Stream) (s : Session) → Holdable d s → rawFits (withPlace m i (held d s)) i ≡ true
+  unfolding rawFits withPlace
+  raw-back d s w =
+      let n = withKey m i (keyOf d) in
+      let l : size ≤ length n = omega (arith, length-withKey i inTable m (keyOf d) long) in
+      let k : keyAt (withSession n i s) i ≡ keyOf d = key-back d s w in
+      rw (k, ne-eqb (keyOf d) 0 (w .some), own-count i inTable s (w .few) n l, own-toggle i inTable s (w .few) n l, le-leb (length (s .gathered)) 514 (w .few), one-fits (s .toggle))
+
+  -- an empty place
+  key-none : keyAt (withPlace m i empty) i ≡ 0
+  unfolding keyAt withPlace
+  key-none = ap le (key-same 0) ∙ le-leBytes 4 0 (omega arith)
+
+  pub empty-back : placeAt (withPlace m i empty) i ≡ empty
+  unfolding placeAt
+  empty-back = rw key-none
+
+  pub raw-empty : rawFits (withPlace m i empty) i ≡ true
+  unfolding rawFits
+  raw-empty = rw key-none
 
   -- ── writing what is there ──
 

@@ -106,7 +106,7 @@ module _ (i : ℕ) (inTable : i < 32) where
     one-back false = refl
 
     module _ (m : List ℕ) (long : size ≤ length m) where
-      own-count : countAt (withSession m i s) i ≡ length (s .gathered)
+      pub own-count : countAt (withSession m i s) i ≡ length (s .gathered)
       unfolding countAt controlOf
       own-count =
           let z : 1160 + i * 4 ≡ 1160 + i * 4 + 0 = omega arith in
@@ -132,7 +132,7 @@ module _ (i : ℕ) (inTable : i < 32) where
           let z : 1162 + i * 4 ≡ 1160 + i * 4 + 2 = omega arith in
           ap (λ (k : ℕ). le (span (withSession m i s) k 1)) z ∙ own-byte 2 (s .expected) (omega arith) (tail-at 0 (s .expected) refl (omega arith))
 
-      own-toggle : toggleAt (withSession m i s) i ≡ one (s .toggle)
+      pub own-toggle : toggleAt (withSession m i s) i ≡ one (s .toggle)
       unfolding toggleAt
       own-toggle =
           let z : 1163 + i * 4 ≡ 1160 + i * 4 + 3 = omega arith in

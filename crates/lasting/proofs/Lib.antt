@@ -1,0 +1,4 @@
+mod Writable
+mod Received
+mod Run
+mod Condition3

@@ -1,0 +1,4 @@
+pub mod Written
+pub mod Received
+pub mod Run
+pub mod Condition3
