@@ -1,5 +1,5 @@
--- Why condition 3 has its premises: for each a case that breaks it alone, and in which the claim fails. A case is given by the numbers answered to the
--- stream's frames, the start's first; that Premises holds says that the rest is as condition 3 asks.
+-- Why condition 3 has its premises: for each named below a case that breaks it, and in which the claim fails. A case is given by the numbers answered to the
+-- stream's frames, the start's first. Where Premises stands beside them, the case breaks a premise of the while alone.
 use mathlib.Core.Path.{_≡_}
 use mathlib.Core.Bool.{true, false}
 use mathlib.Core.List.{List, [], _∷_, map}

@@ -15,7 +15,7 @@ pub fn condition3_example()
     ensures { λ _. ⌜ Example ⌝ }
 {}
 
-// And none can be left out.
+// Why they are there: for each premise that the statement names, a case in which the claim fails.
 pub fn why_premises()
     ensures { λ _. ⌜ WhyPremises ⌝ }
 {}
