@@ -93,15 +93,15 @@ module _ (t : Frame → Bool) where
 
 -- ── one receiver ──
 
-abbrev viewOf : LentReceiver → ruled.Receiver
+abbrev pub viewOf : LentReceiver → ruled.Receiver
 viewOf x = record { places = placesOf (x .state); room = length (x .out); list = receptions (x .calls) }
 
-record Lends (u : Setup) (f : Frame) (x : LentReceiver) : Type 0 where
-  setup : setupOf (x .state) ≡ u
-  sound : soundState (x .state) ≡ true
-  bytes : Octets (x .state)
-  start : Typed f
-  calls : AllTyped (x .calls)
+pub record Lends (u : Setup) (f : Frame) (x : LentReceiver) : Type 0 where
+  pub setup : setupOf (x .state) ≡ u
+  pub sound : soundState (x .state) ≡ true
+  pub bytes : Octets (x .state)
+  pub start : Typed f
+  pub calls : AllTyped (x .calls)
 
 module _ (u : Setup) (d : Stream) (f : Frame) (x : LentReceiver) (g : Lends u f x) where
   readings-are : readingsOf d f x ≡ map readingOf (ruled.answers u d f (viewOf x))
@@ -109,29 +109,36 @@ module _ (u : Setup) (d : Stream) (f : Frame) (x : LentReceiver) (g : Lends u f 
       readings-to (ofStream d) (x .state) (startCall f x ∷ x .calls) (g .sound) (g .bytes) (g .start, g .calls)
       ∙ ap (λ (w : Setup). map readingOf (answersTo (ofStream d) w (placesOf (x .state)) (receptions (startCall f x ∷ x .calls)))) (g .setup)
 
-  start-taken : took (startResult f x .answer) ≡ true → ruled.took (ruled.started u f (viewOf x) .answer) ≡ true
-  start-taken h =
+  pub start-took : took (startResult f x .answer) ≡ ruled.took (ruled.started u f (viewOf x) .answer)
+  start-took =
       let a = stepOn (x .state) f (x .out) .answer in
       let r : startResult f x .answer ≡ told a = ap (λ (q : Reading). q .answer) (reading-is (x .state) (startCall f x) (g .sound)) in
-      ap (λ (w : Setup). ruled.took (ruled.started w f (viewOf x) .answer)) (sym (g .setup)) ∙ sym (took-is a) ∙ ap took (sym r) ∙ h
+      ap took r ∙ took-is a ∙ ap (λ (w : Setup). ruled.took (ruled.started w f (viewOf x) .answer)) (g .setup)
 
-  while-is : (k : ℕ) → LentWhile d f k x → ruled.While u d f k (viewOf x)
-  while-is k w =
-      let v = view-law (x .state) f (x .out) (g .sound) (g .bytes) (g .start) in
-      let s = sound-law (x .state) f (x .out) (g .sound) (g .bytes) (g .start) in
-      let e = calls-upto (ofStream d) (x .calls) k in
-      let m' = startResult f x .state in
-      let cs = callsFront d k x in
-      let p : placesOf m' ≡ ruled.started u f (viewOf x) .places = v .places ∙ ap (λ (w : Setup). ruled.started w f (viewOf x) .places) (g .setup) in
-      let r = readings-to (startOf d) m' cs (s .0) (s .1) (typed-upto (ofStream d) (x .calls) k (g .calls)) in
-      record {
-        time = ap (ruled.forward (f .time)) (sym e) ∙ w .time;
-        room = ap (ruled.roomy d) (sym e) ∙ w .room;
-        table = ap (λ l. ruled.never 9 (answersTo (startOf d) u (ruled.started u f (viewOf x) .places) l)) (sym e)
-            ∙ sym (ap₂ (λ (w : Setup) (ps : Places). ruled.never 9 (answersTo (startOf d) w ps (receptions cs))) (v .setup ∙ g .setup) p)
-            ∙ sym (never-map 9 (answersTo (startOf d) (setupOf m') (placesOf m') (receptions cs)))
-            ∙ ap (neverRead 9) (sym r) ∙ w .table;
-      }
+  module _ (k : ℕ) where
+    pub front-is : receptions (callsFront d k x) ≡ ruled.front d k (viewOf x)
+    front-is = calls-upto (ofStream d) (x .calls) k
+
+    pub table-is : neverRead 9 (readingsTo (startOf d) (startResult f x .state) (callsFront d k x))
+        ≡ ruled.never 9 (answersTo (startOf d) u (ruled.started u f (viewOf x) .places) (ruled.front d k (viewOf x)))
+    table-is =
+        let v = view-law (x .state) f (x .out) (g .sound) (g .bytes) (g .start) in
+        let s = sound-law (x .state) f (x .out) (g .sound) (g .bytes) (g .start) in
+        let m' = startResult f x .state in
+        let cs = callsFront d k x in
+        let p : placesOf m' ≡ ruled.started u f (viewOf x) .places = v .places ∙ ap (λ (w : Setup). ruled.started w f (viewOf x) .places) (g .setup) in
+        ap (neverRead 9) (readings-to (startOf d) m' cs (s .0) (s .1) (typed-upto (ofStream d) (x .calls) k (g .calls)))
+        ∙ never-map 9 (answersTo (startOf d) (setupOf m') (placesOf m') (receptions cs))
+        ∙ ap₂ (λ (w : Setup) (ps : Places). ruled.never 9 (answersTo (startOf d) w ps (receptions cs))) (v .setup ∙ g .setup) p
+        ∙ ap (λ l. ruled.never 9 (answersTo (startOf d) u (ruled.started u f (viewOf x) .places) l)) front-is
+
+    while-is : LentWhile d f k x → ruled.While u d f k (viewOf x)
+    while-is w =
+        record {
+          time = ap (ruled.forward (f .time)) (sym front-is) ∙ w .time;
+          room = ap (ruled.roomy d) (sym front-is) ∙ w .room;
+          table = sym table-is ∙ w .table;
+        }
 
   handouts-are : (p : List ℕ) (priority t : ℕ) → ruled.handouts (ruled.answers u d f (viewOf x)) ≡ rules.handed p d priority t ∷ []
       → handoutsRead (readingsOf d f x) ≡ readingOf (rules.handed p d priority t) ∷ []
@@ -151,7 +158,7 @@ lent-theorem d f x y h =
       pasts = (ruled.lent (table-sound (x .state) (h .sound .0)), ruled.lent (table-sound (y .state) (h .sound .1)));
       named = h .named;
       start = h .start;
-      take = (start-taken u d f x gx (h .take .0), start-taken u d f y gy (h .take .1));
+      take = (sym (start-took u d f x gx) ∙ h .take .0, sym (start-took u d f y gy) ∙ h .take .1);
       same = h .same;
     }) in
     record {

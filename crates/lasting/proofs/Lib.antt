@@ -2,3 +2,4 @@ mod Writable
 mod Received
 mod Run
 mod Condition3
+mod Example

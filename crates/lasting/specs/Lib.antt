@@ -2,3 +2,4 @@ pub mod Written
 pub mod Received
 pub mod Run
 pub mod Condition3
+pub mod Example

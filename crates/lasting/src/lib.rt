@@ -1,5 +1,6 @@
 // What `receiver::receive` makes of a lent state, as theorems about its contract. The functions here have no body: each one's contract is a theorem.
 ghost use Rattle.lasting.specs.Condition3.{Condition3Lent};
+ghost use Rattle.lasting.specs.Example.{LentExample};
 ghost use Rattle.lasting.specs.Received.{ViewLaw, SoundLaw};
 ghost use Rattle.lasting.specs.Run.{RunLaw};
 ghost use Rattle.lasting.specs.Written.{TableLaw};
@@ -27,4 +28,9 @@ pub fn run_by_view()
 // Condition 3 of 00, over lent states.
 pub fn condition3_lent()
     ensures { λ _. ⌜ Condition3Lent ⌝ }
+{}
+
+// Its premises can be met together.
+pub fn condition3_lent_example()
+    ensures { λ _. ⌜ LentExample ⌝ }
 {}
