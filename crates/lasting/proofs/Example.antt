@@ -11,11 +11,11 @@ use Rattle.bits.proofs.Octets.{octets-append, octets-leBytes}
 use Rattle.bits.specs.Little.{le, leBytes}
 use Rattle.bits.specs.Order.{Octets}
 use Rattle.lasting.specs.Condition3.{took, startResult, framesOf, LentPremises, LentWhile}
-use Rattle.lasting.specs.Example.{callsOf, lentOf, LentExample}
+use Rattle.lasting.specs.Example.{callsOf, lentOf, lentSpacious, lentCrowded, LentExample}
 use Rattle.lasting.specs.Received.{Typed}
 use Rattle.lasting.specs.Run.{receptions, AllTyped}
 use Rattle.lasting.specs.Written.{AllWritable, Stands}
-use Rattle.lasting.proofs.Condition3.{viewOf, Lends, start-took, front-is, table-is}
+use Rattle.lasting.proofs.Condition3.{viewOf, Lends, start-took, front-is, table-is, lent-theorem}
 use Rattle.lasting.proofs.Received.{table-law}
 use Rattle.model.proofs.Examples.{example}
 use Rattle.model.specs.Check.{Reception, parsed, frameCheck, check}
@@ -233,8 +233,10 @@ lent-example =
     let m = stateOf setup in
     let a = lendable spacious spacious-tests in
     let b = lendable crowded crowded-tests in
+    let premises = lent-premises m spacious crowded a b (example .premises) in
     record {
-      premises = lent-premises m spacious crowded a b (example .premises);
+      premises = premises;
       whiles = (while-back setup m stream start spacious a 5 (example .whiles .0), while-back setup m stream start crowded b 5 (example .whiles .1));
       transfer = subst (λ fs. ruled.Transfer setup stream start fs 16 5 payload) (sym (frames-back setup m stream start spacious a)) (example .transfer);
+      claim = lent-theorem stream start lentSpacious lentCrowded premises;
     }

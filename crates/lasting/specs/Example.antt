@@ -1,8 +1,8 @@
--- A case that meets every premise of condition 3 over lent states: the model's example, in the bytes of states that were set up.
+-- A case that meets every premise of condition 3 over lent states, and what follows of it: the model's example, in the bytes of states that were set up.
 use mathlib.Core.List.{List, [], _∷_}
 use Prim.Native.Nat.{ℕ}
 use lib.ListN.{replicate}
-use Rattle.lasting.specs.Condition3.{LentReceiver, framesOf, LentPremises, LentWhile}
+use Rattle.lasting.specs.Condition3.{LentReceiver, framesOf, LentPremises, LentWhile, LentClaim}
 use Rattle.lasting.specs.Run.{Call}
 use Rattle.model.specs.Check.{Reception}
 use Rattle.model.specs.Condition3.{Receiver, Transfer}
@@ -29,3 +29,4 @@ pub record LentExample : Type 0 where
   pub premises : LentPremises stream start lentSpacious lentCrowded
   pub whiles : LentWhile stream start 5 lentSpacious × LentWhile stream start 5 lentCrowded
   pub transfer : Transfer setup stream start (framesOf stream lentSpacious) 16 5 payload
+  pub claim : LentClaim stream start lentSpacious lentCrowded

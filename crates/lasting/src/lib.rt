@@ -30,7 +30,7 @@ pub fn condition3_lent()
     ensures { λ _. ⌜ Condition3Lent ⌝ }
 {}
 
-// Its premises can be met together.
+// A case that meets its premises, with the theorem applied.
 pub fn condition3_lent_example()
     ensures { λ _. ⌜ LentExample ⌝ }
 {}
