@@ -1,17 +1,17 @@
 -- Laws of `unpack`, `bytes` and `store`.
 use mathlib.Core.Path.{_≡_, refl, sym, ap, _∙_}
-use mathlib.Core.Bool.{Bool, true, false}
-use mathlib.Core.List.{List, [], _∷_, _++_, append-assoc, append-nil}
-use Prim.Native.Nat.{ℕ, zero, suc, _+_, _*_, _-_, _/_, _%_, _^_, _≤_, _<_}
+use mathlib.Core.Bool.{Bool}
+use mathlib.Core.List.{List, [], _∷_, _++_, append-assoc}
+use Prim.Native.Nat.{ℕ, zero, suc, _+_, _*_, _-_, _≤_}
 use native.Mathlib.Nat.{zero-add, mod-eq-of-lt}
 use native.Mathlib.Omega.{arith}
-use lib.ListN.{length, take, drop, set, getD, length-append, length-drop, take-append-drop, length-replicate}
-use lib.Seq.{take-at, drop-at, length-take-le, take-all, take-append-le, drop-drop, drop-append-le, take-add, drop-length, take-nil, drop-nil, set-split}
-use Rattle.bits.specs.Order.{one, odd, digits, valueFrom, value, Octets, unpack, bytes, bytesFor, padding, pack, store}
+use lib.ListN.{length, take, drop, length-append, length-drop, take-append-drop}
+use lib.Seq.{take-at, drop-at, length-take-le, take-append-le, drop-drop, drop-append-le, take-add, take-nil, drop-nil}
+use Rattle.bits.specs.Order.{digits, value, Octets, unpack, bytes, store}
 use Rattle.bits.specs.Part.{splice}
 use Rattle.bits.proofs.Octets.{octets-drop}
 use Rattle.bits.proofs.Splice.{length-splice, splice-splice}
-use Rattle.bits.proofs.Digits.{length-digits, value-digits, digits-value, value-lt}
+use Rattle.bits.proofs.Digits.{length-digits, value-digits, digits-value}
 
 pub length-unpack : (s : List ℕ) → length (unpack s) ≡ length s * 8
 unfolding unpack

@@ -1,14 +1,14 @@
 -- Laws of `toBits` and `fromBits`: any width.
-use mathlib.Core.Path.{_≡_, refl, sym, ap, _∙_}
-use mathlib.Core.Bool.{Bool, true, false}
-use mathlib.Core.List.{List, [], _∷_, _++_, append-assoc, append-nil}
+use mathlib.Core.Path.{_≡_, sym, ap, _∙_}
+use mathlib.Core.Bool.{Bool}
+use mathlib.Core.List.{List, _++_, append-assoc}
 use Prim.Native.Nat.{ℕ, zero, suc, _+_, _*_, _-_, _/_, _%_, _^_, _≤_, _<_}
-use native.Mathlib.Nat.{zero-add, mod-eq-of-lt, mul-assoc}
+use native.Mathlib.Nat.{zero-add, mod-eq-of-lt}
 use native.Mathlib.Omega.{arith}
-use lib.Pow.{pow-add, shr-lt}
+use lib.Pow.{pow-add}
 use lib.ListN.{length, take, drop, length-append, length-drop}
-use lib.Seq.{take-at, drop-at, length-take-le, take-append-le, drop-append-le, take-add}
-use Rattle.bits.specs.Order.{digits, valueFrom, value, octets, toBits, number, fromBits}
+use lib.Seq.{take-at, drop-at, length-take-le, take-add}
+use Rattle.bits.specs.Order.{digits, value, octets, toBits, number, fromBits}
 use Rattle.bits.proofs.Digits.{length-digits, value-digits, digits-value, digits-mod-pow, value-lt}
 
 whole : (w : ℕ) → w / 8 * 8 + w % 8 ≡ w

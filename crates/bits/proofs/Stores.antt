@@ -1,13 +1,12 @@
 -- What a store leaves: the number stored is read back, all other bits are as they were.
 use mathlib.Core.Path.{_≡_, refl, sym, ap, _∙_}
 use mathlib.Core.Bool.{Bool}
-use mathlib.Core.List.{List, _++_, append-assoc}
-use Prim.Native.Nat.{ℕ, _+_, _*_, _-_, _^_, _≤_, _<_}
+use mathlib.Core.List.{List, _++_}
+use Prim.Native.Nat.{ℕ, _+_, _*_, _^_, _≤_, _<_}
 use native.Mathlib.Omega.{arith}
-use lib.ListN.{length, take, drop, length-append}
-use lib.Seq.{take-at, drop-at, drop-drop, length-take-le, take-append-le, take-take, drop-append-le}
+use lib.ListN.{length, take, drop}
+use lib.Seq.{take-at, drop-at, drop-drop, length-take-le}
 use Rattle.bits.specs.Order.{unpack, toBits, fromBits, store}
-use Rattle.bits.specs.Part.{splice}
 use Rattle.bits.proofs.Bytes.{length-unpack, unpack-store}
 use Rattle.bits.proofs.Numbers.{length-toBits, fromBits-toBits}
 

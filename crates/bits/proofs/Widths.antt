@@ -1,6 +1,6 @@
 -- The width of a length field is the fewest bits that hold the number, and the word size less its leading zeros.
 use mathlib.Core.Bool.{Bool, true, false}
-use mathlib.Core.Path.{_≡_, refl, sym, ap, _∙_}
+use mathlib.Core.Path.{_≡_, refl, sym, _∙_}
 use Prim.Native.Nat.{ℕ, zero, suc, _+_, _*_, _-_, _/_, _^_, _≤_, _<_}
 use native.Mathlib.Nat.{pow-suc}
 use native.Mathlib.Omega.{arith}
@@ -8,7 +8,7 @@ use lib.Count.{leadingZeros, leading-length}
 use borrow.Author.Tests.{ltb-true, ltb-false}
 use lib.Dec.{lit<, ltb}
 use lib.Pow.{pow-mono}
-use Rattle.bits.specs.Laws.{Fewest, WidthLaw}
+use Rattle.bits.specs.Laws.{WidthLaw}
 use Rattle.bits.specs.Width.{widthIn, widthOf}
 
 holds-in : (d m : ℕ) → m ≤ d → m < 2 ^ widthIn d m

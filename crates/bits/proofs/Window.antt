@@ -1,14 +1,14 @@
 -- A window of one or two bytes: reading and patching some of its bits.
 use mathlib.Core.Path.{_≡_, refl, sym, ap, _∙_}
-use mathlib.Core.Bool.{Bool, true, false}
-use mathlib.Core.List.{List, [], _∷_, _++_, append-assoc, append-nil}
-use Prim.Native.Nat.{ℕ, zero, suc, _+_, _*_, _-_, _/_, _%_, _^_, _≤_, _<_}
-use native.Mathlib.Nat.{add-mul, mod-lt, mod-eq-of-lt}
+use mathlib.Core.Bool.{Bool}
+use mathlib.Core.List.{List, _++_, append-assoc}
+use Prim.Native.Nat.{ℕ, suc, _+_, _*_, _-_, _/_, _%_, _^_, _≤_, _<_}
+use native.Mathlib.Nat.{add-mul, mod-lt}
 use native.Mathlib.Omega.{arith}
-use lib.Pow.{pow-pos, pow-add, pow-mono, split, shr-shr, shl-lt}
+use lib.Pow.{pow-pos, pow-mono, split, shr-shr, shl-lt}
 use lib.ListN.{length, take, drop, set, getD, length-append, length-set, take-append-drop}
-use lib.Seq.{take-at, drop-at, length-take-le, drop-cons, drop-drop, take-set-le, drop-set-lt, set-split, getD-set-same, getD-set-other}
-use Rattle.bits.specs.Order.{digits, valueFrom, value, Octets, unpack, bytes, store}
+use lib.Seq.{take-at, drop-at, length-take-le, drop-cons, drop-drop, take-set-le, drop-set-lt, getD-set-same, getD-set-other}
+use Rattle.bits.specs.Order.{digits, value, Octets, unpack, bytes, store}
 use Rattle.bits.specs.Part.{splice}
 use Rattle.bits.specs.Window.{patched}
 use Rattle.bits.proofs.Octets.{octets-set, octets-splice}

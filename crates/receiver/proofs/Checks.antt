@@ -1,15 +1,15 @@
 -- The frame checks in the order of the code, and what a frame that passes them is.
 use mathlib.Core.Path.{_≡_, refl, sym, ap, _∙_}
-use mathlib.Core.Bool.{Bool, true, false, not, _&&_, _||_}
+use mathlib.Core.Bool.{Bool, true, false, _&&_, _||_}
 use mathlib.Core.List.{List}
 use mathlib.Core.Option.{Option, none, some}
-use Prim.Native.Nat.{ℕ, zero, suc, _-_, _/_, _%_, _^_, _≤_, _<_}
+use Prim.Native.Nat.{ℕ, zero, suc, _/_, _%_, _^_, _≤_, _<_}
 use native.Mathlib.Omega.{arith}
 use borrow.Author.Tests.{leb-false, eqb-false, ltb-false, lt-ltb, le-ltb}
-use lib.Dec.{eqb, ltb, leb}
-use lib.ListN.{length, take}
+use lib.Dec.{eqb, ltb}
+use lib.ListN.{length}
 use Rattle.model.specs.Answer.{refused}
-use Rattle.model.specs.Check.{Reception, check, parsed, largeId, badLength, unnamedService, badTailIn, forAnother, notSubscribed, isNone, frameCheck, orZero}
+use Rattle.model.specs.Check.{Reception, check, parsed, largeId, badLength, unnamedService, badTailIn, forAnother, notSubscribed, frameCheck, orZero}
 use Rattle.model.specs.Frame.{Frame, isService, isAnonymous, priorityOf, streamIf, streamOf, tailOf, payloadOf, isStart, isEnd, toggleOf, transferOf}
 use Rattle.model.specs.Reception.{step, stepChecked, stepAnonymous}
 use Rattle.model.specs.Setup.{Setup, signatureFor}
@@ -20,7 +20,6 @@ use Rattle.receiver.specs.Receive.{frameOf, arriving}
 use Rattle.session.specs.Session.{parsedOf}
 use Rattle.receiver.proofs.Heads.{anonymous-is, source-is}
 use Rattle.state.specs.Subscription.{asked}
-use Rattle.state.specs.declared.subscription.Subscribed.{Subscribed}
 use Rattle.state.specs.declared.subscription.Subscribed.the-variants.{Under, Not}
 
 -- ── 7 comes after 2 to 6 ──

@@ -1,12 +1,11 @@
 -- The fields of an ID, by whether it is a service's.
-use mathlib.Core.Path.{_≡_, refl, sym, ap, _∙_}
+use mathlib.Core.Path.{_≡_, refl, ap}
 use mathlib.Core.Bool.{Bool, true, false, not}
 use Prim.Native.Nat.{ℕ, _/_, _%_, _<_}
 use native.Mathlib.Omega.{arith}
-use borrow.Author.Tests.{eq-eqb, ne-eqb}
 use lib.Dec.{eqb}
 use Rattle.model.specs.Frame.{isService, isAnonymous, streamIf, streamOf}
-use Rattle.model.specs.Tests.{pick, bit}
+use Rattle.model.specs.Tests.{pick}
 use Rattle.receiver.specs.Check.{serviceUnnamed, serviceFor}
 
 module _ (id : ℕ) (b : Bool) (e : isService id ≡ b) where

@@ -1,8 +1,8 @@
 -- A step of the rules on the lent bytes: one place is written, or none.
-use mathlib.Core.Path.{_≡_, refl, sym, ap, ap₂, subst, _∙_}
-use mathlib.Core.Bool.{Bool, true}
+use mathlib.Core.Path.{_≡_, sym, ap, ap₂, subst, _∙_}
+use mathlib.Core.Bool.{true}
 use mathlib.Core.List.{List}
-use Prim.Native.Nat.{ℕ, zero, _+_, _*_, _≤_, _<_}
+use Prim.Native.Nat.{ℕ, _≤_, _<_}
 use native.Mathlib.Omega.{arith}
 use native.Mathlib.Nat.{zero-add}
 use lib.ListN.{length, set, length-take}
@@ -11,16 +11,16 @@ use Rattle.model.specs.Answer as rules
 use Rattle.model.specs.Frame.{Stream}
 use Rattle.model.specs.Reception.{Step, store}
 use Rattle.model.specs.Session.{Session, Out}
-use Rattle.model.specs.Table.{Place, held, Places}
-use Rattle.receiver.specs.Receive.{Result, result, lent}
+use Rattle.model.specs.Table.{held}
+use Rattle.receiver.specs.Receive.{result, lent}
 use Rattle.session.specs.Answer.{told, outAfter}
 use Rattle.session.specs.Session.{sessionOf, InRange}
 use Rattle.session.specs.declared.Answer.{Answer}
 use Rattle.session.specs.declared.Session as coded
-use Rattle.state.specs.Layout.{size, keyAt, sessionAt, placeAt, placesOf, keyOf, streamOfKey}
+use Rattle.state.specs.Layout.{keyAt, sessionAt, placeAt, placesOf, keyOf, streamOfKey}
 use Rattle.state.specs.Place.{withPlace, written}
 use Rattle.state.specs.Sound.{soundState}
-use Rattle.state.proofs.Faultless.{long, raw-at, place-held, count-le}
+use Rattle.state.proofs.Faultless.{long, raw-at, place-held}
 use Rattle.state.proofs.Keys.{stream-key}
 use Rattle.state.proofs.Places.{place-kept}
 use Rattle.state.proofs.Table.{written-kept, written-set}

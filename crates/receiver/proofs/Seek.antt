@@ -1,17 +1,16 @@
 -- Finding a place by a scan of the bytes is finding it in the table.
-use mathlib.Core.Path.{_≡_, refl, sym, ap, ap₂, _∙_}
+use mathlib.Core.Path.{_≡_, refl, sym, ap, _∙_}
 use mathlib.Core.Bool.{Bool, true, false, not, _&&_}
 use mathlib.Core.List.{List}
 use mathlib.Core.Option.{Option, none, some}
 use Prim.Native.Nat.{ℕ, zero, suc, _+_, _-_, _≤_, _<_}
 use native.Mathlib.Omega.{arith}
-use borrow.Author.Tests.{lt-ltb, le-ltb, eqb-true, eqb-false, ltb-true, ltb-false}
+use borrow.Author.Tests.{lt-ltb, le-ltb, eqb-true, ltb-true, ltb-false}
 use lib.Dec.{ltb, eqb}
 use lib.ListN.{length}
 use Rattle.bits.specs.Order.{Octets}
 use Rattle.model.specs.Frame.{Stream}
-use Rattle.model.specs.Session.{old}
-use Rattle.model.specs.Table.{Place, empty, held, Places, plus1, seek, holds, isFree, isOld, placeFor}
+use Rattle.model.specs.Table.{Place, empty, held, plus1, seek, holds, isFree, isOld, placeFor}
 use Rattle.model.specs.Tests.{pick}
 use Rattle.state.specs.Layout.{size, tabulate, keyAt, timeAt, sessionAt, placeAt, placesOf, streamOfKey}
 use Rattle.state.specs.Scan.{fitsAt, lowest}

@@ -2,7 +2,6 @@
 use session::Head;
 ghost use mathlib.Core.Path.{_≡_};
 ghost use Prim.Native.Nat.{_<_};
-ghost use lib.ListN.{length};
 ghost use Rattle.model.specs.Check.{orZero, badTail};
 ghost use Rattle.model.specs.Frame.{isService, isAnonymous, streamOf, isStart, isEnd, toggleOf};
 ghost use Rattle.model.specs.Tests.{pick};

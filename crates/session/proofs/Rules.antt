@@ -8,7 +8,6 @@ use native.Mathlib.Omega.{arith}
 use borrow.Author.Tests.{eqb-true, lt-ltb, le-ltb, eq-eqb, ne-eqb}
 use lib.Dec.{ltb, eqb, lit≤}
 use lib.ListN.{length, take, drop, length-append}
-use lib.Seq.{length-take-le}
 use Rattle.model.specs.Answer.{Reason, taken, handed, passed, long, differs, noTransfer}
 use Rattle.model.specs.Check.{Parsed}
 use Rattle.model.specs.Session as rules

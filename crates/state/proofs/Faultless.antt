@@ -1,17 +1,16 @@
 -- What a state without a fault gives.
-use mathlib.Core.Path.{_≡_, refl, sym, ap, _∙_}
-use mathlib.Core.Bool.{Bool, true, false, not, _&&_, _||_}
+use mathlib.Core.Path.{_≡_, sym, ap, _∙_}
+use mathlib.Core.Bool.{true, false, _&&_}
 use mathlib.Core.List.{List}
-use Prim.Native.Nat.{ℕ, zero, suc, _+_, _≤_, _<_}
+use Prim.Native.Nat.{ℕ, _≤_, _<_}
 use native.Mathlib.Omega.{arith}
-use borrow.Author.Tests.{leb-true, ltb-true, ltb-false, ne-eqb}
+use borrow.Author.Tests.{leb-true, ltb-true, ne-eqb}
 use lib.Dec.{eqb, ltb, leb}
 use lib.ListN.{length}
 use Rattle.model.specs.Setup.{acceptable}
 use Rattle.model.specs.Sound.{streamFits, sessionFits, placeFits, placesFit, apart, sound}
-use Rattle.model.specs.Table.{Place, empty, held}
-use Rattle.model.specs.Tests.{pick, isEmpty}
-use Rattle.state.specs.Layout.{size, tabulate, setupOf, keyAt, countAt, expectedAt, toggleAt, gatheredAt, sessionAt, placeAt, placesOf, streamOfKey}
+use Rattle.model.specs.Table.{held}
+use Rattle.state.specs.Layout.{size, setupOf, keyAt, countAt, expectedAt, toggleAt, sessionAt, placeAt, placesOf, streamOfKey}
 use Rattle.state.specs.Sound.{every, rawFits, soundState}
 use Rattle.state.proofs.Bools.{and-left, and-right}
 use Rattle.state.proofs.Soundness.{fit-every}

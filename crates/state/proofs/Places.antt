@@ -2,24 +2,24 @@
 use mathlib.Core.Path.{_≡_, refl, sym, ap, ap₂, _∙_}
 use mathlib.Core.Bool.{Bool, true, false, _&&_, _||_}
 use mathlib.Core.List.{List, [], _∷_, _++_}
-use Prim.Native.Nat.{ℕ, zero, suc, _+_, _*_, _-_, _^_, _≤_, _<_}
+use Prim.Native.Nat.{ℕ, zero, suc, _+_, _*_, _^_, _≤_, _<_}
 use native.Mathlib.Omega.{arith}
-use borrow.Author.Tests.{eqb-true, eqb-false, eq-eqb, ne-eqb, leb-true, le-leb, ltb-true}
+use borrow.Author.Tests.{eqb-true, ne-eqb, leb-true, le-leb, ltb-true}
 use lib.Dec.{eqb, ltb, leb}
-use lib.ListN.{length, take, drop, set, getD}
+use lib.ListN.{length, take, drop, getD}
 use lib.Seq.{take-add, drop-cons, drop-drop}
 use Rattle.bits.specs.Little.{le, leBytes}
 use Rattle.bits.specs.Order.{Octets}
 use Rattle.bits.specs.Part.{span, splice}
 use Rattle.bits.proofs.Little.{length-leBytes, le-leBytes, leBytes-le, le-one}
 use Rattle.bits.proofs.Octets.{octets-span}
-use Rattle.bits.proofs.Splice.{length-splice, length-span, span-same, span-span, splice-same}
+use Rattle.bits.proofs.Splice.{length-span, span-same, splice-same}
 use Rattle.model.specs.Frame.{Stream}
 use Rattle.model.specs.Session.{Session}
-use Rattle.model.specs.Table.{Place, empty, held, Places}
+use Rattle.model.specs.Table.{Place, empty, held}
 use Rattle.model.specs.Tests.{pick}
-use Rattle.state.specs.Layout.{size, tabulate, keyAt, countAt, expectedAt, toggleAt, timeAt, gatheredAt, sessionAt, placeAt, placesOf, keyOf, streamOfKey}
-use Rattle.state.specs.Place.{one, controlOf, withKey, withSession, withPlace, written}
+use Rattle.state.specs.Layout.{size, keyAt, countAt, expectedAt, toggleAt, timeAt, gatheredAt, sessionAt, placeAt, keyOf, streamOfKey}
+use Rattle.state.specs.Place.{one, controlOf, withKey, withSession, withPlace}
 use Rattle.state.specs.Sound.{rawFits}
 use Rattle.state.proofs.Bools.{and-left, and-right}
 use Rattle.state.proofs.Keys.{key-stream}

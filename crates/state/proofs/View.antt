@@ -1,26 +1,20 @@
 -- The view of the bytes: a place that is written is read back, every other place is as it was, and writing what is there changes nothing.
-use mathlib.Core.Path.{_≡_, refl, sym, ap, ap₂, _∙_}
+use mathlib.Core.Path.{_≡_, refl, sym, ap, _∙_}
 use mathlib.Core.Bool.{Bool, true, false}
 use mathlib.Core.List.{List, [], _∷_, _++_}
-use Prim.Native.Nat.{ℕ, zero, suc, _+_, _*_, _-_, _^_, _≤_, _<_}
-use native.Mathlib.Nat.{add-zero}
+use Prim.Native.Nat.{ℕ, suc, _+_, _*_, _^_, _≤_, _<_}
 use native.Mathlib.Omega.{arith}
-use borrow.Author.Tests.{eqb-true, eqb-false, eq-eqb, ne-eqb}
-use lib.Dec.{eqb, ltb, leb}
-use lib.ListN.{length, take, drop, length-append, length-drop, take-append-drop}
+use lib.Dec.{eqb}
+use lib.ListN.{length, take, drop, length-append}
 use lib.Seq.{drop-drop, drop-at, take-at}
 use Rattle.bits.specs.Little.{le, leBytes}
-use Rattle.bits.specs.Order.{Octets}
 use Rattle.bits.specs.Part.{span, splice}
-use Rattle.bits.proofs.Little.{length-leBytes, le-leBytes, leBytes-le}
-use Rattle.bits.proofs.Octets.{octets-span}
-use Rattle.bits.proofs.Splice.{length-splice, length-span, span-same, span-apart, span-inside, splice-same}
+use Rattle.bits.proofs.Little.{length-leBytes, le-leBytes}
+use Rattle.bits.proofs.Splice.{length-splice, span-same, span-apart, span-inside}
 use Rattle.state.specs.Layout.{size}
-use Rattle.state.specs.Layout.{keyAt, countAt, expectedAt, toggleAt, timeAt, gatheredAt, sessionAt, placeAt, keyOf, streamOfKey}
-use Rattle.state.specs.Place.{one, controlOf, withKey, withSession, withPlace}
+use Rattle.state.specs.Layout.{countAt, expectedAt, toggleAt, timeAt, gatheredAt, sessionAt}
+use Rattle.state.specs.Place.{one, controlOf, withKey, withSession}
 use Rattle.model.specs.Session.{Session}
-use Rattle.model.specs.Frame.{Stream}
-use Rattle.model.specs.Table.{Place, empty, held}
 
 length-control : (s : Session) → length (controlOf s) ≡ 4
 unfolding controlOf

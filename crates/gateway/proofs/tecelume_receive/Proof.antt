@@ -1,9 +1,7 @@
 -- `tecelume_receive` meets its contract: the proved call, its answer as a word.
-use mathlib.Core.Path.{_≡_, ap, _∙_}
-use mathlib.Core.List.{List}
+use mathlib.Core.Path.{ap, _∙_}
 use Prim.Native.Nat.{ℕ}
 use Rattle.gateway.specs.Entry.{entry, packed}
-use Rattle.receiver.specs.Receive.{Result}
 use borrow.Author.Needs.{needs}
 use Rattle.gateway.proofs.tecelume_receive.Statement.{statement}
 use Rattle.gateway.proofs.tecelume_receive.Tie as tie

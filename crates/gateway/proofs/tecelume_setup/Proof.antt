@@ -1,8 +1,7 @@
 -- `tecelume_setup` meets its contract: the proved call, its outcome as a number.
-use mathlib.Core.Path.{_≡_, ap, _∙_}
-use mathlib.Core.List.{List}
+use mathlib.Core.Path.{ap, _∙_}
 use Prim.Native.Nat.{ℕ}
-use Rattle.gateway.specs.Entry.{SetUp, numbered}
+use Rattle.gateway.specs.Entry.{numbered}
 use borrow.Author.Needs.{needs}
 use Rattle.gateway.proofs.tecelume_setup.Statement.{statement}
 use Rattle.gateway.proofs.tecelume_setup.Tie as tie

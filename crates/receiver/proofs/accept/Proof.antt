@@ -2,22 +2,22 @@
 use mathlib.Core.Path.{_≡_, refl, sym, ap, ap₂, subst, _∙_}
 use mathlib.Core.Bool.{Bool, true, false}
 use mathlib.Core.List.{List}
-use Prim.Native.Nat.{ℕ, _-_, _%_, _≤_, _<_}
+use Prim.Native.Nat.{ℕ, _-_, _≤_, _<_}
 use native.Mathlib.Nat.{sub-zero}
 use native.Mathlib.Omega.{arith}
-use lib.ListN.{length, take, getD}
+use lib.ListN.{length, take}
 use lib.Seq.{length-take-le}
 use Rattle.bits.proofs.Octets.{octets-all}
 use Rattle.bits.specs.Part.{span, splice}
 use Rattle.model.specs.Answer as rules
 use Rattle.model.specs.Check.{Parsed, parsed}
 use Rattle.model.specs.Frame.{isAnonymous, tailOf, payloadOf}
-use Rattle.model.specs.Reception.{Step, stepAnonymous, stepSeek}
+use Rattle.model.specs.Reception.{stepAnonymous, stepSeek}
 use Rattle.model.specs.Table.{seek, holds}
 use Rattle.receiver.specs.Check.{headOf}
 use Rattle.receiver.specs.Receive.{frameOf, lent, Called}
 use Rattle.session.specs.Answer.{told}
-use Rattle.session.specs.Session.{streamOf, parsedOf}
+use Rattle.session.specs.Session.{parsedOf}
 use Rattle.session.specs.declared.Head.{Head}
 use Rattle.state.specs.Layout.{setupOf, placesOf}
 use Rattle.state.specs.Sound.{soundState}

@@ -1,6 +1,6 @@
 -- `receive` meets its contract: a state at fault answers 20, any other is stepped.
-use mathlib.Core.Path.{_≡_, sym, ap, _∙_}
-use mathlib.Core.Bool.{Bool, true, false}
+use mathlib.Core.Path.{sym, ap, _∙_}
+use mathlib.Core.Bool.{Bool}
 use Rattle.receiver.specs.Receive.{frameOf, receivedIf, received}
 use borrow.Author.Needs.{needs}
 use Rattle.receiver.proofs.receive.Statement.{statement}

@@ -3,7 +3,7 @@ use Rattle.bits.proofs.Window.{read-one, read-two}
 use Rattle.bits.specs.Order.{valueFrom, value, unpack}
 use lib.ListN.{getD, take, drop}
 use Prim.Native.Nat.{ℕ, suc, _+_, _-_, _*_, _/_, _^_, _<_, _%_}
-use mathlib.Core.Path.{_≡_, refl, sym, ap, _∙_}
+use mathlib.Core.Path.{sym, ap, _∙_}
 use native.Mathlib.Numerals.{add-one}
 use native.Mathlib.Omega.{arith}
 use borrow.Author.Needs.{needs}

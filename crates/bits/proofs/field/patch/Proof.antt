@@ -1,6 +1,6 @@
 -- `field::patch` meets its contract: the old field out, the new one in.
 use Rattle.bits.proofs.Window.{old-le, new-lt, patch-is}
-use Prim.Native.Nat.{ℕ, _+_, _-_, _*_, _^_, _<_, _%_}
+use Prim.Native.Nat.{ℕ, _+_, _-_, _*_}
 use mathlib.Core.Path.{_≡_, refl, _∙_}
 use native.Mathlib.Omega.{arith}
 use borrow.Author.Needs.{needs}

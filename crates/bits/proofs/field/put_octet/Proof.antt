@@ -4,13 +4,13 @@ use Rattle.bits.proofs.Window.{patch-one, patch-two}
 use Rattle.bits.proofs.Bytes.{bytes-unpack}
 use Rattle.bits.proofs.Octets.{octets-all}
 use Rattle.bits.proofs.Digits.{digits-mod-pow}
-use Rattle.bits.specs.Order.{Octets, digits, unpack, bytes, store}
+use Rattle.bits.specs.Order.{Octets, digits, store}
 use Rattle.bits.specs.Window.{patched}
-use lib.ListN.{length, getD, take, drop, set, length-set, take-append-drop}
+use lib.ListN.{length, getD, set, length-set, take-append-drop}
 use Prim.Native.Nat.{ℕ, suc, _+_, _-_, _*_, _/_, _^_, _<_, _%_}
 use lib.Pow.{pow-pos}
 use native.Mathlib.Nat.{mod-lt, add-zero}
-use mathlib.Core.List.{List, [], _∷_, _++_}
+use mathlib.Core.List.{List}
 use mathlib.Core.Path.{_≡_, refl, sym, ap, _∙_}
 use native.Mathlib.Numerals.{add-one}
 use native.Mathlib.Omega.{arith}

@@ -4,10 +4,8 @@ use Rattle.bits.proofs.Digits.{length-digits}
 use Rattle.bits.specs.Order.{digits, octets, toBits, store}
 use lib.ListN.{length}
 use Prim.Native.Nat.{ℕ, suc, _+_, _-_, _*_, _/_, _≤_, _<_, _%_}
-use mathlib.Core.List.{List, _++_}
-use mathlib.Core.Bool.{Bool}
+use mathlib.Core.List.{List}
 use mathlib.Core.Path.{_≡_, refl, sym, ap, _∙_}
-use native.Mathlib.Numerals.{add-one}
 use native.Mathlib.Omega.{arith}
 use Rattle.bits.proofs.field.write.Statement.{statement}
 use Rattle.bits.proofs.field.write.Tie as tie

@@ -1,6 +1,5 @@
 -- `le::get_u32` meets its contract: four bytes stand for a number below 2^32.
-use mathlib.Core.Path.{_≡_, ap, _∙_}
-use Prim.Native.Nat.{ℕ, _^_, _<_}
+use Prim.Native.Nat.{_^_, _<_}
 use native.Mathlib.Omega.{arith}
 use Rattle.bits.specs.Little.{le}
 use Rattle.bits.specs.Part.{span}

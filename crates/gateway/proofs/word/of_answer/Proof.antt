@@ -1,5 +1,5 @@
 -- `word::of_answer` meets its contract, case by case.
-use mathlib.Core.Path.{_≡_, sym, ap, _∙_}
+use mathlib.Core.Path.{sym, ap, _∙_}
 use Prim.Native.Nat.{ℕ, _+_, _^_, _<_}
 use native.Mathlib.Omega.{arith}
 use Rattle.gateway.specs.Word.{transferWord, wordOf}

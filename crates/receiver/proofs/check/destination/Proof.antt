@@ -1,7 +1,6 @@
 -- `check::destination` meets its contract.
-use mathlib.Core.Path.{_≡_, refl, sym, ap, _∙_}
-use mathlib.Core.Bool.{Bool, true, false, not}
-use Prim.Native.Nat.{ℕ, _/_, _%_}
+use mathlib.Core.Path.{sym, ap, _∙_}
+use mathlib.Core.Bool.{true, false}
 use Rattle.model.specs.Frame.{Stream}
 use Rattle.receiver.proofs.Heads.{stream-is}
 use borrow.Author.Needs.{needs}

@@ -1,7 +1,6 @@
 -- `check::is_for_another` meets its contract.
-use mathlib.Core.Path.{_≡_, refl, sym, ap, _∙_}
-use mathlib.Core.Bool.{Bool, true, false, not}
-use Prim.Native.Nat.{ℕ, _/_, _%_}
+use mathlib.Core.Path.{sym, _∙_}
+use mathlib.Core.Bool.{true, false}
 use Rattle.receiver.proofs.Heads.{another-is}
 use borrow.Author.Needs.{needs}
 use Rattle.receiver.proofs.check.is_for_another.Statement.{statement}

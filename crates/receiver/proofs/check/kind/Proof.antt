@@ -1,7 +1,6 @@
 -- `check::kind` meets its contract.
-use mathlib.Core.Path.{_≡_, refl, sym, ap, _∙_}
-use mathlib.Core.Bool.{Bool, true, false, not}
-use Prim.Native.Nat.{ℕ, _/_, _%_}
+use mathlib.Core.Path.{sym, ap, _∙_}
+use mathlib.Core.Bool.{Bool}
 use Rattle.model.specs.Tests.{pick}
 use borrow.Author.Needs.{needs}
 use Rattle.receiver.proofs.check.kind.Statement.{statement}

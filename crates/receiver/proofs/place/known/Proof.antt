@@ -2,12 +2,12 @@
 use mathlib.Core.Path.{_≡_, refl, sym, ap, _∙_}
 use mathlib.Core.Bool.{true, false}
 use mathlib.Core.List.{List}
-use Prim.Native.Nat.{ℕ, _+_, _%_, _≤_, _<_}
+use Prim.Native.Nat.{ℕ, _<_}
 use native.Mathlib.Omega.{arith}
 use lib.ListN.{length}
 use Rattle.bits.proofs.Octets.{octets-all}
 use Rattle.model.specs.Reception.{store}
-use Rattle.model.specs.Session.{Session, Out, next, restarted, react}
+use Rattle.model.specs.Session.{Out, next, restarted, react}
 use Rattle.model.specs.Table.{held}
 use Rattle.receiver.specs.Receive.{lent}
 use Rattle.session.specs.Answer.{told, outAfter}

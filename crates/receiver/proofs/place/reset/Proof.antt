@@ -1,5 +1,5 @@
 -- `place::reset` meets its contract: the session is restarted and written back.
-use mathlib.Core.Path.{_≡_, ap, _∙_}
+use mathlib.Core.Path.{ap, _∙_}
 use native.Mathlib.Omega.{arith}
 use Rattle.model.specs.Session.{Session, restarted}
 use Rattle.model.specs.Table.{held}

@@ -1,5 +1,5 @@
 -- `place::session_for` meets its contract, way by way.
-use mathlib.Core.Path.{_≡_, sym, _∙_}
+use mathlib.Core.Path.{sym, _∙_}
 use native.Mathlib.Omega.{arith}
 use Rattle.receiver.proofs.Enter.{again-new, on-new, enters-new, enters-again, enters-on}
 use borrow.Author.Needs.{needs}

@@ -1,14 +1,12 @@
 -- `place::unknown` meets its contract: the lowest empty place, else the lowest old one.
 use mathlib.Core.Path.{_≡_, refl, sym, ap, _∙_}
 use mathlib.Core.List.{List}
-use mathlib.Core.Option.{Option, none, some}
-use Prim.Native.Nat.{ℕ, _≤_, _<_}
+use mathlib.Core.Option.{Option, none}
+use Prim.Native.Nat.{ℕ}
 use native.Mathlib.Omega.{arith}
-use lib.ListN.{length}
 use Rattle.bits.proofs.Octets.{octets-all}
-use Rattle.model.specs.Reception.{Step, store, stepNew}
+use Rattle.model.specs.Reception.{store, stepNew}
 use Rattle.model.specs.Session.{Out, fresh, takes, proceed}
-use Rattle.model.specs.Table.{Places}
 use Rattle.receiver.specs.Place.{Enters}
 use Rattle.receiver.specs.Receive.{lent}
 use Rattle.receiver.specs.declared.place.Way.the-variants.{New}

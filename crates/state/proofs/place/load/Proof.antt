@@ -1,5 +1,5 @@
 -- `place::load` meets its contract: all 514 bytes are copied.
-use mathlib.Core.Path.{_≡_, refl}
+use mathlib.Core.Path.{refl}
 use native.Mathlib.Omega.{arith}
 use Rattle.state.proofs.Stored.{loaded}
 use borrow.Author.Needs.{needs}

@@ -1,5 +1,5 @@
 -- `place::progress` meets its contract: the fields stand where the layout says.
-use mathlib.Core.Path.{_≡_, ap}
+use mathlib.Core.Path.{ap}
 use Prim.Native.Nat.{ℕ}
 use native.Mathlib.Omega.{arith}
 use lib.Dec.{eqb}

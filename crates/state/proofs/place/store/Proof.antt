@@ -1,5 +1,4 @@
 -- `place::store` meets its contract: its six stores, one after the other, are the place.
-use mathlib.Core.Path.{_≡_}
 use native.Mathlib.Omega.{arith}
 use Rattle.session.specs.Session.{whole}
 use Rattle.state.proofs.Stored.{stored}

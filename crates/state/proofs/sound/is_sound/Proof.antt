@@ -1,15 +1,14 @@
 -- `sound::is_sound` meets its contract, test by test.
-use mathlib.Core.Path.{_≡_, refl, sym, ap, _∙_}
+use mathlib.Core.Path.{_≡_, sym, _∙_}
 use mathlib.Core.Bool.{Bool, true, false, _&&_}
 use mathlib.Core.List.{List}
 use Prim.Native.Nat.{ℕ, _≤_, _<_}
 use native.Mathlib.Omega.{arith}
 use borrow.Author.Tests.{lt-leb, le-leb, lt-ltb, le-ltb}
-use lib.Dec.{leb, ltb}
+use lib.Dec.{ltb}
 use lib.ListN.{length, getD}
 use Rattle.model.specs.Setup.{acceptable, allFit}
-use Rattle.model.specs.Sound.{sound}
-use Rattle.state.specs.Layout.{size, setupOf, subscriptionAt, placesOf}
+use Rattle.state.specs.Layout.{size, setupOf, subscriptionAt}
 use Rattle.bits.specs.Order.{Octets}
 use Rattle.bits.proofs.Octets.{octets-all}
 use Rattle.state.specs.Sound.{every, placeSound, soundState}

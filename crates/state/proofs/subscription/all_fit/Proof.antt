@@ -2,15 +2,14 @@
 use mathlib.Core.Path.{_≡_, refl, sym, ap, _∙_}
 use mathlib.Core.Bool.{true, false}
 use mathlib.Core.List.{List}
-use Prim.Native.Nat.{ℕ, suc, _-_, _≤_, _<_}
+use Prim.Native.Nat.{ℕ, _-_, _<_}
 use native.Mathlib.Nat.{sub-zero}
 use native.Mathlib.Numerals.{add-one}
 use native.Mathlib.Omega.{arith}
-use borrow.Author.Needs.{needs}
 use borrow.Author.Tests.{lt-ltb, le-ltb}
 use lib.ListN.{getD}
 use Rattle.model.specs.Setup.{unlike, allFit}
-use Rattle.state.specs.Layout.{tabulate, subscriptionKeyAt, subscriptionAt, setupOf}
+use Rattle.state.specs.Layout.{tabulate, subscriptionAt, setupOf}
 use Rattle.state.specs.Subscription.{ofKey}
 use Rattle.state.proofs.Subscriptions.{fit-step}
 use Rattle.state.proofs.Tabulate.{tab-end}

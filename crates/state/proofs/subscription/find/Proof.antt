@@ -1,14 +1,13 @@
 -- `subscription::find` meets its contract: no subscription passed is the one asked for.
-use mathlib.Core.Path.{_≡_, refl, sym, ap, _∙_}
-use Prim.Native.Nat.{ℕ, suc, _-_, _≤_, _<_}
+use mathlib.Core.Path.{_≡_, sym, ap, _∙_}
+use Prim.Native.Nat.{ℕ, _-_, _<_}
 use mathlib.Core.List.{List}
 use native.Mathlib.Nat.{sub-zero}
 use native.Mathlib.Numerals.{add-one}
 use native.Mathlib.Omega.{arith}
-use borrow.Author.Needs.{needs}
 use lib.ListN.{getD}
 use Rattle.model.specs.Setup.{subscribed}
-use Rattle.state.specs.Layout.{tabulate, subscriptionKeyAt, subscriptionAt, setupOf}
+use Rattle.state.specs.Layout.{tabulate, subscriptionAt, setupOf}
 use Rattle.state.specs.Subscription.{asked}
 use Rattle.state.specs.declared.subscription.Subscribed.the-variants.{Under}
 use Rattle.state.proofs.Subscriptions.{found, not-this}

@@ -1,12 +1,10 @@
 -- `subscription::is_unlike` meets its contract: what is left decides.
 use mathlib.Core.Path.{_≡_, refl, sym, ap, _∙_}
-use Prim.Native.Nat.{ℕ, suc, _-_, _≤_, _<_}
+use Prim.Native.Nat.{_-_}
 use native.Mathlib.Numerals.{add-one}
 use native.Mathlib.Omega.{arith}
-use borrow.Author.Needs.{needs}
-use mathlib.Core.Bool.{true, false, _&&_, not}
+use mathlib.Core.Bool.{true, false}
 use borrow.Author.Tests.{eq-eqb, ne-eqb}
-use lib.Dec.{eqb}
 use Rattle.model.specs.Setup.{unlike}
 use Rattle.state.specs.Layout.{tabulate, subscriptionKeyAt, subscriptionAt}
 use Rattle.state.specs.Subscription.{ofKey}
