@@ -3,7 +3,7 @@ use mathlib.Core.Path.{_≡_, refl, sym, ap, _∙_}
 use mathlib.Core.Bool.{Bool, true, false}
 use mathlib.Core.List.{List, [], _∷_}
 use mathlib.Core.Option.{Option, none, some}
-use Prim.Native.Nat.{ℕ, zero, suc, _+_, _-_, _≤_, _<_}
+use Prim.Native.Nat.{ℕ, suc, _+_, _-_, _≤_, _<_}
 use native.Mathlib.Nat.{zero-add}
 use native.Mathlib.Omega.{arith}
 use borrow.Author.Tests.{eqb-true, eqb-false, ne-eqb}
@@ -12,8 +12,7 @@ use lib.ListN.{length}
 use Rattle.bits.specs.Tabulate.{tabulate}
 use Rattle.bits.proofs.Tabulate.{tab-step, tab-end, length-tabulate}
 use Rattle.map.specs.Find.{wanted, placeOr32}
-use Rattle.map.specs.Layout.{keyAt, timeAt, nextAt, topicOfKey, slotAt, mapOf}
-use Rattle.map.specs.declared.find.Want.{Want}
+use Rattle.map.specs.Layout.{keyAt, timeAt, topicOfKey, slotAt, mapOf}
 use Rattle.map.specs.declared.find.Want.the-variants.{Key, Unused}
 use Rattle.map.proofs.Keys.{of-key, free-key, slot-used, slot-free}
 use Rattle.model.specs.Map.{Slot, isOf, isFree, isUnused, Map, slotFor}

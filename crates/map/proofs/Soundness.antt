@@ -1,23 +1,22 @@
 -- The test of a lent map, place by place.
 use mathlib.Core.Path.{_≡_, refl, sym, ap, ap₂, _∙_}
 use mathlib.Core.Bool.{Bool, true, false, false≢true, _&&_, _||_, and-false}
-use mathlib.Core.List.{List, [], _∷_}
+use mathlib.Core.List.{List}
 use mathlib.Mathlib.Data.Bool.Basic.{and-elim-left, and-elim-right}
 use Prim.Native.Nat.{ℕ, zero, suc, _+_, _*_, _-_, _/_, _%_, _≤_, _<_}
 use native.Mathlib.Omega.{arith}
 use borrow.Author.Tests.{eq-eqb, ne-eqb, eqb-true, eqb-false, le-leb, lt-leb, leb-true, lt-ltb, le-ltb, ltb-true, ltb-false}
-use lib.Dec.{eqb, ltb, leb}
+use lib.Dec.{eqb, ltb}
 use lib.ListN.{length}
 use Rattle.bits.specs.Tabulate.{tabulate}
 use Rattle.bits.proofs.Tabulate.{tab-step, tab-end}
-use Rattle.map.specs.Layout.{size, keyAt, nextAt, timeAt, topicOfKey, slotAt, mapOf}
+use Rattle.map.specs.Layout.{size, keyAt, nextAt, topicOfKey, slotAt, mapOf}
 use Rattle.map.specs.Sound.{soundMap, count, placeFits}
 use Rattle.map.proofs.Keys.{of-key, slot-used, slot-free}
 use Rattle.map.proofs.Seek.{length-mapOf}
 use Rattle.map.proofs.Written.{OddFrom}
-use Rattle.model.specs.Map.{Topic, Slot, free, used, Map, isOf, topicFits, times, slotFits, slotsFit, sound}
+use Rattle.model.specs.Map.{topicFits, times, slotFits, slotsFit, sound}
 use Rattle.model.specs.Sent.{flag}
-use Rattle.model.specs.Tests.{pick}
 
 -- ── a key in range ──
 

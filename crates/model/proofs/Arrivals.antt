@@ -1,38 +1,33 @@
 -- The frames of a payload at a receiver that they are for: the start passes the checks and is sorted, and at one time they are all that the stream brings.
-use mathlib.Core.Path.{_≡_, refl, sym, ap, ap₂, _∙_, subst}
+use mathlib.Core.Path.{_≡_, refl, sym, ap, _∙_}
 use mathlib.Core.Bool.{Bool, true, false, true≢false, not, _&&_, _||_}
 use mathlib.Core.List.{List, [], _∷_, _++_, map}
 use mathlib.Core.Option.{Option, none, some}
-use mathlib.Mathlib.Data.Bool.Basic.{and-elim-left, and-elim-right, and-intro}
-use Prim.Native.Nat.{ℕ, zero, suc, _+_, _*_, _-_, _/_, _%_, _^_, _≤_, _<_}
+use mathlib.Mathlib.Data.Bool.Basic.{and-intro}
+use Prim.Native.Nat.{ℕ, zero, suc, _+_, _^_, _≤_, _<_}
 use native.Mathlib.Omega.{arith}
-use lib.Dec.{ltb, leb, eqb}
+use lib.Dec.{ltb, eqb}
 use lib.ListN.{length, getD, take, drop}
 use lib.Seq.{length-take-le}
-use borrow.Author.Tests.{eqb-true, eqb-false, eq-eqb, ne-eqb, lt-ltb, le-ltb, ltb-true, le-leb, lt-leb}
-use Rattle.bits.specs.Tabulate.{tabulate}
-use Rattle.model.specs.Answer.{Answer, taken, handed, full, passed, differs, Reason}
+use borrow.Author.Tests.{eq-eqb, ne-eqb, lt-ltb, le-ltb, le-leb, lt-leb}
+use Rattle.model.specs.Answer.{Answer, Reason}
 use Rattle.model.specs.Answer as answer
-use Rattle.model.specs.Check.{Reception, Parsed, parsed, badTail, isNone, frameCheck, check}
-use Rattle.model.specs.Condition3.{Past, ofStream, startOf, framesWith, answersTo, upTo, Receiver, startIn, started, frames, answers, took, forward, roomy, front, Premises, While, Brings, done, next, Transfer, handouts}
-use Rattle.model.specs.Frame.{Frame, Stream, sameStream, isService, sourceOf, destinationOf, isAnonymous, streamIf, streamOf, tailOf, isStart, isEnd, toggleOf}
+use Rattle.model.specs.Check.{Reception, Parsed, parsed, badTail, isNone}
+use Rattle.model.specs.Condition3.{ofStream, startOf, framesWith, answersTo, upTo, forward, roomy, Brings, done, next}
+use Rattle.model.specs.Frame.{Frame, Stream, sameStream, isService, sourceOf, destinationOf, streamIf, streamOf, tailOf, isStart, isEnd, toggleOf}
 use Rattle.model.specs.Reception.{stepNew, stepStart, sessionIn, stepSeek, stepAnonymous, stepChecked, step, run}
 use Rattle.model.specs.Sending as sending
-use Rattle.model.specs.Sending.{Call, any, recordsOf, sendStep}
-use Rattle.model.specs.SendingLaws.{Correct, Hears, frameIn, arriving, Arrives, Delivered}
-use Rattle.model.specs.Sent.{tailByte, framed, pieces, carrying, carried, sent, idOf, frameAt}
+use Rattle.model.specs.Sending.{Call, any}
+use Rattle.model.specs.SendingLaws.{Hears}
+use Rattle.model.specs.Sent.{tailByte, framed, pieces, carrying, frameAt}
 use Rattle.model.specs.Session.{Session, overIf, over, sumOk, closing, takeEnd, takeLong, takes, proceedIf, proceed, reactIf, react, restarts, restarted, fresh}
 use Rattle.model.specs.Setup.{Setup, subscribed, signatureFor}
-use Rattle.model.specs.Sound.{serviceFits, streamFits}
 use Rattle.model.specs.Table.{empty, Places, seek, holds, placeFor}
 use Rattle.model.specs.Tests.{pick, bit, isEmpty, sameBool}
 use Rattle.model.proofs.Checks.{Accepted, none-of, roomy-check, named-not-anonymous}
 use Rattle.model.proofs.Frames.{framed-length, framed-tail, framed-payload, fulls}
-use Rattle.model.proofs.Ids.{bit-is, flag-le, id-laws}
-use Rattle.model.proofs.Records.{sent-short, back}
-use Rattle.model.proofs.Sends.{record-laws, source-laws}
+use Rattle.model.proofs.Ids.{bit-is, flag-le}
 use Rattle.model.proofs.Table.{same-refl}
-use Rattle.model.proofs.Theorem.{theorem}
 
 -- ── the frames of a payload: a start, and no other ──
 

@@ -1,18 +1,17 @@
 -- A successful send: its transfer ID, its records and the map that it leaves.
-use mathlib.Core.Path.{_≡_, refl, sym, ap, _∙_, subst}
+use mathlib.Core.Path.{_≡_, refl, ap, _∙_}
 use mathlib.Core.Bool.{Bool, true, false, _&&_}
-use mathlib.Core.List.{List, []}
 use mathlib.Core.Option.{Option, none, some}
 use mathlib.Mathlib.Data.Bool.Basic.{and-elim-left, and-intro}
-use Prim.Native.Nat.{ℕ, _+_, _*_, _≤_, _<_}
+use Prim.Native.Nat.{ℕ, _*_, _≤_, _<_}
 use native.Mathlib.Omega.{arith}
 use lib.Dec.{ltb, eqb}
 use lib.ListN.{length, getD, set, length-set}
 use borrow.Author.Tests.{eqb-true, eqb-false, eq-eqb, ne-eqb, ltb-false, lt-ltb}
-use Rattle.model.specs.Map.{Slot, free, used, Map, times, slotFor, drawn, topicFits, slotFits, slotsFit, blank, sound}
-use Rattle.model.specs.Sending.{Call, topicOf, streamOf, isAnonymous, isResponse, misfits, frameCount, Outcome, done, misfit, long, small, full, framesOf, idFor, recordsOf, Step, refuse, transmit, sendAt, sendIn, sendAs, sendStep}
+use Rattle.model.specs.Map.{Slot, free, used, Map, times, slotFor, drawn, topicFits, slotsFit, sound}
+use Rattle.model.specs.Sending.{Call, topicOf, isResponse, misfits, frameCount, Outcome, done, misfit, long, small, full, framesOf, idFor, Step, refuse, transmit, sendAt, sendIn, sendAs, sendStep}
 use Rattle.model.specs.SendingLaws.{InRange, RecordLaws, Correct, SourceLaws, MapLasts}
-use Rattle.model.specs.Sent.{sent, idOf}
+use Rattle.model.specs.Sent.{sent}
 use Rattle.model.specs.Session.{next}
 use Rattle.model.specs.Tests.{pick}
 use Rattle.model.proofs.Calls.{in-range, stream-in, anonymous-id}

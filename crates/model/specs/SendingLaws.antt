@@ -7,7 +7,6 @@ use Prim.Native.Nat.{ℕ, _+_, _*_, _^_, _≤_, _<_}
 use lib.Dec.{eqb}
 use lib.ListN.{length, getD}
 use Rattle.bits.specs.Little.{le}
-use Rattle.bits.specs.Order.{Octets}
 use Rattle.bits.specs.Part.{span}
 use Rattle.bits.specs.Tabulate.{tabulate}
 use Rattle.model.specs.Answer.{Answer, handed, differs}

@@ -1,13 +1,13 @@
 -- A call on a lent map: each way through the code does the rules' step on the view.
-use mathlib.Core.Path.{_≡_, refl, sym, ap, ap₂, _∙_, subst}
+use mathlib.Core.Path.{_≡_, refl, sym, ap, _∙_}
 use mathlib.Core.Bool.{Bool, true, false}
 use mathlib.Core.List.{List, []}
 use mathlib.Core.Option.{Option, none, some}
-use Prim.Native.Nat.{ℕ, _+_, _*_, _-_, _%_, _^_, _≤_, _<_}
+use Prim.Native.Nat.{ℕ, _+_, _*_, _%_, _≤_, _<_}
 use native.Mathlib.Nat.{zero-add}
 use native.Mathlib.Omega.{arith}
 use borrow.Author.Tests.{eq-eqb, ne-eqb, eqb-true, eqb-false, lt-ltb, le-ltb}
-use lib.Dec.{ltb, eqb}
+use lib.Dec.{eqb}
 use lib.ListN.{length, getD, set}
 use Rattle.bits.specs.Order.{Octets}
 use Rattle.bits.specs.Part.{splice}
@@ -21,10 +21,9 @@ use Rattle.map.proofs.Soundness.{long-enough, slot-fit, keys-odd}
 use Rattle.map.proofs.Written.{written-kept, written-set}
 use Rattle.model.specs.Map.{Topic, free, used, slotFor, drawn}
 use Rattle.model.specs.Sending as rules
-use Rattle.model.specs.Sending.{Call, topicOf, isResponse, misfits, frameCount, Outcome, misfit, long, small, full, anonymousId, idFor, recordsOf, Step, refuse, transmit, sendAt, sendIn, sendAs, sendStep}
+use Rattle.model.specs.Sending.{Call, topicOf, isResponse, misfits, frameCount, Outcome, misfit, long, small, full, anonymousId, idFor, recordsOf, refuse, transmit, sendAt, sendIn, sendAs, sendStep}
 use Rattle.model.specs.SendingLaws.{InRange}
 use Rattle.model.specs.Sent.{sent}
-use Rattle.model.specs.Session.{next}
 use Rattle.model.proofs.Draws.{drawn-small}
 use Rattle.sender.specs.Send.{callOf, Result, result, lent, sendsIf, sends}
 use Rattle.sender.specs.declared.Outgoing.{Outgoing}

@@ -15,10 +15,10 @@ use Rattle.bits.specs.Order.{Octets}
 use Rattle.bits.specs.Part.{splice}
 use Rattle.bits.proofs.Little.{length-leBytes, leBytes-padded, le-lt}
 use Rattle.bits.proofs.Octets.{octets-append, octets-take}
-use Rattle.bits.proofs.Splice.{length-splice, splice-splice}
+use Rattle.bits.proofs.Splice.{splice-splice}
 use Rattle.checksum.specs.Crc16.{checksum}
 use Rattle.model.specs.Sending.{frameCount, recordOf, recordsOf}
-use Rattle.model.specs.Sent.{flag, tailByte, framed, pieces, carrying, carried, withSum, sent}
+use Rattle.model.specs.Sent.{flag, tailByte, framed, pieces, carrying, withSum, sent}
 use Rattle.model.specs.Tests.{pick, isEmpty}
 use Rattle.model.proofs.Frames.{framed-length, carried-long, sent-laws}
 use Rattle.model.proofs.Records.{length-record}

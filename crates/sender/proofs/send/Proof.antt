@@ -1,6 +1,5 @@
 -- `send` meets its contract: a map at fault is refused first of all.
 use mathlib.Core.Path.{sym, _∙_}
-use lib.ListN.{length}
 use Rattle.sender.specs.Send.{callOf, result}
 use Rattle.sender.proofs.Lent.{faulty, faultless}
 use borrow.Author.Needs.{needs}

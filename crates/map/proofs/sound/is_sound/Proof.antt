@@ -1,10 +1,9 @@
 -- `sound::is_sound` meets its contract. The invariant: the whole fits if the places from i on do.
-use mathlib.Core.Path.{_≡_, refl, sym, ap, _∙_}
+use mathlib.Core.Path.{_≡_, sym, ap, _∙_}
 use Prim.Native.Nat.{_-_, _≤_}
 use native.Mathlib.Numerals.{add-one}
 use native.Mathlib.Omega.{arith}
 use borrow.Author.Needs.{needs}
-use Rattle.map.specs.Layout.{keyAt}
 use Rattle.map.specs.Sound.{soundMap, placeFits}
 use Rattle.map.proofs.Soundness.{slot-fits, fitFrom, fit-step, fit-fails, fit-end, sound-is, sound-short}
 use Rattle.map.proofs.sound.is_sound.Statement.{statement}

@@ -1,5 +1,5 @@
 -- `check::is_unfit_unnamed` meets its contract, case by case.
-use mathlib.Core.Path.{_≡_, sym}
+use mathlib.Core.Path.{sym}
 use mathlib.Core.Bool.{not, or-false}
 use borrow.Author.Tests.{lt-ltb, le-ltb}
 use lib.Dec.{eqb}
