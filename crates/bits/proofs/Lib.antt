@@ -1,4 +1,5 @@
 pub mod Splice
+pub mod Tabulate
 pub mod Octets
 pub mod Little
 pub mod Digits

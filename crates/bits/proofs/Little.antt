@@ -1,11 +1,11 @@
 -- Laws of `le` and `leBytes`.
 use mathlib.Core.Path.{_≡_, refl, ap}
-use mathlib.Core.List.{List, [], _∷_}
-use Prim.Native.Nat.{ℕ, zero, suc, _+_, _*_, _/_, _%_, _^_, _≤_, _<_}
-use native.Mathlib.Nat.{pow-suc, pow-le-pow-right}
+use mathlib.Core.List.{List, [], _∷_, _++_}
+use Prim.Native.Nat.{ℕ, zero, suc, _+_, _*_, _-_, _/_, _%_, _^_, _≤_, _<_}
+use native.Mathlib.Nat.{pow-suc, pow-le-pow-right, sub-zero}
 use native.Mathlib.Omega.{arith}
 use lib.Dec.{lit<}
-use lib.ListN.{length, getD}
+use lib.ListN.{length, getD, replicate}
 use lib.Seq.{drop-cons}
 use Rattle.bits.specs.Laws.{LittleLaw}
 use Rattle.bits.specs.Little.{le, leBytes}
@@ -52,3 +52,19 @@ leBytes-le (b ∷ bs) h =
 pub le-one : (m : List ℕ) (at : ℕ) → at < length m → le (span m at 1) ≡ getD m at 0
 unfolding le
 le-one m at h = rw (drop-cons m at 0) (omega arith)
+
+zero-bytes : (n : ℕ) → leBytes n 0 ≡ replicate n 0
+unfolding leBytes
+zero-bytes zero = refl
+zero-bytes (suc n) = ap (λ (l : List ℕ). 0 ∷ l) (zero-bytes n)
+
+-- more bytes than a number has are zeros behind them
+pub leBytes-padded : (bs : List ℕ) (n : ℕ) → Octets bs → length bs ≤ n → leBytes n (le bs) ≡ bs ++ replicate (n - length bs) 0
+unfolding le leBytes
+leBytes-padded [] n h l = rw sub-zero (zero-bytes n)
+leBytes-padded (b ∷ bs) zero h l = absurd (omega arith)
+leBytes-padded (b ∷ bs) (suc n) h l =
+    let b' : (b + 256 * le bs) % 256 ≡ b = omega (arith, h .0) in
+    let q : (b + 256 * le bs) / 256 ≡ le bs = omega (arith, h .0) in
+    let k : suc n - suc (length bs) ≡ n - length bs = omega arith in
+    rw (b', q, k) (ap (λ (x : List ℕ). b ∷ x) (leBytes-padded bs n (h .1) (omega arith)))

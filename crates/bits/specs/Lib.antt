@@ -1,4 +1,5 @@
 pub mod Part
+pub mod Tabulate
 pub mod Little
 pub mod Order
 pub mod Window

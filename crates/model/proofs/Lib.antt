@@ -1,5 +1,9 @@
+pub mod Arrivals
+pub mod Calls
 pub mod Checks
+pub mod Delivered
 pub mod Delivery
+pub mod Draws
 pub mod Examples
 pub mod Follow
 pub mod Frames
@@ -8,6 +12,8 @@ pub mod Lasting
 pub mod Lift
 pub mod Others
 pub mod Own
+pub mod Records
+pub mod Sends
 pub mod Start
 pub mod Table
 pub mod Theorem

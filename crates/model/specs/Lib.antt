@@ -8,7 +8,11 @@ pub mod Table
 pub mod Reception
 pub mod Sent
 pub mod SentLaws
+pub mod Map
+pub mod Sending
 pub mod Sound
 pub mod Condition3
+pub mod SendingLaws
 pub mod Example
 pub mod WhyPremises
+pub mod Samples

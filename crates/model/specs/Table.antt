@@ -23,8 +23,8 @@ abbrev pub plus1 : Option ℕ → Option ℕ
 plus1 none = none
 plus1 (some i) = some (suc i)
 
--- the lowest place that passes a test
-unfoldable pub seek : (Place → Bool) → Places → Option ℕ
+-- the lowest place of a list that passes a test
+unfoldable pub seek : {A : Type 0} → (A → Bool) → List A → Option ℕ
 seek t [] = none
 seek t (p ∷ ps) = pick (t p) (some 0) (plus1 (seek t ps))
 

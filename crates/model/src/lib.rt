@@ -1,6 +1,8 @@
 // The rules of 01 as definitions, in specs/. The functions here have no body: each one's contract is a theorem about the definitions.
 ghost use Rattle.model.specs.Condition3.{Condition3};
 ghost use Rattle.model.specs.Example.{Example};
+ghost use Rattle.model.specs.Samples.{Samples};
+ghost use Rattle.model.specs.SendingLaws.{RecordLaws, SourceLaws, MapLasts, Delivered};
 ghost use Rattle.model.specs.SentLaws.{SentLaws, IdLaws};
 ghost use Rattle.model.specs.Sound.{Lasting};
 ghost use Rattle.model.specs.WhyPremises.{WhyPremises};
@@ -33,4 +35,29 @@ pub fn frames_of_payload()
 // The ID of a stream and a priority: what is read in it is what was put in.
 pub fn id_of_stream()
     ensures { λ _. ⌜ IdLaws ⌝ }
+{}
+
+// The records of a send: how many, how long, and that each gives its frame back.
+pub fn records_of_send()
+    ensures { λ _. ⌜ RecordLaws ⌝ }
+{}
+
+// What a named source sends is correctly sent; what a receiver reads in the ID of an anonymous message.
+pub fn source_of_send()
+    ensures { λ _. ⌜ SourceLaws ⌝ }
+{}
+
+// A transfer-ID map without a fault stays one.
+pub fn map_lasts()
+    ensures { λ _. ⌜ MapLasts ⌝ }
+{}
+
+// What is sent and then received is handed out.
+pub fn sent_is_received()
+    ensures { λ _. ⌜ Delivered ⌝ }
+{}
+
+// The sample values of 01.
+pub fn samples()
+    ensures { λ _. ⌜ Samples ⌝ }
 {}

@@ -1,0 +1,4 @@
+pub mod Layout
+pub mod SetUp
+pub mod Sound
+pub mod Find

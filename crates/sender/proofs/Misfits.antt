@@ -1,0 +1,52 @@
+-- The checks of 14, case by case in the order of the code.
+use mathlib.Core.Path.{_≡_, refl, sym, ap, _∙_}
+use mathlib.Core.Bool.{Bool, true, false, false≢true, _&&_, _||_, or-false}
+use mathlib.Mathlib.Data.Bool.Basic.{or-eq-false-eq-eq-false-and-eq-false as or-off}
+use Prim.Native.Nat.{_≤_, _<_}
+use lib.Dec.{ltb}
+use lib.ListN.{length}
+use borrow.Author.Tests.{eq-eqb, ne-eqb, lt-ltb, le-ltb}
+use Rattle.model.specs.Sending.{Call, isAnonymous, isResponse, typeOver, astray, unfitUnnamed, misfits}
+
+or-two : (a b r : Bool) → (a || b) ≡ true → true ≡ (a || (b || r))
+or-two true b r e = refl
+or-two false true r e = refl
+or-two false false r e = absurd (false≢true e)
+
+module _ (c : Call) where
+  pub over-own : 127 < c .own → true ≡ misfits c
+  unfolding misfits
+  over-own h = rw (lt-ltb 127 (c .own) h)
+
+  module _ (h₁ : c .own ≤ 127) where
+    pub over-kind : 2 < c .kind → true ≡ misfits c
+    unfolding misfits
+    over-kind h = rw (le-ltb 127 (c .own) h₁, lt-ltb 2 (c .kind) h)
+
+    module _ (h₂ : c .kind ≤ 2) where
+      pub off-aim : (typeOver (c .kind) (c .type) || astray (c .kind) (c .destination)) ≡ true → true ≡ misfits c
+      unfolding misfits
+      off-aim e = rw (le-ltb 127 (c .own) h₁, le-ltb 2 (c .kind) h₂) (or-two (typeOver (c .kind) (c .type)) (astray (c .kind) (c .destination)) _ e)
+
+      module _ (h₃ : (typeOver (c .kind) (c .type) || astray (c .kind) (c .destination)) ≡ false) where
+        rest : (e : Bool) → ltb 31 (c .priority) ≡ e → misfits c ≡ (e || ((isResponse c && ltb 31 (c .transfer))
+            || (isAnonymous c && unfitUnnamed (c .discriminator) (c .type) (length (c .payload)) (c .kind))))
+        unfolding misfits
+        rest e q =
+            let z = or-off (typeOver (c .kind) (c .type)) (astray (c .kind) (c .destination)) .0 h₃ in
+            rw (le-ltb 127 (c .own) h₁, le-ltb 2 (c .kind) h₂, z .0, z .1, q)
+            (ap (λ b. e || ((isResponse c && ltb 31 (c .transfer)) || b)) (or-false (isAnonymous c && unfitUnnamed (c .discriminator) (c .type) (length (c .payload)) (c .kind))))
+
+        pub over-priority : 31 < c .priority → true ≡ misfits c
+        over-priority h = sym (rest true (lt-ltb 31 (c .priority) h))
+
+        module _ (h₄ : c .priority ≤ 31) where
+          pub over-transfer : (isResponse c && ltb 31 (c .transfer)) ≡ true → true ≡ misfits c
+          over-transfer e = sym (rest false (le-ltb 31 (c .priority) h₄) ∙ rw e)
+
+          module _ (h₅ : (isResponse c && ltb 31 (c .transfer)) ≡ false) where
+            pub unnamed : c .own ≡ 0 → unfitUnnamed (c .discriminator) (c .type) (length (c .payload)) (c .kind) ≡ misfits c
+            unnamed z = sym (rest false (le-ltb 31 (c .priority) h₄) ∙ rw (h₅, eq-eqb (c .own) 0 z))
+
+            pub named : (c .own ≡ 0 → ⊥) → false ≡ misfits c
+            named z = sym (rest false (le-ltb 31 (c .priority) h₄) ∙ rw (h₅, ne-eqb (c .own) 0 z))

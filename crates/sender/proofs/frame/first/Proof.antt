@@ -1,0 +1,40 @@
+-- `frame::first` meets its contract.
+use Prim.Native.Nat.{_+_, _*_, _^_, _<_}
+use native.Mathlib.Omega.{arith}
+use Rattle.bits.proofs.Octets.{octets-all}
+use Rattle.sender.proofs.Pieces.{first-fits, first-is}
+use borrow.Author.Needs.{needs}
+use Rattle.sender.proofs.frame.first.Statement.{statement}
+use Rattle.sender.proofs.frame.first.Tie as tie
+
+fits-word : (w : tie.After-word) → w .word .result * 65536 + w .before .before .before .before .args .sum < 2 ^ 64
+fits-word w =
+    let k = w .before .before in
+    let a = k .before .before .args in
+    first-fits (a .payload .now) (a .sum) (a .tail) (w .word .result) (octets-all (a .payload .now) (λ i. omega (arith, k .shared-slice-known .given i))) (omega arith) (omega arith) (omega arith) (w .word .ensures)
+
+word-requires : tie.Need-word-requires
+word-requires c κs = search needs
+
+mul-put : tie.Need-mul-put
+mul-put c = omega (arith, fits-word c)
+
+add-put : tie.Need-add-put
+add-put c = omega (arith, fits-word c)
+
+put-requires : tie.Need-put-requires
+put-requires c κs = search needs
+
+same-length : tie.Need-same-length
+same-length c = search needs
+
+returns : tie.Need-returns
+returns c =
+    let p = c .before .before in
+    let w = p .before in
+    let k = w .before .before in
+    let a = k .before .before .args in
+    first-is (a .payload .now) (a .sum) (a .tail) (w .word .result) (octets-all (a .payload .now) (λ i. omega (arith, k .shared-slice-known .given i))) (omega arith) (omega arith) (omega arith) (w .word .ensures) (a .out .now) (p .put .last .0) (a .id) (p .put .ensures)
+
+pub first-spec : {M : Type 1} → statement M
+first-spec = tie.close (tie.spec word-requires mul-put add-put put-requires same-length returns)

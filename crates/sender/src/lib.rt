@@ -1,0 +1,87 @@
+// The sender: a payload into records of frames, over a lent transfer-ID map.
+mod check;
+mod frame;
+
+ghost use mathlib.Core.Path.{_≡_};
+ghost use mathlib.Core.Bool.{true};
+ghost use Prim.Native.Nat.{_*_, _≤_};
+ghost use lib.ListN.{length};
+ghost use Rattle.map.specs.Layout.{mapOf};
+ghost use Rattle.map.specs.Sound.{soundMap};
+ghost use Rattle.model.specs.Map.{slotFor};
+ghost use Rattle.model.specs.Sending.{frameCount, topicOf, sendIn, sendStep};
+ghost use Rattle.model.specs.SendingLaws.{InRange};
+ghost use Rattle.sender.specs.Send.{callOf, result, lent, sends};
+
+// What is to be sent, but for its payload. The transfer ID is for a response and the discriminator for an anonymous message; elsewhere they are ignored.
+pub struct Outgoing {
+    pub own: u32,
+    pub kind: u32,
+    pub type_id: u32,
+    pub destination: u32,
+    pub priority: u32,
+    pub signature: u64,
+    pub time: u64,
+    pub transfer_id: u32,
+    pub discriminator: u32,
+}
+
+// The sender's answers; success has the number of frames.
+pub enum Sent {
+    Done(usize),
+    OutputSmall,
+    MapFull,
+    TooLong,
+    Misfit,
+    Faulty,
+}
+
+// A message or a request: the transfer ID comes from the map.
+fn number(map: &mut [u8], c: Outgoing, payload: &[u8], out: &mut [u8]) -> Sent
+    requires { ⌜ (soundMap (now map) ≡ true) × InRange (callOf c (now payload)) ⌝ }
+    requires { ⌜ (c .kind ≡ 2 → ⊥) × ((length (now payload) ≤ 512) × (13 * frameCount (length (now payload)) ≤ length (now out))) ⌝ }
+    ensures { λ r. ⌜ result r (now (map .exit)) (now (out .exit)) ≡ lent (now (map .entry)) (now (out .entry)) (sendIn (slotFor (topicOf (callOf c (now (payload .entry)))) (c .time) (mapOf (now (map .entry)))) (callOf c (now (payload .entry))) (mapOf (now (map .entry)))) ⌝ }
+{
+    let k = map::entry::key_of(c.kind, c.type_id, c.destination);
+    let i = map::find::place(map, k, c.time);
+    if 31 < i {
+        return Sent::MapFull;
+    }
+    let transfer = map::entry::drawn(map, i, k);
+    map::entry::store(map, i, k, (transfer + 1) % 32, c.time);
+    frame::write(out, frame::id(c), transfer, c.signature, payload);
+    Sent::Done(frame::count(payload.len()))
+}
+
+// On a map without a fault.
+fn dispatch(map: &mut [u8], c: Outgoing, payload: &[u8], out: &mut [u8]) -> Sent
+    requires { ⌜ soundMap (now map) ≡ true ⌝ }
+    ensures { λ r. ⌜ result r (now (map .exit)) (now (out .exit)) ≡ lent (now (map .entry)) (now (out .entry)) (sendStep (callOf c (now (payload .entry))) (mapOf (now (map .entry))) (length (now (out .entry)))) ⌝ }
+{
+    let n = payload.len();
+    if check::is_misfit(c, payload) {
+        return Sent::Misfit;
+    }
+    if 512 < n {
+        return Sent::TooLong;
+    }
+    let frames = frame::count(n);
+    if out.len() < 13 * frames {
+        return Sent::OutputSmall;
+    }
+    if c.kind == 2 {
+        frame::write(out, frame::id(c), c.transfer_id as u8, c.signature, payload);
+        return Sent::Done(frames);
+    }
+    number(map, c, payload, out)
+}
+
+// Sends a payload: the answer, the map after and the output buffer by the rules of 01. A map at fault answers 20.
+pub fn send(map: &mut [u8], c: Outgoing, payload: &[u8], out: &mut [u8]) -> Sent
+    ensures { λ r. ⌜ result r (now (map .exit)) (now (out .exit)) ≡ sends (now (map .entry)) (callOf c (now (payload .entry))) (now (out .entry)) ⌝ }
+{
+    if map::sound::is_sound(map) {
+        return dispatch(map, c, payload, out);
+    }
+    Sent::Faulty
+}
