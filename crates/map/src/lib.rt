@@ -1,6 +1,7 @@
 // The transfer-ID map in lent bytes: its layout, setting one up, finding and storing an entry, and the faults that answer 20.
 pub mod entry;
 pub mod find;
+pub mod laws;
 pub mod sound;
 
 ghost use mathlib.Core.Path.{_≡_};

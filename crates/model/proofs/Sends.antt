@@ -1,6 +1,7 @@
 -- A successful send: its transfer ID, its records and the map that it leaves.
 use mathlib.Core.Path.{_≡_, refl, ap, _∙_}
 use mathlib.Core.Bool.{Bool, true, false, _&&_}
+use mathlib.Core.List.{[]}
 use mathlib.Core.Option.{Option, none, some}
 use mathlib.Mathlib.Data.Bool.Basic.{and-elim-left, and-intro}
 use Prim.Native.Nat.{ℕ, _*_, _≤_, _<_}
@@ -9,7 +10,7 @@ use lib.Dec.{ltb, eqb}
 use lib.ListN.{length, getD, set, length-set}
 use borrow.Author.Tests.{eqb-true, eqb-false, eq-eqb, ne-eqb, ltb-false, lt-ltb}
 use Rattle.model.specs.Map.{Slot, free, used, Map, times, slotFor, drawn, topicFits, slotsFit, sound}
-use Rattle.model.specs.Sending.{Call, topicOf, isResponse, misfits, frameCount, Outcome, done, misfit, long, small, full, framesOf, idFor, Step, refuse, transmit, sendAt, sendIn, sendAs, sendStep}
+use Rattle.model.specs.Sending.{Call, topicOf, isResponse, misfits, frameCount, Outcome, done, misfit, long, small, full, numberOf, framesOf, idFor, Step, refuse, transmit, sendAt, sendIn, sendAs, sendStep}
 use Rattle.model.specs.SendingLaws.{InRange, RecordLaws, Correct, SourceLaws, MapLasts}
 use Rattle.model.specs.Sent.{sent}
 use Rattle.model.specs.Session.{next}
@@ -96,6 +97,38 @@ sends c m room = fit (misfits c) refl
     fit true e = refused misfit refl (λ k e. let z : _≡_ {A = ℕ} 0 1 = cc in omega arith)
     fit false e = short (ltb 512 (length (c .payload))) refl (in-range c e)
 
+-- ── what is left of the map ──
+
+-- as it was, or with the call's entry at a place
+pub data Leaves (c : Call) (m : Map) : Map → Type 0 where
+  alone : Leaves c m m
+  stored : (i t : ℕ) → i < length m → InRange c → (c .kind ≡ 2 → ⊥) → Leaves c m (set m i (used (topicOf c) (next t) (c .time)))
+
+pub leaves : (c : Call) (m : Map) (room : ℕ) → Leaves c m (sendStep c m room .map)
+unfolding sendStep sendAs sendIn sendAt transmit
+leaves c m room = fit (misfits c) refl
+  where
+    placed : (c .kind ≡ 2 → ⊥) → InRange c → (o : Option ℕ) → Given (topicOf c) m o → Leaves c m (sendIn o c m .map)
+    placed n ok none nowhere = alone
+    placed n ok (some i) (found f) = stored i (drawn (topicOf c) (getD m i free)) (f .inside) ok n
+    placed n ok (some i) (fresh l f) = stored i (drawn (topicOf c) (getD m i free)) l ok n
+
+    of-kind : (b : Bool) → isResponse c ≡ b → InRange c → Leaves c m (sendAs b c m .map)
+    of-kind true e ok = alone
+    of-kind false e ok = placed (eqb-false (c .kind) 2 e) ok (slotFor (topicOf c) (c .time) m) (given (topicOf c) (c .time) m)
+
+    short : (a b : Bool) → InRange c → Leaves c m (pick a (refuse long m) (pick b (refuse small m) (sendAs (isResponse c) c m)) .map)
+    short true b ok = alone
+    short false true ok = alone
+    short false false ok = of-kind (isResponse c) refl ok
+
+    fit : (b : Bool) → misfits c ≡ b
+        → Leaves c m
+        (pick b (refuse misfit m)
+        (pick (ltb 512 (length (c .payload))) (refuse long m) (pick (ltb room (13 * frameCount (length (c .payload)))) (refuse small m) (sendAs (isResponse c) c m))) .map)
+    fit true e = alone
+    fit false e = short (ltb 512 (length (c .payload))) (ltb room (13 * frameCount (length (c .payload)))) (in-range c e)
+
 -- ── the laws ──
 
 sized : (c : Call) (m : Map) (room : ℕ) (s : Step) → Sends c m room s → length (s .records) ≡ 13 * framesOf (s .answer)
@@ -104,6 +137,11 @@ sized c m room s (refused o z n) = omega arith
 sized c m room s (went t after ok size space h) =
     length-records (idFor c) (sent (c .signature) t (c .payload)) (sent-short (c .signature) t (c .payload))
     ∙ ap (λ n. 13 * n) (sent-length (c .signature) t (c .payload))
+
+refuses : (c : Call) (m : Map) (room : ℕ) (s : Step) → Sends c m room s → (numberOf (s .answer) ≡ 0 → ⊥) → (s .map ≡ m) × (s .records ≡ [])
+unfolding transmit
+refuses c m room s (refused o z never) n = (refl, refl)
+refuses c m room s (went t after ok size space h) n = absurd (n refl)
 
 fits-room : (c : Call) (m : Map) (room : ℕ) (s : Step) → Sends c m room s → length (s .records) ≤ room
 unfolding transmit
@@ -133,6 +171,7 @@ record-laws =
     record {
       fits = in-range;
       count = sent-length;
+      refusal = λ c m room. refuses c m room (sendStep c m room) (sends c m room);
       size = λ c m room. sized c m room (sendStep c m room) (sends c m room);
       room = λ c m room. fits-room c m room (sendStep c m room) (sends c m room);
       back = λ id signature t p time n h k. back id h time (sent signature t p) n (sent-short signature t p) (omega (arith, sent-length signature t p));

@@ -17,7 +17,7 @@ use Rattle.model.specs.Frame as frame
 use Rattle.model.specs.Frame.{Frame, priorityOf}
 use Rattle.model.specs.Map.{Map, blank, sound}
 use Rattle.model.specs.Reception.{run}
-use Rattle.model.specs.Sending.{Call, streamOf, any, misfits, frameCount, done, framesOf, anonymousId, recordsOf, sendStep}
+use Rattle.model.specs.Sending.{Call, streamOf, any, misfits, frameCount, done, numberOf, framesOf, anonymousId, recordsOf, sendStep}
 use Rattle.model.specs.Sent.{sent, idOf, frameAt}
 use Rattle.model.specs.Setup.{Setup, subscribed}
 use Rattle.model.specs.Sound.{streamFits}
@@ -44,6 +44,9 @@ pub record RecordLaws : Type 0 where
   pub fits : (c : Call) → misfits c ≡ false → InRange c
   -- the frames are as many as the answer says: 1 for up to 7 payload bytes, (n + 8) / 7 for n > 7
   pub count : (signature t : ℕ) (p : List ℕ) → length (sent signature t p) ≡ frameCount (length p)
+  -- a refusal changes nothing and writes nothing
+  pub refusal : (c : Call) (m : Map) (room : ℕ) → (numberOf (sendStep c m room .answer) ≡ 0 → ⊥)
+      → (sendStep c m room .map ≡ m) × (sendStep c m room .records ≡ [])
   -- there are as many records, and they fit in the room
   pub size : (c : Call) (m : Map) (room : ℕ) → length (sendStep c m room .records) ≡ 13 * framesOf (sendStep c m room .answer)
   pub room : (c : Call) (m : Map) (room : ℕ) → length (sendStep c m room .records) ≤ room

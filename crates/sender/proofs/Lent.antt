@@ -31,9 +31,17 @@ use Rattle.sender.specs.declared.Sent.the-variants.{Done, OutputSmall, M
 
 module _ (m : List ℕ) (fine : soundMap m ≡ true) (bytes : Octets m) where
   -- a map that the rules leave as it was
-  kept : written m 0 (mapOf m) ≡ m
+  pub kept : written m 0 (mapOf m) ≡ m
   unfolding mapOf
   kept = written-kept m (long-enough m fine) bytes 32 0 (omega arith) (keys-odd m fine)
+
+  -- one with an entry stored
+  pub stored-is : (i : ℕ) (k : Topic) (t since : ℕ) → i < 32 → t < 256 → written m 0 (set (mapOf m) i (used k t since)) ≡ withSlot m i (used k t since)
+  unfolding mapOf
+  stored-is i k t since h b =
+      let l = long-enough m fine in
+      let o : Octets (withSlot m (0 + i) (used k t since)) = octets-withSlot m (0 + i) l (omega arith) bytes k t since b in
+      written-set m l bytes (used k t since) i 32 0 h (omega arith) o (keys-odd m fine) ∙ ap (λ j. withSlot m j (used k t since)) (zero-add i)
 
   -- a place of the view
   pub slot-is : (i : ℕ) → i < 32 → getD (mapOf m) i free ≡ slotAt m i
@@ -104,15 +112,12 @@ module _ (m : List ℕ) (fine : soundMap m ≡ true) (bytes : Octets m) where
         → m' ≡ withSlot m i (used (topicOf c) ((t + 1) % 32) (c .time)) → n ≡ frameCount (length (c .payload))
         → out' ≡ splice out 0 (recordsOf (idFor c) (sent (c .signature) t (c .payload)))
         → result (Done n) m' out' ≡ lent m out (sendIn place c (mapOf m))
-    unfolding sendIn sendAt transmit mapOf
+    unfolding sendIn sendAt transmit
     stored i t n m' out' e h et em en eo =
         let p : place ≡ some i = found place (omega arith) ∙ ap some (sym e) in
         let s : drawn (topicOf c) (getD (mapOf m) i free) ≡ t = ap (drawn (topicOf c)) (slot-is i (omega arith)) ∙ sym et in
         let after = used (topicOf c) ((t + 1) % 32) (c .time) in
-        let z : 0 + i ≡ i = zero-add i in
-        let o : Octets (withSlot m (0 + i) after) = octets-withSlot m (0 + i) (long-enough m fine) (omega arith) bytes (topicOf c) ((t + 1) % 32) (c .time) (omega arith) in
-        let w : written m 0 (set (mapOf m) i after) ≡ withSlot m i after =
-        written-set m (long-enough m fine) bytes after i 32 0 (omega arith) (omega arith) o (keys-odd m fine) ∙ ap (λ j. withSlot m j after) z in
+        let w : written m 0 (set (mapOf m) i after) ≡ withSlot m i after = stored-is i (topicOf c) ((t + 1) % 32) (c .time) (omega arith) (omega arith) in
         (λ j. record { number = 0; frames = en j; map = (em ∙ sym w) j; out = eo j })
         ∙ ap (λ x. lent m out (sendAt c i x (mapOf m))) (sym s)
         ∙ ap (λ x. lent m out (sendIn x c (mapOf m))) (sym p)

@@ -1,3 +1,4 @@
 pub mod Misfits
 pub mod Pieces
 pub mod Lent
+pub mod After

@@ -136,20 +136,20 @@ module _ (p : List ℕ) (sum tail v : ℕ) (o : Octets p) (b : tail < 256) (s : 
   five : length (framed (take 5 p) tail) ≡ 6
   five = framed-length (take 5 p) tail ∙ omega (arith, length-take-le 5 p h)
 
-  pub first-fits : v * 65536 + sum < 2 ^ 64
+  pub first-fits : (v * 256 + sum / 256) * 256 + sum % 256 < 2 ^ 64
   first-fits =
       let l : le (framed (take 5 p) tail) < 256 ^ 6 = rw five at (le-lt (framed (take 5 p) tail) (framed-octets (take 5 p) tail (octets-take 5 p o) b)) in
       omega arith
 
-  first-number : v * 65536 + sum ≡ le (framed (sum % 256 ∷ sum / 256 ∷ take 5 p) tail)
+  first-number : (v * 256 + sum / 256) * 256 + sum % 256 ≡ le (framed (sum % 256 ∷ sum / 256 ∷ take 5 p) tail)
   unfolding le
   first-number = omega arith
 
-  pub first-is : (out out' : List ℕ) (id : ℕ) → out' ≡ splice out 0 (leBytes 4 id ++ (8 ∷ leBytes 8 (v * 65536 + sum)))
+  pub first-is : (out out' : List ℕ) (id : ℕ) → out' ≡ splice out 0 (leBytes 4 id ++ (8 ∷ leBytes 8 ((v * 256 + sum / 256) * 256 + sum % 256)))
       → out' ≡ splice out 0 (recordOf id (framed (sum % 256 ∷ sum / 256 ∷ take 5 p) tail))
   first-is out out' id q =
       let n = five in
-      q ∙ ap (splice out 0) (record-is id 8 (v * 65536 + sum) (framed (sum % 256 ∷ sum / 256 ∷ take 5 p) tail)
+      q ∙ ap (splice out 0) (record-is id 8 ((v * 256 + sum / 256) * 256 + sum % 256) (framed (sum % 256 ∷ sum / 256 ∷ take 5 p) tail)
       (omega arith, (omega arith, framed-octets (take 5 p) tail (octets-take 5 p o) b)) (omega arith) (omega arith) first-number)
 
 -- one turn of the loop: k bytes are sent, and seven more

@@ -57,7 +57,7 @@ fn word(p: &[u8], k: usize, tail: u8) -> u64
 
 // One record from `at` on: n data bytes.
 fn put(out: &mut [u8], at: usize, id: u32, n: usize, word: u64)
-    requires { ⌜ (at + 13 ≤ length (now out)) × (n < 256) ⌝ }
+    requires { ⌜ (at + 13 ≤ length (now out)) × (n ≤ 8) ⌝ }
     ensures { λ _. ⌜ now (out .exit) ≡ splice (now (out .entry)) at (leBytes 4 id ++ (n ∷ leBytes 8 word)) ⌝ }
 {
     bits::le::put_at(out, at, 4, id as u64);
@@ -70,9 +70,9 @@ fn next(out: &mut [u8], at: usize, id: u32, unsent: &[u8], tail: u8)
     requires { ⌜ (at + 13 ≤ length (now out)) × (tail < 192) ⌝ }
     ensures { λ _. ⌜ now (out .exit) ≡ splice (now (out .entry)) at (recordOf id (framed (take 7 (now (unsent .entry))) (pick (leb (length (now (unsent .entry))) 7) (tail + 64) tail))) ⌝ }
 {
-    let n = unsent.len();
-    if n <= 7 {
-        put(out, at, id, n + 1, word(unsent, n, tail + 64));
+    let left = unsent.len();
+    if left <= 7 {
+        put(out, at, id, left + 1, word(unsent, left, tail + 64));
         return;
     }
     put(out, at, id, 8, word(unsent, 7, tail));
@@ -83,7 +83,15 @@ fn first(out: &mut [u8], id: u32, sum: u16, payload: &[u8], tail: u8)
     requires { ⌜ (13 ≤ length (now out)) × (5 ≤ length (now payload)) ⌝ }
     ensures { λ _. ⌜ now (out .exit) ≡ splice (now (out .entry)) 0 (recordOf id (framed (sum % 256 ∷ sum / 256 ∷ take 5 (now (payload .entry))) tail)) ⌝ }
 {
-    put(out, 0, id, 8, word(payload, 5, tail) * 65536 + sum as u64);
+    let low = (sum % 256) as u64;
+    let high = (sum / 256) as u64;
+    put(
+        out,
+        0,
+        id,
+        8,
+        (word(payload, 5, tail) * 256 + high) * 256 + low,
+    );
 }
 
 // The frames after the first: each writer gets what is unsent.

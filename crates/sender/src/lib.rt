@@ -1,6 +1,7 @@
 // The sender: a payload into records of frames, over a lent transfer-ID map.
 mod check;
 mod frame;
+pub mod laws;
 
 ghost use mathlib.Core.Path.{_≡_};
 ghost use mathlib.Core.Bool.{true};

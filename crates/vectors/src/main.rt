@@ -1,4 +1,6 @@
 // Runs worked examples of the papers through the proved functions; the stored output is the comparison.
+mod allocation;
+
 use bits::field;
 use checksum::crc16;
 
@@ -56,4 +58,5 @@ fn main() {
     five_fields();
     check_value();
     widths();
+    allocation::run();
 }

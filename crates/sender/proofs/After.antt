@@ -1,0 +1,79 @@
+-- The map after a send: its view, and that it has no fault.
+use mathlib.Core.Path.{_≡_, ap, _∙_}
+use mathlib.Core.Bool.{true}
+use mathlib.Core.List.{List}
+use Prim.Native.Nat.{ℕ, _^_, _≤_, _<_}
+use mathlib.Mathlib.Data.Bool.Basic.{and-elim-right, and-intro}
+use native.Mathlib.Omega.{arith}
+use borrow.Author.Tests.{le-leb}
+use lib.Dec.{leb}
+use lib.ListN.{length, set}
+use Rattle.bits.specs.Order.{Octets}
+use Rattle.map.specs.Layout.{size, keyOf, mapOf, withSlot, written}
+use Rattle.map.specs.Sound.{soundMap}
+use Rattle.map.proofs.Keys.{topic-key}
+use Rattle.map.proofs.Places.{Holdable, length-withSlot}
+use Rattle.map.proofs.Seek.{length-mapOf}
+use Rattle.map.proofs.Soundness.{long-enough}
+use Rattle.map.proofs.Written.{view-set}
+use Rattle.model.specs.Map as rules
+use Rattle.model.specs.Map.{Map, used}
+use Rattle.model.specs.Sending.{Call, topicOf, sendStep}
+use Rattle.model.specs.SendingLaws.{InRange}
+use Rattle.model.specs.Session.{next}
+use Rattle.model.proofs.Sends.{Leaves, alone, stored, leaves, map-lasts}
+use Rattle.sender.specs.Laws.{SendLaws}
+use Rattle.sender.specs.Send.{sendsIf, sends}
+use Rattle.sender.proofs.Lent.{kept, stored-is, key-in}
+
+-- an entry that a call stores fits the layout
+holdable : (c : Call) → InRange c → (c .kind ≡ 2 → ⊥) → c .time < 2 ^ 64 → Holdable (topicOf c) (c .time)
+unfolding keyOf
+holdable c r n h =
+    let k = key-in c r n in
+    record { topic = topic-key (topicOf c) (k .1 .0) (k .1 .1); word = omega arith; time = h }
+
+-- the bytes after hold the map after, and are as many
+record Holds (m : List ℕ) (after : Map) : Type 0 where
+  pub view : mapOf (written m 0 after) ≡ after
+  pub long : size ≤ length (written m 0 after)
+
+module _ (m : List ℕ) (fine : soundMap m ≡ true) (bytes : Octets m) (c : Call) (time : c .time < 2 ^ 64) where
+  holds : (after : Map) → Leaves c (mapOf m) after → Holds m after
+  holds after alone = record { view = ap mapOf (kept m fine bytes); long = rw (kept m fine bytes) (long-enough m fine) }
+  holds after (stored i t h r n) =
+      let entry = used (topicOf c) (next t) (c .time) in
+      let l = long-enough m fine in
+      let b : i < 32 = omega (arith, length-mapOf m) in
+      let w : written m 0 (set (mapOf m) i entry) ≡ withSlot m i entry = stored-is m fine bytes i (topicOf c) (next t) (c .time) b (omega arith) in
+      record {
+        view = ap mapOf w ∙ view-set m l (topicOf c) (next t) (c .time) (holdable c r n time) i b;
+        long = rw (w, length-withSlot m i l b entry) l;
+      }
+
+sent-map : (m : List ℕ) (c : Call) (out : List ℕ) → soundMap m ≡ true → sends m c out .map ≡ written m 0 (sendStep c (mapOf m) (length out) .map)
+unfolding sends sendsIf
+sent-map m c out e = rw e
+
+sound-view : (m : List ℕ) → soundMap m ≡ true → rules.sound (mapOf m) ≡ true
+unfolding soundMap
+sound-view m e = and-elim-right (leb size (length m)) _ e
+
+module _ (m : List ℕ) (c : Call) (out : List ℕ) (fine : soundMap m ≡ true) (bytes : Octets m) (time : c .time < 2 ^ 64) where
+  abbrev after : Map
+  after = sendStep c (mapOf m) (length out) .map
+
+  kept-by : Holds m after
+  kept-by = holds m fine bytes c time after (leaves c (mapOf m) (length out))
+
+  view-after : mapOf (sends m c out .map) ≡ after
+  view-after = ap mapOf (sent-map m c out fine) ∙ kept-by .view
+
+  sound-after : soundMap (sends m c out .map) ≡ true
+  unfolding soundMap
+  sound-after =
+      ap soundMap (sent-map m c out fine)
+      ∙ and-intro (le-leb size (length (written m 0 after)) (kept-by .long)) (ap rules.sound (kept-by .view) ∙ map-lasts .send c (mapOf m) (length out) (sound-view m fine))
+
+pub send-laws : SendLaws
+send-laws = record { view = view-after; sound = sound-after }

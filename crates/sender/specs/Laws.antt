@@ -1,0 +1,19 @@
+-- What holds of the map after a send, so that sends can follow each other; `laws.rt` has a function whose contract it is.
+use mathlib.Core.Path.{_≡_}
+use mathlib.Core.Bool.{true}
+use mathlib.Core.List.{List}
+use Prim.Native.Nat.{ℕ, _^_, _<_}
+use lib.ListN.{length}
+use Rattle.bits.specs.Order.{Octets}
+use Rattle.map.specs.Layout.{mapOf}
+use Rattle.map.specs.Sound.{soundMap}
+use Rattle.model.specs.Sending.{Call, sendStep}
+use Rattle.sender.specs.Send.{sends}
+
+-- of a map m without a fault, whose elements are bytes, and a call at a time of 64 bits
+pub record SendLaws : Type 0 where
+  -- the bytes hold the map that the rules leave
+  pub view : (m : List ℕ) (c : Call) (out : List ℕ) → soundMap m ≡ true → Octets m → c .time < 2 ^ 64
+      → mapOf (sends m c out .map) ≡ sendStep c (mapOf m) (length out) .map
+  -- without a fault
+  pub sound : (m : List ℕ) (c : Call) (out : List ℕ) → soundMap m ≡ true → Octets m → c .time < 2 ^ 64 → soundMap (sends m c out .map) ≡ true
