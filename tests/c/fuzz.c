@@ -1,0 +1,566 @@
+/* Random calls of every C entry, on buffers that show it when a call leaves them (lent.h). Seeded; the same seed gives the same calls.
+ *
+ *     fuzz [--seed N] [--calls N] [--seconds N] [--lie guard|heap|page]
+ *
+ * Each call is made twice, on equal buffers placed differently, and must give the same word and the same bytes: so nothing but the
+ * arguments counts. Then the C contract is checked that include/tecelume.h states: const inputs stay, a refusal leaves every buffer as
+ * it was and all other bits of the word 0, success writes only where it may, and a payload sent comes out as it went in. What the
+ * answers must be otherwise is the business of the comparison with the second implementation.
+ *
+ * --lie makes one call that says one byte too many of a buffer. Something must notice, or the runs without it show nothing. */
+#include <inttypes.h>
+#include <stdio.h>
+#include <stdlib.h>
+#include <string.h>
+#include <time.h>
+
+#include "lent.h"
+#include "tecelume.h"
+
+/* ---- randomness ---- */
+
+static uint64_t seed = 1, random_state;
+
+static uint64_t next_random(void)
+{
+    uint64_t z = random_state += 0x9E3779B97F4A7C15;
+    z = (z ^ z >> 30) * 0xBF58476D1CE4E5B9;
+    z = (z ^ z >> 27) * 0x94D049BB133111EB;
+    return z ^ z >> 31;
+}
+
+/* 0 to n - 1 */
+static uint32_t below(uint32_t n)
+{
+    return (uint32_t)(next_random() % n);
+}
+
+static bool once_in(uint32_t n)
+{
+    return below(n) == 0;
+}
+
+static void fill(uint8_t *bytes, size_t n)
+{
+    for (size_t i = 0; i < n; i++)
+        bytes[i] = (uint8_t)next_random();
+}
+
+/* ---- a call ---- */
+
+enum entry { SETUP, RECEIVE, MAP_SETUP, SEND, ENTRIES };
+
+static const char *const entry_names[ENTRIES] = {"setup", "receive", "map setup", "send"};
+
+enum { STATE_EXTRA = 40, INPUT_MAX = 1000, OUT_MAX = 1100, FRAME_LENGTH_MAX = 20, PAYLOAD_MAX = 600 };
+
+struct buffer {
+    uint8_t bytes[LENT_MAX];
+    size_t length;
+};
+
+/* `state` is a receiver's or a map, `input` the subscriptions, the frame or the payload. */
+struct call {
+    enum entry entry;
+    uint32_t own, id, kind, type_id, destination, priority, transfer_id, discriminator;
+    uint64_t signature, time;
+    struct buffer state, input, out;
+};
+
+static uint64_t calls, seen[ENTRIES][256];
+static uint64_t through; /* transfers sent, received and compared */
+
+static void fail(const struct call *c, const char *what)
+{
+    printf("seed %" PRIu64 ", call %" PRIu64 ", %s with %zu, %zu and %zu bytes lent: %s\n", seed, calls, entry_names[c->entry],
+           c->state.length, c->input.length, c->out.length, what);
+    exit(1);
+}
+
+static uint64_t make(const struct call *c, const struct lent *state, const struct lent *input, const struct lent *out)
+{
+    switch (c->entry) {
+    case SETUP:
+        return tecelume_setup(state->bytes, state->length, c->own, input->bytes, input->length);
+    case RECEIVE:
+        return tecelume_receive(state->bytes, state->length, c->id, input->bytes, input->length, c->time, out->bytes, out->length);
+    case MAP_SETUP:
+        return tecelume_map_setup(state->bytes, state->length);
+    default:
+        return tecelume_send(state->bytes, state->length, c->own, c->kind, c->type_id, c->destination, c->priority, input->bytes,
+                             input->length, c->signature, c->time, c->transfer_id, c->discriminator, out->bytes, out->length);
+    }
+}
+
+/* Makes the call on buffers placed at random, and gives its word; the buffers of `after` get what it left. */
+static uint64_t make_placed(const struct call *c, struct call *after)
+{
+    static uint8_t input_after[LENT_MAX];
+    uint64_t choice = next_random();
+    struct lent state = lend((enum placement)(choice % PLACEMENTS), c->state.bytes, c->state.length, choice >> 8 & 255);
+    struct lent input = lend((enum placement)(choice / PLACEMENTS % PLACEMENTS), c->input.bytes, c->input.length, choice >> 16 & 255);
+    struct lent out = lend((enum placement)(choice / (PLACEMENTS * PLACEMENTS) % PLACEMENTS), c->out.bytes, c->out.length,
+                           choice >> 24 & 255);
+    uint64_t word = make(c, &state, &input, &out);
+    if (!guards_stay(&state) || !guards_stay(&input) || !guards_stay(&out))
+        fail(c, "bytes beside a lent buffer were written");
+    take_back(&state, after->state.bytes);
+    take_back(&input, input_after);
+    take_back(&out, after->out.bytes);
+    if (memcmp(input_after, c->input.bytes, c->input.length) != 0)
+        fail(c, "a const input was written");
+    return word;
+}
+
+/* ---- the contract ---- */
+
+static bool stays(const struct buffer *before, const struct buffer *after, size_t from)
+{
+    return from >= before->length || memcmp(before->bytes + from, after->bytes + from, before->length - from) == 0;
+}
+
+static size_t frames_of(size_t payload)
+{
+    return payload > 7 ? (payload + 8) / 7 : 1;
+}
+
+/* How much of the output a call with this word may write. */
+static size_t written(const struct call *c, uint64_t word)
+{
+    if (c->entry == RECEIVE && tecelume_number(word) == TECELUME_HANDED_OUT)
+        return tecelume_length(word);
+    if (c->entry == SEND && tecelume_number(word) == TECELUME_SUCCESS)
+        return tecelume_frames(word) * TECELUME_FRAME_SIZE;
+    return 0;
+}
+
+static bool may_change_state(enum entry entry, uint32_t number)
+{
+    return entry == RECEIVE ? number <= TECELUME_HANDED_OUT || (number >= TECELUME_PASSED_OVER && number <= TECELUME_CHECKSUM_DIFFERS)
+                            : number == TECELUME_SUCCESS;
+}
+
+/* Which numbers an entry answers, as bits. */
+static const uint32_t answers[ENTRIES] = {
+    1u << 0 | 1u << 13 | 1u << 20,
+    0x1FFFu | 1u << 20,
+    1u << 0 | 1u << 20,
+    1u << 0 | 1u << 8 | 1u << 9 | 1u << 11 | 1u << 14 | 1u << 20,
+};
+
+static void judge(const struct call *c, const struct call *after, uint64_t word)
+{
+    uint32_t number = tecelume_number(word);
+    bool detailed = (c->entry == RECEIVE && number == TECELUME_HANDED_OUT) || (c->entry == SEND && number == TECELUME_SUCCESS);
+    size_t size = c->entry == SETUP || c->entry == RECEIVE ? TECELUME_RECEIVER_SIZE : TECELUME_MAP_SIZE;
+    if (number > 31 || (answers[c->entry] >> number & 1) == 0)
+        fail(c, "a number that this call does not answer");
+    if (!detailed && word != number)
+        fail(c, "other bits of the word are not 0");
+    if (c->state.length < size && number != TECELUME_STATE_FAULT)
+        fail(c, "a state that is too short was accepted");
+    if (written(c, word) > c->out.length)
+        fail(c, "more was written than was lent");
+    if (c->entry == RECEIVE && detailed && (c->out.length < TECELUME_OUTPUT_SIZE || tecelume_length(word) > 512 || word >> 60 != 0))
+        fail(c, "a transfer that cannot be");
+    if (c->entry == SEND && detailed && word != (uint64_t)frames_of(c->input.length) << 8)
+        fail(c, "a number of frames that cannot be");
+    if (!stays(&c->state, &after->state, may_change_state(c->entry, number) ? size : 0))
+        fail(c, "bytes of the state that must stay were written");
+    if (!stays(&c->out, &after->out, written(c, word)))
+        fail(c, "bytes of the output that must stay were written");
+    seen[c->entry][number]++;
+}
+
+/* Makes the call twice and checks it; the buffers then hold what it left. */
+static uint64_t run(struct call *c)
+{
+    static struct call once, again;
+    calls++;
+    uint64_t word = make_placed(c, &once);
+    if (make_placed(c, &again) != word || memcmp(once.state.bytes, again.state.bytes, c->state.length) != 0 ||
+        memcmp(once.out.bytes, again.out.bytes, c->out.length) != 0)
+        fail(c, "the same call twice differs");
+    judge(c, &once, word);
+    memcpy(c->state.bytes, once.state.bytes, c->state.length);
+    memcpy(c->out.bytes, once.out.bytes, c->out.length);
+    return word;
+}
+
+/* ---- arguments ---- */
+
+/* Mostly a number up to the limit, else one near it or any. */
+static uint32_t number_to(uint32_t limit)
+{
+    uint32_t which = below(40);
+    return which > 1 ? below(limit + 1) : which == 1 ? limit + 1 + below(3) : (uint32_t)next_random();
+}
+
+enum { SUBSCRIPTIONS = 8 };
+
+/* Few types, so that traffic meets subscriptions. */
+static uint32_t a_type(void)
+{
+    return once_in(10) ? number_to(65535) : below(SUBSCRIPTIONS);
+}
+
+static uint64_t signature_of(uint32_t kind, uint32_t type_id)
+{
+    return (uint64_t)(kind * 7919 + type_id + 1) * 0x9E3779B97F4A7C15;
+}
+
+/* A state is now and then lent short, or longer than it must be. */
+static size_t state_length(size_t size)
+{
+    return once_in(200) ? below((uint32_t)size) : once_in(8) ? size + below(STATE_EXTRA) : size;
+}
+
+/* Damages the numbers in front of a receiver's gathered bytes, or anything. */
+static void damage(struct buffer *b)
+{
+    uint32_t front = once_in(4) ? (uint32_t)b->length : 1288;
+    for (uint32_t n = 1 + below(4); n > 0 && b->length > 0; n--)
+        b->bytes[below(front) % b->length] = (uint8_t)(once_in(2) ? next_random() : below(40));
+}
+
+/* ---- the players: one receiver, one sender that stands for all nodes, and the frames on their way ---- */
+
+static struct call receiver, sender;
+static uint64_t now;
+
+struct frame {
+    uint32_t id;
+    size_t length;
+    uint8_t data[8];
+};
+
+enum { LANES = 40, LANE_MAX = 120, LANE_SOURCES = 3 };
+
+/* The frames of a transfer on their way. No two lanes share a source, and wild frames have others still, so each stream is one lane's. */
+static struct lane {
+    struct frame frames[LANE_MAX];
+    size_t count, next;
+    bool whole; /* correctly sent for this receiver, and all so far were taken */
+    uint8_t payload[PAYLOAD_MAX];
+    size_t length;
+} lanes[LANES];
+
+static uint32_t a_source(const struct lane *lane)
+{
+    return (uint32_t)(1 + (lane - lanes) + LANES * below(LANE_SOURCES));
+}
+
+static void none_whole(void)
+{
+    for (int i = 0; i < LANES; i++)
+        lanes[i].whole = false;
+}
+
+static bool all_subscribed; /* as the lanes' transfers are signed */
+
+static void set_up_receiver(void)
+{
+    uint8_t *next = receiver.input.bytes;
+    receiver.entry = SETUP;
+    receiver.own = number_to(127);
+    for (uint32_t i = 0; i < SUBSCRIPTIONS; i++)
+        for (uint32_t kind = 0; kind < 2; kind++)
+            next = tecelume_subscription(next, kind, i, signature_of(kind, i));
+    receiver.input.length = (size_t)(next - receiver.input.bytes);
+    all_subscribed = !once_in(4);
+    if (!all_subscribed) {
+        receiver.input.length = once_in(2) ? below(INPUT_MAX) : TECELUME_SUBSCRIPTION_SIZE * below(70);
+        damage(&receiver.input);
+    }
+    receiver.state.length = state_length(TECELUME_RECEIVER_SIZE);
+    fill(receiver.state.bytes, receiver.state.length);
+    none_whole();
+    if (run(&receiver) != TECELUME_SUCCESS)
+        receiver.state.length = 0; /* set up again at the next step */
+}
+
+static void set_up_map(void)
+{
+    sender.entry = MAP_SETUP;
+    sender.state.length = state_length(TECELUME_MAP_SIZE);
+    fill(sender.state.bytes, sender.state.length);
+    run(&sender);
+}
+
+static size_t payload_length(void)
+{
+    switch (below(4)) {
+    case 0: return below(9);
+    case 1: return below(100);
+    case 2: return 505 + below(10);
+    default: return below(PAYLOAD_MAX + 1);
+    }
+}
+
+static void choose_transfer(const struct lane *lane)
+{
+    sender.entry = SEND;
+    sender.own = once_in(8) ? 0 : once_in(40) ? 128 + below(300) : a_source(lane);
+    sender.kind = number_to(2);
+    sender.type_id = a_type() % (sender.own == 0 ? 5 : 70000);
+    sender.destination = sender.kind == 0 ? (once_in(20) ? below(300) : 0) : once_in(4) ? number_to(127) : receiver.own;
+    sender.priority = number_to(31);
+    sender.transfer_id = number_to(31);
+    sender.discriminator = number_to(16383);
+    sender.signature = signature_of(sender.kind > 0, sender.type_id);
+    sender.time = now;
+    sender.input.length = sender.own == 0 ? below(9) : payload_length();
+    fill(sender.input.bytes, sender.input.length);
+    size_t needed = TECELUME_FRAME_SIZE * frames_of(sender.input.length);
+    sender.out.length = once_in(10) ? below((uint32_t)needed) : needed + (once_in(2) ? below(30) : 0);
+    fill(sender.out.bytes, sender.out.length);
+}
+
+static void put_on_lane(struct lane *lane, size_t count)
+{
+    lane->count = count;
+    lane->next = 0;
+    lane->whole = all_subscribed;
+    lane->length = sender.input.length;
+    memcpy(lane->payload, sender.input.bytes, lane->length);
+    for (size_t i = 0; i < count; i++) {
+        const uint8_t *record = sender.out.bytes + i * TECELUME_FRAME_SIZE;
+        struct frame *f = &lane->frames[i];
+        f->id = record[0] | (uint32_t)record[1] << 8 | (uint32_t)record[2] << 16 | (uint32_t)record[3] << 24;
+        f->length = record[4];
+        memcpy(f->data, record + 5, sizeof f->data);
+    }
+}
+
+/* Sends on an empty lane; on a map at fault now and then. */
+static void send_transfer(struct lane *lane)
+{
+    static struct buffer good;
+    choose_transfer(lane);
+    bool at_fault = once_in(10);
+    if (at_fault) {
+        good = sender.state;
+        damage(&sender.state);
+        if (once_in(4))
+            sender.state.length = below(TECELUME_MAP_SIZE);
+    }
+    uint64_t word = run(&sender);
+    if (tecelume_number(word) == TECELUME_SUCCESS)
+        put_on_lane(lane, tecelume_frames(word));
+    if (at_fault)
+        sender.state = good;
+}
+
+/* A transfer that no sender makes: too long, or with a wrong checksum. */
+static void forge_transfer(struct lane *lane)
+{
+    uint32_t id = below(32) << 24 | below(SUBSCRIPTIONS) << 8 | a_source(lane);
+    uint8_t transfer_id = (uint8_t)below(32);
+    lane->count = 2 + below(LANE_MAX - 2);
+    lane->next = 0;
+    lane->whole = false;
+    for (size_t i = 0; i < lane->count; i++) {
+        struct frame *f = &lane->frames[i];
+        f->id = id;
+        f->length = 8;
+        fill(f->data, 7);
+        f->data[7] = (uint8_t)((i == 0 ? 128 : 0) | (i + 1 == lane->count ? 64 : 0) | (i & 1) << 5 | transfer_id);
+    }
+}
+
+/* Any ID, but of a source that no lane has. */
+static void wild_frame(struct frame *f)
+{
+    uint32_t source = once_in(3) ? 0 : 127 - below(127 - LANES * LANE_SOURCES);
+    f->id = ((uint32_t)next_random() & (once_in(8) ? UINT32_MAX : 0x1FFFFFFF) & ~127u) | source;
+    f->length = once_in(3) ? below(sizeof f->data + 1) : sizeof f->data;
+    fill(f->data, sizeof f->data);
+}
+
+/* On every other lane frames are lost, repeated and damaged. The source stays, so that it hurts this lane only. */
+static struct frame disturb(struct lane *lane)
+{
+    struct frame f = lane->frames[lane->next++];
+    if ((lane - lanes) % 2 == 0 || !once_in(12))
+        return f;
+    lane->whole = false;
+    switch (below(5)) {
+    case 0: lane->next++; break;
+    case 1: lane->next--; break;
+    case 2: f.data[below(8)] ^= (uint8_t)(1 << below(8)); break;
+    case 3: f.id ^= 1u << (7 + below(25)); break;
+    default: wild_frame(&f);
+    }
+    return f;
+}
+
+static void lend_frame(const struct frame *f)
+{
+    receiver.entry = RECEIVE;
+    receiver.id = f->id;
+    receiver.time = once_in(300) ? next_random() : now;
+    receiver.input.length = f->length;
+    memcpy(receiver.input.bytes, f->data, f->length);
+    receiver.out.length = once_in(30) ? below(OUT_MAX) : TECELUME_OUTPUT_SIZE;
+    fill(receiver.out.bytes, receiver.out.length);
+}
+
+/* Receives a frame in a state that was damaged: it counts for this call only, or from here on. */
+static void receive_damaged(void)
+{
+    static struct buffer good;
+    good = receiver.state;
+    damage(&receiver.state);
+    if (once_in(4))
+        receiver.state.length = below(TECELUME_RECEIVER_SIZE);
+    uint64_t word = run(&receiver);
+    if (tecelume_number(word) == TECELUME_STATE_FAULT || once_in(2))
+        receiver.state = good;
+    none_whole();
+}
+
+/* The last frame of a transfer of which all others were taken: it may come too late, but then hands out what was sent. */
+static void judge_last(const struct lane *lane, uint64_t word)
+{
+    uint32_t number = tecelume_number(word);
+    if (number == TECELUME_TAKEN || number == TECELUME_PAYLOAD_TOO_LONG || number == TECELUME_CHECKSUM_DIFFERS)
+        fail(&receiver, "a transfer sent correctly did not come through");
+    if (number == TECELUME_HANDED_OUT &&
+        (tecelume_length(word) != lane->length || memcmp(receiver.out.bytes, lane->payload, lane->length) != 0))
+        fail(&receiver, "the payload handed out is not the one sent");
+    through += number == TECELUME_HANDED_OUT;
+}
+
+static void receive_frame(struct lane *lane)
+{
+    struct frame f = disturb(lane);
+    lend_frame(&f);
+    if (once_in(20)) {
+        receive_damaged();
+        return;
+    }
+    uint64_t word = run(&receiver);
+    if (lane->whole && lane->next == lane->count)
+        judge_last(lane, word);
+    lane->whole &= word == TECELUME_TAKEN;
+}
+
+/* A frame with more or fewer bytes than a frame has, or of no lane. */
+static void receive_wild(void)
+{
+    struct frame f;
+    wild_frame(&f);
+    lend_frame(&f);
+    if (once_in(2)) {
+        receiver.input.length = below(FRAME_LENGTH_MAX);
+        fill(receiver.input.bytes, receiver.input.length);
+    }
+    run(&receiver);
+}
+
+static void one_step(void)
+{
+    now += once_in(500) ? below(3000000) : below(2000);
+    if (once_in(2000) || receiver.state.length < TECELUME_RECEIVER_SIZE)
+        set_up_receiver();
+    if (once_in(300) || sender.state.length < TECELUME_MAP_SIZE)
+        set_up_map();
+    struct lane *lane = &lanes[below(LANES)];
+    if (once_in(20))
+        receive_wild();
+    else if (lane->next < lane->count)
+        receive_frame(lane);
+    else if (once_in(6))
+        forge_transfer(lane);
+    else
+        send_transfer(lane);
+}
+
+/* ---- every length ---- */
+
+/* Makes the call with the first 0, 1, 2 ... bytes of one of its buffers, each time from the same content. */
+static void sweep(const struct call *c, const struct buffer *swept, size_t to)
+{
+    static struct call one;
+    size_t at = (size_t)((const char *)swept - (const char *)c);
+    for (size_t length = 0; length <= to; length++) {
+        one = *c;
+        ((struct buffer *)((char *)&one + at))->length = length;
+        run(&one);
+    }
+}
+
+static void sweep_all(size_t state_steps)
+{
+    static const struct frame single = {0x10000005, 8, {1, 2, 3, 4, 5, 6, 7, 0xC0}};
+    set_up_receiver();
+    sweep(&receiver, &receiver.input, INPUT_MAX);
+    lend_frame(&single);
+    sweep(&receiver, &receiver.input, FRAME_LENGTH_MAX);
+    sweep(&receiver, &receiver.out, OUT_MAX);
+    sweep(&receiver, &receiver.state, state_steps);
+    set_up_map();
+    sweep(&sender, &sender.state, TECELUME_MAP_SIZE + STATE_EXTRA);
+    choose_transfer(lanes);
+    sender.input.length = 512;
+    sweep(&sender, &sender.out, OUT_MAX);
+    sender.out.length = OUT_MAX;
+    sweep(&sender, &sender.input, PAYLOAD_MAX);
+    sweep(&sender, &sender.state, TECELUME_MAP_SIZE + STATE_EXTRA);
+}
+
+/* ---- a lie, and the command line ---- */
+
+/* Says that a map is as long as it must be, though a byte is missing: setup then writes that byte. Gives 1 if the guards show it. */
+static int lie(const char *name)
+{
+    static const uint8_t zeros[TECELUME_MAP_SIZE];
+    enum placement placement = strcmp(name, "guard") == 0 ? BETWEEN : strcmp(name, "heap") == 0 ? ON_HEAP : AT_PAGE;
+    struct lent map = lend(placement, zeros, TECELUME_MAP_SIZE - 1, 1);
+    tecelume_map_setup(map.bytes, TECELUME_MAP_SIZE);
+    if (guards_stay(&map))
+        return 0;
+    printf("bytes beside a lent buffer were written\n");
+    return 1;
+}
+
+static int show(bool all)
+{
+    int missing = 0;
+    for (int e = 0; e < ENTRIES; e++) {
+        printf("%-10s", entry_names[e]);
+        for (int n = 0; n < 32; n++) {
+            if (answers[e] >> n & 1) {
+                printf(" %d: %" PRIu64, n, seen[e][n]);
+                missing |= seen[e][n] == 0;
+            }
+        }
+        printf("\n");
+    }
+    if (all && missing)
+        printf("an answer was never seen\n");
+    return all && missing;
+}
+
+int main(int count, char **words)
+{
+    uint64_t most = UINT64_MAX, seconds = UINT64_MAX;
+    for (int i = 1; i + 1 < count; i += 2) {
+        if (strcmp(words[i], "--lie") == 0)
+            return lie(words[i + 1]);
+        uint64_t n = strtoull(words[i + 1], NULL, 10);
+        *(strcmp(words[i], "--seed") == 0 ? &seed : strcmp(words[i], "--calls") == 0 ? &most : &seconds) = n;
+    }
+    if (most == UINT64_MAX && seconds == UINT64_MAX)
+        seconds = 5;
+    bool whole = most == UINT64_MAX;
+    random_state = seed;
+    if (tecelume_receiver_size() != TECELUME_RECEIVER_SIZE || tecelume_map_size() != TECELUME_MAP_SIZE)
+        fail(&receiver, "header and archive do not go together");
+    sweep_all(whole ? TECELUME_RECEIVER_SIZE + STATE_EXTRA : 100);
+    time_t from = time(NULL);
+    while (calls < most && (uint64_t)(time(NULL) - from) < seconds)
+        one_step();
+    printf("seed %" PRIu64 ": %" PRIu64 " calls, each made twice; %" PRIu64 " transfers went through\n", seed, calls, through);
+    return show(whole);
+}
