@@ -37,7 +37,7 @@ static size_t carried(uint64_t signature, unsigned source, unsigned turn, unsign
 
 size_t make_transfer(const struct type *type, unsigned source, unsigned turn, unsigned length, struct frame *f)
 {
-    uint8_t bytes[2 + TECELUME_OUTPUT_SIZE];
+    uint8_t bytes[2 + TECELUME_PAYLOAD_MAX];
     size_t total = carried(type->signature, source, turn, length, bytes), at = 0, n = 0;
     for (; at < total; n++) {
         size_t part = total - at < 7 ? total - at : 7;

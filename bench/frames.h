@@ -24,7 +24,7 @@ static const struct type types[] = {
 
 enum { TYPES = sizeof types / sizeof types[0], NODE_STATUS = 0, LOG_MESSAGE = 3 };
 
-enum { FRAMES_MAX = 74, FRAME_PRIORITY = 16 }; /* of a transfer of 512 bytes; of every frame here */
+enum { FRAME_PRIORITY = 16 }; /* of every frame here */
 
 struct frame {
     uint32_t id;
@@ -35,7 +35,7 @@ struct frame {
 /* A byte of the payload that a node sends at its turn. */
 uint8_t payload_byte(unsigned source, unsigned turn, unsigned i);
 
-/* The frames of a message of that type, with the turn as transfer ID; gives their number. */
+/* The frames of a message of that type, with the turn as transfer ID; gives their number, at most TECELUME_FRAMES_MAX. */
 size_t make_transfer(const struct type *type, unsigned source, unsigned turn, unsigned length, struct frame *f);
 
 double nanoseconds(void);

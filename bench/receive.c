@@ -41,7 +41,7 @@ static size_t frame_count;
 /* All transfers of the row, the sources' frames taking turns. */
 static void make_frames(const struct row *row)
 {
-    static struct frame transfer[32][FRAMES_MAX];
+    static struct frame transfer[32][TECELUME_FRAMES_MAX];
     frame_count = 0;
     for (unsigned turn = 0; turn < row->turns; turn++) {
         size_t per = 0;

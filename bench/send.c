@@ -16,7 +16,7 @@
 #include "frames.h"
 #include "tecelume.h"
 
-enum { ROUNDS = 101, STEP = 100, OWN = 1, TURNS = 512, OTHER_TYPES = 1000, PAYLOAD_MAX = 512, REFUSED = 10000 };
+enum { ROUNDS = 101, STEP = 100, OWN = 1, TURNS = 512, OTHER_TYPES = 1000, REFUSED = 10000 };
 
 struct row {
     unsigned length;  /* of a payload */
@@ -30,13 +30,13 @@ enum { ROWS = sizeof rows / sizeof rows[0] };
 
 static const struct type *const type = &types[LOG_MESSAGE];
 
-static uint8_t payloads[32][PAYLOAD_MAX];
-static uint8_t out[FRAMES_MAX * BASELINE_RECORD];
+static uint8_t payloads[32][TECELUME_PAYLOAD_MAX];
+static uint8_t out[TECELUME_FRAMES_MAX * TECELUME_RECORD_SIZE];
 
 static void make_payloads(void)
 {
     for (unsigned turn = 0; turn < 32; turn++)
-        for (unsigned i = 0; i < PAYLOAD_MAX; i++)
+        for (unsigned i = 0; i < TECELUME_PAYLOAD_MAX; i++)
             payloads[turn][i] = payload_byte(OWN, turn, i);
 }
 
@@ -122,7 +122,7 @@ static bool is_record(const uint8_t *record, const struct frame *f)
 /* Every record of every turn is that of the frame that it must be. */
 static bool is_right(const struct side *side, const struct row *row)
 {
-    static struct frame frames[FRAMES_MAX];
+    static struct frame frames[TECELUME_FRAMES_MAX];
     if (!fill(side, row->entries - 1))
         return false;
     for (unsigned turn = 0; turn < TURNS; turn++) {
@@ -131,7 +131,7 @@ static bool is_right(const struct side *side, const struct row *row)
         if (side->put(type->type_id, turn, row->length, 0) != n)
             return false;
         for (size_t i = 0; i < n; i++)
-            if (!is_record(out + i * BASELINE_RECORD, &frames[i]))
+            if (!is_record(out + i * TECELUME_RECORD_SIZE, &frames[i]))
                 return false;
     }
     return true;
@@ -187,7 +187,7 @@ static bool show_check(unsigned entries)
         double from = nanoseconds();
         for (int i = 0; i < REFUSED; i++)
             right &= tecelume_send(map, sizeof map, 128, TECELUME_MESSAGE, 0, 0, 0, NULL, 0, 0, 0, 0, 0, out, sizeof out) ==
-                     TECELUME_SEND_REFUSED;
+                     TECELUME_NOT_SENDABLE;
         double took = (nanoseconds() - from) / REFUSED;
         if (took < best)
             best = took;

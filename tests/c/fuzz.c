@@ -1,6 +1,7 @@
-/* Random calls of every C entry, on buffers that show it when a call leaves them (lent.h). Seeded; the same seed gives the same calls.
+/* Random calls of every C entry, on buffers that show it when a call leaves them (lent.h).
  *
- *     fuzz [--seed N] [--calls N] [--seconds N] [--lie guard|heap|page]
+ *     fuzz [--seed N] [--seconds N] [--calls N]      the same seed gives the same calls
+ *     fuzz --lie guard|heap|page|read
  *
  * Each call is made twice, on equal buffers placed differently, and must give the same word and the same bytes: so nothing but the
  * arguments counts. Then the C contract is checked that include/tecelume.h states: const inputs stay, a refusal leaves every buffer as
@@ -9,17 +10,25 @@
  *
  * --lie makes one call that says one byte too many of a buffer. Something must notice, or the runs without it show nothing. */
 #include <inttypes.h>
+#include <signal.h>
 #include <stdio.h>
 #include <stdlib.h>
 #include <string.h>
 #include <time.h>
+#include <unistd.h>
 
 #include "lent.h"
 #include "tecelume.h"
 
+/* ---- the command line's numbers ---- */
+
+static uint64_t seed = 1;
+static uint64_t most_calls = UINT64_MAX; /* a run of so many calls is short: it sweeps fewer lengths and need not see every answer */
+static uint64_t seconds = 5;
+
 /* ---- randomness ---- */
 
-static uint64_t seed = 1, random_state;
+static uint64_t random_state;
 
 static uint64_t next_random(void)
 {
@@ -77,6 +86,15 @@ static void fail(const struct call *c, const char *what)
     exit(1);
 }
 
+/* A fault in the midst of a call. Nothing is left to save, so that what a handler may not do does no harm. */
+static void on_fault(int signal_number)
+{
+    (void)signal_number;
+    printf("seed %" PRIu64 ", call %" PRIu64 ": memory was touched that no one may touch\n", seed, calls);
+    fflush(stdout);
+    _exit(1);
+}
+
 static uint64_t make(const struct call *c, const struct lent *state, const struct lent *input, const struct lent *out)
 {
     switch (c->entry) {
@@ -130,7 +148,7 @@ static size_t written(const struct call *c, uint64_t word)
     if (c->entry == RECEIVE && tecelume_number(word) == TECELUME_HANDED_OUT)
         return tecelume_length(word);
     if (c->entry == SEND && tecelume_number(word) == TECELUME_SUCCESS)
-        return tecelume_frames(word) * TECELUME_FRAME_SIZE;
+        return tecelume_frames(word) * TECELUME_RECORD_SIZE;
     return 0;
 }
 
@@ -209,10 +227,10 @@ static uint64_t signature_of(uint32_t kind, uint32_t type_id)
     return (uint64_t)(kind * 7919 + type_id + 1) * 0x9E3779B97F4A7C15;
 }
 
-/* A state is now and then lent short, or longer than it must be. */
+/* For setup: now and then short, or longer than it must be. */
 static size_t state_length(size_t size)
 {
-    return once_in(200) ? below((uint32_t)size) : once_in(8) ? size + below(STATE_EXTRA) : size;
+    return once_in(8) ? below((uint32_t)size) : once_in(8) ? size + below(STATE_EXTRA) : size;
 }
 
 /* Damages the numbers in front of a receiver's gathered bytes, or anything. */
@@ -234,7 +252,7 @@ struct frame {
     uint8_t data[8];
 };
 
-enum { LANES = 40, LANE_MAX = 120, LANE_SOURCES = 3 };
+enum { LANES = 12, LANE_MAX = 120, LANE_SOURCES = 2 };
 
 /* The frames of a transfer on their way. No two lanes share a source, and wild frames have others still, so each stream is one lane's. */
 static struct lane {
@@ -311,7 +329,7 @@ static void choose_transfer(const struct lane *lane)
     sender.time = now;
     sender.input.length = sender.own == 0 ? below(9) : payload_length();
     fill(sender.input.bytes, sender.input.length);
-    size_t needed = TECELUME_FRAME_SIZE * frames_of(sender.input.length);
+    size_t needed = TECELUME_RECORD_SIZE * frames_of(sender.input.length);
     sender.out.length = once_in(10) ? below((uint32_t)needed) : needed + (once_in(2) ? below(30) : 0);
     fill(sender.out.bytes, sender.out.length);
 }
@@ -324,11 +342,11 @@ static void put_on_lane(struct lane *lane, size_t count)
     lane->length = sender.input.length;
     memcpy(lane->payload, sender.input.bytes, lane->length);
     for (size_t i = 0; i < count; i++) {
-        const uint8_t *record = sender.out.bytes + i * TECELUME_FRAME_SIZE;
+        const uint8_t *record = sender.out.bytes + i * TECELUME_RECORD_SIZE;
         struct frame *f = &lane->frames[i];
-        f->id = record[0] | (uint32_t)record[1] << 8 | (uint32_t)record[2] << 16 | (uint32_t)record[3] << 24;
-        f->length = record[4];
-        memcpy(f->data, record + 5, sizeof f->data);
+        f->id = tecelume_record_id(record);
+        f->length = tecelume_record_length(record);
+        memcpy(f->data, tecelume_record_data(record), sizeof f->data);
     }
 }
 
@@ -405,7 +423,7 @@ static void lend_frame(const struct frame *f)
     fill(receiver.out.bytes, receiver.out.length);
 }
 
-/* Receives a frame in a state that was damaged: it counts for this call only, or from here on. */
+/* Receives the frame in a state that was damaged. Mostly the good one is back after it. */
 static void receive_damaged(void)
 {
     static struct buffer good;
@@ -414,8 +432,11 @@ static void receive_damaged(void)
     if (once_in(4))
         receiver.state.length = below(TECELUME_RECEIVER_SIZE);
     uint64_t word = run(&receiver);
-    if (tecelume_number(word) == TECELUME_STATE_FAULT || once_in(2))
+    if (tecelume_number(word) == TECELUME_STATE_FAULT || !once_in(100)) {
         receiver.state = good;
+        return;
+    }
+    all_subscribed = false;
     none_whole();
 }
 
@@ -435,11 +456,13 @@ static void receive_frame(struct lane *lane)
 {
     struct frame f = disturb(lane);
     lend_frame(&f);
-    if (once_in(20)) {
+    if (once_in(20))
         receive_damaged();
-        return;
-    }
     uint64_t word = run(&receiver);
+    if (word == TECELUME_OUTPUT_TOO_SMALL) { /* the same frame may be given again */
+        receiver.out.length = TECELUME_OUTPUT_SIZE;
+        word = run(&receiver);
+    }
     if (lane->whole && lane->next == lane->count)
         judge_last(lane, word);
     lane->whole &= word == TECELUME_TAKEN;
@@ -458,6 +481,16 @@ static void receive_wild(void)
     run(&receiver);
 }
 
+/* Many transfers at once, whose frames go nowhere: the map fills up. */
+static void crowd_map(void)
+{
+    for (int i = 0; i < 40; i++) {
+        choose_transfer(lanes);
+        sender.type_id = below(sender.kind == 0 ? 65536 : 256);
+        run(&sender);
+    }
+}
+
 static void one_step(void)
 {
     now += once_in(500) ? below(3000000) : below(2000);
@@ -465,6 +498,8 @@ static void one_step(void)
         set_up_receiver();
     if (once_in(300) || sender.state.length < TECELUME_MAP_SIZE)
         set_up_map();
+    if (once_in(1000))
+        crowd_map();
     struct lane *lane = &lanes[below(LANES)];
     if (once_in(20))
         receive_wild();
@@ -511,12 +546,24 @@ static void sweep_all(size_t state_steps)
 
 /* ---- a lie, and the command line ---- */
 
-/* Says that a map is as long as it must be, though a byte is missing: setup then writes that byte. Gives 1 if the guards show it. */
+/* Says that a frame has a byte more than the heap block that holds it: the call reads that byte as the tail. */
+static int lie_reading(void)
+{
+    static const uint8_t data[] = {1, 2, 3};
+    set_up_receiver();
+    struct lent frame = lend(ON_HEAP, data, sizeof data, 1);
+    tecelume_receive(receiver.state.bytes, TECELUME_RECEIVER_SIZE, 0x10000005, frame.bytes, sizeof data + 1, 0, receiver.out.bytes,
+                     TECELUME_OUTPUT_SIZE);
+    return 0;
+}
+
+/* Says that a map is as long as it must be, though a byte is missing: setup writes that byte. 1 if the guards show it. */
 static int lie(const char *name)
 {
     static const uint8_t zeros[TECELUME_MAP_SIZE];
-    enum placement placement = strcmp(name, "guard") == 0 ? BETWEEN : strcmp(name, "heap") == 0 ? ON_HEAP : AT_PAGE;
-    struct lent map = lend(placement, zeros, TECELUME_MAP_SIZE - 1, 1);
+    if (strcmp(name, "read") == 0)
+        return lie_reading();
+    struct lent map = lend(strcmp(name, "guard") == 0 ? BETWEEN : strcmp(name, "heap") == 0 ? ON_HEAP : AT_PAGE, zeros, sizeof zeros - 1, 1);
     tecelume_map_setup(map.bytes, TECELUME_MAP_SIZE);
     if (guards_stay(&map))
         return 0;
@@ -542,24 +589,33 @@ static int show(bool all)
     return all && missing;
 }
 
+/* The option's number, NULL if there is no such option. */
+static uint64_t *option(const char *name)
+{
+    return strcmp(name, "--seed") == 0 ? &seed : strcmp(name, "--calls") == 0 ? &most_calls : strcmp(name, "--seconds") == 0 ? &seconds : NULL;
+}
+
 int main(int count, char **words)
 {
-    uint64_t most = UINT64_MAX, seconds = UINT64_MAX;
-    for (int i = 1; i + 1 < count; i += 2) {
-        if (strcmp(words[i], "--lie") == 0)
-            return lie(words[i + 1]);
-        uint64_t n = strtoull(words[i + 1], NULL, 10);
-        *(strcmp(words[i], "--seed") == 0 ? &seed : strcmp(words[i], "--calls") == 0 ? &most : &seconds) = n;
+    signal(SIGSEGV, on_fault);
+    if (count == 3 && strcmp(words[1], "--lie") == 0)
+        return lie(words[2]);
+    for (int i = 1; i < count; i += 2) {
+        uint64_t *number = option(words[i]);
+        if (number == NULL || i + 1 == count) {
+            fprintf(stderr, "usage: fuzz [--seed N] [--calls N] [--seconds N] | fuzz --lie guard|heap|page|read\n");
+            return 2;
+        }
+        *number = strtoull(words[i + 1], NULL, 10);
     }
-    if (most == UINT64_MAX && seconds == UINT64_MAX)
-        seconds = 5;
-    bool whole = most == UINT64_MAX;
+    bool whole = most_calls == UINT64_MAX;
     random_state = seed;
     if (tecelume_receiver_size() != TECELUME_RECEIVER_SIZE || tecelume_map_size() != TECELUME_MAP_SIZE)
         fail(&receiver, "header and archive do not go together");
     sweep_all(whole ? TECELUME_RECEIVER_SIZE + STATE_EXTRA : 100);
+    uint64_t swept = calls;
     time_t from = time(NULL);
-    while (calls < most && (uint64_t)(time(NULL) - from) < seconds)
+    while (calls - swept < most_calls && (uint64_t)(time(NULL) - from) < seconds)
         one_step();
     printf("seed %" PRIu64 ": %" PRIu64 " calls, each made twice; %" PRIu64 " transfers went through\n", seed, calls, through);
     return show(whole);

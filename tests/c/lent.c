@@ -26,29 +26,39 @@ static void lend_between(struct lent *l, unsigned choice)
     size_t front = GUARD + choice % 16;
     l->block_size = front + l->length + GUARD;
     l->block = (uint8_t *)checked(malloc(l->block_size));
-    for (size_t i = 0; i < l->block_size; i++)
-        l->block[i] = guard_byte(i);
     l->bytes = l->block + front;
+    for (size_t i = 0; i < front; i++)
+        l->block[i] = guard_byte(i);
+    for (size_t i = front + l->length; i < l->block_size; i++)
+        l->block[i] = guard_byte(i);
 }
 
 static void lend_on_heap(struct lent *l)
 {
-    l->block_size = l->length;
     l->block = (uint8_t *)malloc(l->length);
     if (l->length > 0)
         checked(l->block);
     l->bytes = l->block;
 }
 
-/* Pages between two that no one may touch; the buffer ends at the one behind or begins at the one in front. */
+/* Areas of LENT_MAX bytes between two pages that no one may touch. Those given back are used again. */
+static uint8_t *areas[8];
+static size_t area_count;
+
+static uint8_t *get_area(void)
+{
+    if (area_count > 0)
+        return areas[--area_count];
+    uint8_t *pages = (uint8_t *)checked(mmap(NULL, LENT_MAX + 2 * PAGE, PROT_NONE, MAP_PRIVATE | MAP_ANONYMOUS, -1, 0));
+    if (mprotect(pages + PAGE, LENT_MAX, PROT_READ | PROT_WRITE) != 0)
+        checked(NULL);
+    return pages + PAGE;
+}
+
 static void lend_at_page(struct lent *l, unsigned choice)
 {
-    size_t pages = (l->length + PAGE - 1) / PAGE * PAGE;
-    l->block_size = pages + 2 * PAGE;
-    l->block = (uint8_t *)checked(mmap(NULL, l->block_size, PROT_NONE, MAP_PRIVATE | MAP_ANONYMOUS, -1, 0));
-    if (pages > 0 && mprotect(l->block + PAGE, pages, PROT_READ | PROT_WRITE) != 0)
-        checked(NULL);
-    l->bytes = choice % 4 == 0 ? l->block + PAGE : l->block + PAGE + pages - l->length;
+    l->block = get_area();
+    l->bytes = choice % 4 == 0 ? l->block : l->block + LENT_MAX - l->length;
 }
 
 struct lent lend(enum placement placement, const uint8_t *content, size_t length, unsigned choice)
@@ -71,11 +81,13 @@ bool guards_stay(const struct lent *l)
 {
     if (l->placement != BETWEEN || l->block == NULL)
         return true;
-    size_t from = (size_t)(l->bytes - l->block);
-    for (size_t i = 0; i < l->block_size; i++)
-        if ((i < from || i >= from + l->length) && l->block[i] != guard_byte(i))
-            return false;
-    return true;
+    bool stay = true;
+    size_t front = (size_t)(l->bytes - l->block);
+    for (size_t i = 0; i < front; i++)
+        stay &= l->block[i] == guard_byte(i);
+    for (size_t i = front + l->length; i < l->block_size; i++)
+        stay &= l->block[i] == guard_byte(i);
+    return stay;
 }
 
 void take_back(struct lent *l, uint8_t *content)
@@ -83,7 +95,7 @@ void take_back(struct lent *l, uint8_t *content)
     if (l->length > 0)
         memcpy(content, l->bytes, l->length);
     if (l->placement == AT_PAGE && l->block != NULL)
-        munmap(l->block, l->block_size);
+        areas[area_count++] = l->block;
     else
         free(l->block);
     l->block = NULL;

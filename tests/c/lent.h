@@ -11,7 +11,7 @@
 #include <stddef.h>
 #include <stdint.h>
 
-enum { LENT_MAX = 20480 };
+enum { LENT_MAX = 5 * 4096 };
 
 enum placement { BETWEEN, ON_HEAP, AT_PAGE, PLACEMENTS };
 
@@ -19,8 +19,8 @@ struct lent {
     uint8_t *bytes; /* NULL perhaps for a length of 0 */
     size_t length;
     enum placement placement;
-    uint8_t *block; /* all of BETWEEN or ON_HEAP, the first page of AT_PAGE */
-    size_t block_size;
+    uint8_t *block; /* what the buffer lies in */
+    size_t block_size; /* of BETWEEN */
 };
 
 /* Lends a copy of the content. The choice decides alignment, edge and NULL. */
