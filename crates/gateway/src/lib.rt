@@ -1,7 +1,7 @@
 // The C interface: extern "C" entry points around the proved calls. include/tecelume.h documents them.
 mod word;
 
-use sender::Outgoing;
+use transport::Outgoing;
 ghost use mathlib.Core.Path.{_≡_};
 ghost use Rattle.gateway.specs.Entry.{numbered, numberedMap, entry, packed, packedSend};
 ghost use Rattle.map.specs.Layout as layout;
@@ -10,6 +10,7 @@ ghost use Rattle.receiver.specs.Receive.{frameOf, received};
 ghost use Rattle.sender.specs.Send.{sends};
 ghost use Rattle.setup.specs.Setup.{setUp};
 ghost use Rattle.state.specs.Layout.{size};
+ghost use Rattle.types.specs.Types.{signatureOf};
 
 // The bytes of a receiver's state.
 #[no_mangle]
@@ -24,7 +25,7 @@ pub extern "C" fn tecelume_receiver_size() -> u64
 pub extern "C" fn tecelume_setup(state: &mut [u8], own: u32, subscriptions: &[u8]) -> u32
     ensures { λ r. ⌜ record { number = r; state = now (state .exit) } ≡ numbered (setUp (now (state .entry)) own (now (subscriptions .entry))) ⌝ }
 {
-    word::of_outcome(setup::setup(state, own, subscriptions))
+    word::of_outcome(transport::setup(state, own, subscriptions))
 }
 
 // One frame on a lent state: the result word.
@@ -38,7 +39,7 @@ pub extern "C" fn tecelume_receive(
 ) -> u64
     ensures { λ r. ⌜ entry r (now (state .exit)) (now (out .exit)) ≡ packed (received (now (state .entry)) (frameOf id (now (frame .entry)) time) (now (out .entry))) ⌝ }
 {
-    word::of_answer(receiver::receive(state, id, frame, time, out))
+    word::of_answer(transport::receive(state, id, frame, time, out))
 }
 
 // The bytes of a transfer-ID map.
@@ -46,7 +47,7 @@ pub extern "C" fn tecelume_receive(
 pub extern "C" fn tecelume_map_size() -> u64
     ensures { λ r. ⌜ r ≡ layout.size ⌝ }
 {
-    map::size() as u64
+    transport::map_size() as u64
 }
 
 // Makes a lent map one without an entry: 0 or 20.
@@ -54,7 +55,7 @@ pub extern "C" fn tecelume_map_size() -> u64
 pub extern "C" fn tecelume_map_setup(map: &mut [u8]) -> u32
     ensures { λ r. ⌜ record { number = r; state = now (map .exit) } ≡ numberedMap (setting.setUp (now (map .entry))) ⌝ }
 {
-    word::of_map_outcome(map::set_up(map))
+    word::of_map_outcome(transport::map_setup(map))
 }
 
 // A payload as records of frames, on a lent map: the number and, from bit 8 on, how many frames.
@@ -86,5 +87,13 @@ pub extern "C" fn tecelume_send(
         transfer_id,
         discriminator,
     };
-    word::of_sent(sender::send(map, c, payload, out))
+    word::of_sent(transport::send(map, c, payload, out))
+}
+
+// The signature of a standard type, of kind 0 (message) or 1 (service); 0 of any other.
+#[no_mangle]
+pub extern "C" fn tecelume_signature(kind: u32, type_id: u32) -> u64
+    ensures { λ r. ⌜ r ≡ signatureOf kind «type_id» ⌝ }
+{
+    types::signature(kind, type_id)
 }

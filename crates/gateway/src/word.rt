@@ -1,8 +1,8 @@
 // Answers as numbers.
-use sender::Sent;
-use session::Answer;
-use session::Transfer;
-use setup::Outcome;
+use transport::Answer;
+use transport::Outcome;
+use transport::Sent;
+use transport::Transfer;
 ghost use mathlib.Core.Path.{_≡_};
 ghost use Prim.Native.Nat.{_+_, _*_, _^_, _≤_};
 ghost use Rattle.map.specs.SetUp as setting;
