@@ -4,6 +4,11 @@
 #include <string.h>
 #include <time.h>
 
+const struct type types[TYPES] = {
+    {TECELUME_KIND_MESSAGE, 341}, {TECELUME_KIND_MESSAGE, 1}, {TECELUME_KIND_MESSAGE, 16370}, {TECELUME_KIND_MESSAGE, 16383},
+    {TECELUME_KIND_SERVICE, 1},
+};
+
 uint8_t payload_byte(unsigned source, unsigned turn, unsigned i)
 {
     return (uint8_t)(source * 89 + turn * 57 + i * 7 + i / 3);
@@ -38,7 +43,7 @@ static size_t carried(uint64_t signature, unsigned source, unsigned turn, unsign
 size_t make_transfer(const struct type *type, unsigned source, unsigned turn, unsigned length, struct frame *f)
 {
     uint8_t bytes[2 + TECELUME_PAYLOAD_MAX];
-    size_t total = carried(type->signature, source, turn, length, bytes), at = 0, n = 0;
+    size_t total = carried(tecelume_signature(type->kind, type->type_id), source, turn, length, bytes), at = 0, n = 0;
     for (; at < total; n++) {
         size_t part = total - at < 7 ? total - at : 7;
         bool start = at == 0, end = at + part == total;

@@ -10,19 +10,11 @@
 
 struct type {
     uint32_t kind, type_id;
-    uint64_t signature;
 };
 
-/* In the header, so that the compiler sees it where a baseline looks a type up. */
-static const struct type types[] = {
-    {TECELUME_KIND_MESSAGE, 341, 0x0F0868D0C1A7C6F1},   /* NodeStatus */
-    {TECELUME_KIND_MESSAGE, 1, 0x0B2A812620A11D40},     /* Allocation */
-    {TECELUME_KIND_MESSAGE, 16370, 0xE02F25D6E0C98AE0}, /* KeyValue */
-    {TECELUME_KIND_MESSAGE, 16383, 0xD654A48E0C049D75}, /* LogMessage */
-    {TECELUME_KIND_SERVICE, 1, 0xEE468A8121C46A9E},     /* GetNodeInfo */
-};
+enum { NODE_STATUS, ALLOCATION, KEY_VALUE, LOG_MESSAGE, GET_NODE_INFO, TYPES };
 
-enum { TYPES = sizeof types / sizeof types[0], NODE_STATUS = 0, LOG_MESSAGE = 3 };
+extern const struct type types[TYPES];
 
 enum { FRAME_PRIORITY = 16 }; /* of every frame here */
 

@@ -63,7 +63,7 @@ static bool tecelume_begin(void)
 {
     uint8_t list[TYPES * TECELUME_SUBSCRIPTION_SIZE], *next = list;
     for (int i = 0; i < TYPES; i++)
-        next = tecelume_subscription(next, types[i].kind, types[i].type_id, types[i].signature);
+        next = tecelume_subscription(next, types[i].kind, types[i].type_id, tecelume_signature(types[i].kind, types[i].type_id));
     return tecelume_setup(state, sizeof state, OWN, list, sizeof list) == TECELUME_SUCCESS;
 }
 
@@ -79,14 +79,8 @@ static int baseline_length;
 
 static bool is_wanted(enum baseline_kind kind, uint16_t type_id, uint64_t *signature)
 {
-    uint32_t service = kind == BASELINE_MESSAGE ? TECELUME_KIND_MESSAGE : TECELUME_KIND_SERVICE;
-    for (int i = 0; i < TYPES; i++) {
-        if (types[i].kind == service && types[i].type_id == type_id) {
-            *signature = types[i].signature;
-            return true;
-        }
-    }
-    return false;
+    *signature = tecelume_signature(kind == BASELINE_MESSAGE ? TECELUME_KIND_MESSAGE : TECELUME_KIND_SERVICE, type_id);
+    return *signature != 0;
 }
 
 static void keep(const struct baseline *r, const struct baseline_transfer *transfer)

@@ -179,7 +179,8 @@ static void judge(const struct call *c, const struct call *after, uint64_t word)
         fail(c, "a state that is too short was accepted");
     if (written(c, word) > c->out.length)
         fail(c, "more was written than was lent");
-    if (c->entry == RECEIVE && detailed && (c->out.length < TECELUME_OUTPUT_SIZE || tecelume_length(word) > 512 || word >> 60 != 0))
+    if (c->entry == RECEIVE && detailed &&
+        (c->out.length < TECELUME_OUTPUT_SIZE || tecelume_length(word) > TECELUME_PAYLOAD_MAX || word >> 60 != 0))
         fail(c, "a transfer that cannot be");
     if (c->entry == SEND && detailed && word != (uint64_t)frames_of(c->input.length) << 8)
         fail(c, "a number of frames that cannot be");
@@ -233,7 +234,7 @@ static size_t state_length(size_t size)
     return once_in(8) ? below((uint32_t)size) : once_in(8) ? size + below(STATE_EXTRA) : size;
 }
 
-/* Damages the numbers in front of a receiver's gathered bytes, or anything. */
+/* Damages the numbers in front of a receiver's gathered bytes, or anything; of other buffers anything. */
 static void damage(struct buffer *b)
 {
     uint32_t front = once_in(4) ? (uint32_t)b->length : 1288;
@@ -305,6 +306,17 @@ static void set_up_map(void)
     run(&sender);
 }
 
+/* Until both are set up, as other calls of it are refused. */
+static void set_up_well(void)
+{
+    do
+        set_up_receiver();
+    while (!all_subscribed || receiver.state.length < TECELUME_RECEIVER_SIZE);
+    do
+        set_up_map();
+    while (sender.state.length < TECELUME_MAP_SIZE);
+}
+
 static size_t payload_length(void)
 {
     switch (below(4)) {
@@ -350,7 +362,7 @@ static void put_on_lane(struct lane *lane, size_t count)
     }
 }
 
-/* Sends on an empty lane; on a map at fault now and then. */
+/* Sends on an empty lane, now and then with a map that was damaged. */
 static void send_transfer(struct lane *lane)
 {
     static struct buffer good;
@@ -440,7 +452,7 @@ static void receive_damaged(void)
     none_whole();
 }
 
-/* The last frame of a transfer of which all others were taken: it may come too late, but then hands out what was sent. */
+/* The last frame of a transfer of which all others were taken: it may be refused or come too late, else it hands out what was sent. */
 static void judge_last(const struct lane *lane, uint64_t word)
 {
     uint32_t number = tecelume_number(word);
@@ -513,35 +525,42 @@ static void one_step(void)
 
 /* ---- every length ---- */
 
-/* Makes the call with the first 0, 1, 2 ... bytes of one of its buffers, each time from the same content. */
-static void sweep(const struct call *c, const struct buffer *swept, size_t to)
+/* Makes the call with 0, 1, 2 ... bytes in one of its buffers, each time from the same content. */
+static void sweep(struct call *c, size_t *length, size_t to)
 {
-    static struct call one;
-    size_t at = (size_t)((const char *)swept - (const char *)c);
-    for (size_t length = 0; length <= to; length++) {
-        one = *c;
-        ((struct buffer *)((char *)&one + at))->length = length;
-        run(&one);
+    static struct call kept;
+    kept = *c;
+    for (size_t n = 0; n <= to; n++) {
+        *length = n;
+        run(c);
+        *c = kept;
     }
 }
 
-static void sweep_all(size_t state_steps)
+static void sweep_reception(size_t state_steps)
 {
     static const struct frame single = {0x10000005, 8, {1, 2, 3, 4, 5, 6, 7, 0xC0}};
-    set_up_receiver();
-    sweep(&receiver, &receiver.input, INPUT_MAX);
+    set_up_well();
+    sweep(&receiver, &receiver.input.length, INPUT_MAX);
     lend_frame(&single);
-    sweep(&receiver, &receiver.input, FRAME_LENGTH_MAX);
-    sweep(&receiver, &receiver.out, OUT_MAX);
-    sweep(&receiver, &receiver.state, state_steps);
-    set_up_map();
-    sweep(&sender, &sender.state, TECELUME_MAP_SIZE + STATE_EXTRA);
+    receiver.out.length = TECELUME_OUTPUT_SIZE;
+    sweep(&receiver, &receiver.input.length, FRAME_LENGTH_MAX);
+    sweep(&receiver, &receiver.out.length, OUT_MAX);
+    sweep(&receiver, &receiver.state.length, state_steps);
+}
+
+static void sweep_sending(void)
+{
+    sweep(&sender, &sender.state.length, TECELUME_MAP_SIZE + STATE_EXTRA);
     choose_transfer(lanes);
-    sender.input.length = 512;
-    sweep(&sender, &sender.out, OUT_MAX);
+    sender.own = 1;
+    sender.kind = TECELUME_MESSAGE;
+    sender.type_id = sender.destination = sender.priority = 0;
+    sender.input.length = TECELUME_PAYLOAD_MAX;
+    sweep(&sender, &sender.out.length, OUT_MAX);
     sender.out.length = OUT_MAX;
-    sweep(&sender, &sender.input, PAYLOAD_MAX);
-    sweep(&sender, &sender.state, TECELUME_MAP_SIZE + STATE_EXTRA);
+    sweep(&sender, &sender.input.length, PAYLOAD_MAX);
+    sweep(&sender, &sender.state.length, TECELUME_MAP_SIZE + STATE_EXTRA);
 }
 
 /* ---- a lie, and the command line ---- */
@@ -550,7 +569,7 @@ static void sweep_all(size_t state_steps)
 static int lie_reading(void)
 {
     static const uint8_t data[] = {1, 2, 3};
-    set_up_receiver();
+    set_up_well();
     struct lent frame = lend(ON_HEAP, data, sizeof data, 1);
     tecelume_receive(receiver.state.bytes, TECELUME_RECEIVER_SIZE, 0x10000005, frame.bytes, sizeof data + 1, 0, receiver.out.bytes,
                      TECELUME_OUTPUT_SIZE);
@@ -563,7 +582,8 @@ static int lie(const char *name)
     static const uint8_t zeros[TECELUME_MAP_SIZE];
     if (strcmp(name, "read") == 0)
         return lie_reading();
-    struct lent map = lend(strcmp(name, "guard") == 0 ? BETWEEN : strcmp(name, "heap") == 0 ? ON_HEAP : AT_PAGE, zeros, sizeof zeros - 1, 1);
+    enum placement placement = strcmp(name, "guard") == 0 ? BETWEEN : strcmp(name, "heap") == 0 ? ON_HEAP : AT_PAGE;
+    struct lent map = lend(placement, zeros, sizeof zeros - 1, 1);
     tecelume_map_setup(map.bytes, TECELUME_MAP_SIZE);
     if (guards_stay(&map))
         return 0;
@@ -592,7 +612,11 @@ static int show(bool all)
 /* The option's number, NULL if there is no such option. */
 static uint64_t *option(const char *name)
 {
-    return strcmp(name, "--seed") == 0 ? &seed : strcmp(name, "--calls") == 0 ? &most_calls : strcmp(name, "--seconds") == 0 ? &seconds : NULL;
+    if (strcmp(name, "--seed") == 0)
+        return &seed;
+    if (strcmp(name, "--calls") == 0)
+        return &most_calls;
+    return strcmp(name, "--seconds") == 0 ? &seconds : NULL;
 }
 
 int main(int count, char **words)
@@ -612,7 +636,8 @@ int main(int count, char **words)
     random_state = seed;
     if (tecelume_receiver_size() != TECELUME_RECEIVER_SIZE || tecelume_map_size() != TECELUME_MAP_SIZE)
         fail(&receiver, "header and archive do not go together");
-    sweep_all(whole ? TECELUME_RECEIVER_SIZE + STATE_EXTRA : 100);
+    sweep_reception(whole ? TECELUME_RECEIVER_SIZE + STATE_EXTRA : 100);
+    sweep_sending();
     uint64_t swept = calls;
     time_t from = time(NULL);
     while (calls - swept < most_calls && (uint64_t)(time(NULL) - from) < seconds)

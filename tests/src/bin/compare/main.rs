@@ -85,6 +85,9 @@ fn compare(side: &EntryPoints, options: &Options) -> bool {
     }
 }
 
+/// Fewer do not show every case as often as wanted, however little time is given.
+const FEWEST_ROUNDS: u64 = 8;
+
 /// Runs the rounds on all cores, until they are done, the time is over or something differs.
 fn rounds(side: &EntryPoints, options: &Options) -> Result<Vec<Tally>, Difference> {
     let (began, next, stop) = (Instant::now(), AtomicU64::new(0), AtomicBool::new(false));
@@ -92,7 +95,7 @@ fn rounds(side: &EntryPoints, options: &Options) -> Result<Vec<Tally>, Differenc
         let mut tallies = Vec::new();
         loop {
             let round = next.fetch_add(1, Relaxed);
-            let over = round > 0 && began.elapsed().as_secs() >= options.seconds;
+            let over = round >= FEWEST_ROUNDS && began.elapsed().as_secs() >= options.seconds;
             if over || round >= options.rounds || stop.load(Relaxed) {
                 return Ok(tallies);
             }
@@ -106,16 +109,9 @@ fn rounds(side: &EntryPoints, options: &Options) -> Result<Vec<Tally>, Differenc
         let workers: Vec<_> = (0..cores).map(|_| scope.spawn(work)).collect();
         let mut tallies = Vec::new();
         for worker in workers {
-            add(
-                &mut tallies,
-                worker.join().expect("the comparison itself failed")?,
-            );
+            let seen = worker.join().expect("the comparison itself failed")?;
+            add(&mut tallies, seen);
         }
-        println!(
-            "{} rounds from seed {}",
-            next.load(Relaxed).min(options.rounds),
-            options.seed
-        );
         Ok(tallies)
     })
 }

@@ -14,7 +14,7 @@ pub struct Options {
     /// Of the first round; each further one has the next.
     pub seed: u64,
     pub rounds: u64,
-    /// No round begins once so many have passed.
+    /// Few rounds begin once so many have passed.
     pub seconds: u64,
     /// How many calls of each kind a round makes.
     pub setups: u64,
