@@ -563,6 +563,38 @@ static void sweep_sending(void)
     sweep(&sender, &sender.state.length, TECELUME_MAP_SIZE + STATE_EXTRA);
 }
 
+/* ---- memory that nobody wrote before: valgrind sees it if a call decides on such a byte ---- */
+
+static bool goes_through(uint8_t *map, uint8_t *state, uint8_t *records, uint8_t *out)
+{
+    static const uint8_t payload[] = "a payload of several frames";
+    uint8_t list[TECELUME_SUBSCRIPTION_SIZE];
+    uint64_t word = 0;
+    tecelume_subscription(list, TECELUME_KIND_MESSAGE, 1, signature_of(0, 1));
+    if (tecelume_map_setup(map, TECELUME_MAP_SIZE) != 0 || tecelume_setup(state, TECELUME_RECEIVER_SIZE, 1, list, sizeof list) != 0)
+        return false;
+    uint64_t sent = tecelume_send(map, TECELUME_MAP_SIZE, 2, TECELUME_MESSAGE, 1, 0, 0, payload, sizeof payload, signature_of(0, 1), 0, 0,
+                                  0, records, TECELUME_FRAMES_MAX * TECELUME_RECORD_SIZE);
+    for (size_t i = 0; i < tecelume_frames(sent); i++) {
+        const uint8_t *record = records + i * TECELUME_RECORD_SIZE;
+        word = tecelume_receive(state, TECELUME_RECEIVER_SIZE, tecelume_record_id(record), tecelume_record_data(record),
+                                tecelume_record_length(record), 0, out, TECELUME_OUTPUT_SIZE);
+    }
+    return tecelume_length(word) == sizeof payload && memcmp(out, payload, sizeof payload) == 0;
+}
+
+static void use_fresh_memory(void)
+{
+    uint8_t *map = (uint8_t *)malloc(TECELUME_MAP_SIZE), *state = (uint8_t *)malloc(TECELUME_RECEIVER_SIZE);
+    uint8_t *records = (uint8_t *)malloc(TECELUME_FRAMES_MAX * TECELUME_RECORD_SIZE), *out = (uint8_t *)malloc(TECELUME_OUTPUT_SIZE);
+    if (map == NULL || state == NULL || records == NULL || out == NULL || !goes_through(map, state, records, out))
+        fail(&receiver, "on fresh memory nothing goes through");
+    free(map);
+    free(state);
+    free(records);
+    free(out);
+}
+
 /* ---- a lie, and the command line ---- */
 
 /* Says that a frame has a byte more than the heap block that holds it: the call reads that byte as the tail. */
@@ -636,6 +668,7 @@ int main(int count, char **words)
     random_state = seed;
     if (tecelume_receiver_size() != TECELUME_RECEIVER_SIZE || tecelume_map_size() != TECELUME_MAP_SIZE)
         fail(&receiver, "header and archive do not go together");
+    use_fresh_memory();
     sweep_reception(whole ? TECELUME_RECEIVER_SIZE + STATE_EXTRA : 100);
     sweep_sending();
     uint64_t swept = calls;
