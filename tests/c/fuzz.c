@@ -1,6 +1,6 @@
 /* Random calls of every C entry, on buffers that show it when a call leaves them (lent.h).
  *
- *     fuzz [--seed N] [--seconds N] [--calls N]      the same seed gives the same calls
+ *     fuzz [SEED [CALLS]]      the same seed gives the same calls
  *     fuzz --lie guard|heap|page|read
  *
  * Each call is made twice, on equal buffers placed differently, and must give the same word and the same bytes: so nothing but the
@@ -14,21 +14,16 @@
 #include <stdio.h>
 #include <stdlib.h>
 #include <string.h>
-#include <time.h>
 #include <unistd.h>
 
 #include "lent.h"
 #include "tecelume.h"
 
-/* ---- the command line's numbers ---- */
-
-static uint64_t seed = 1;
-static uint64_t most_calls = UINT64_MAX; /* a run of so many calls is short: it sweeps fewer lengths and need not see every answer */
-static uint64_t seconds = 5;
+enum { CALLS = 400000, SHORT = 100000 }; /* fewer calls than that need not show every answer, and sweep fewer lengths */
 
 /* ---- randomness ---- */
 
-static uint64_t random_state;
+static uint64_t seed = 1, random_state;
 
 static uint64_t next_random(void)
 {
@@ -595,7 +590,7 @@ static void use_fresh_memory(void)
     free(out);
 }
 
-/* ---- a lie, and the command line ---- */
+/* ---- a lie, and all the rest ---- */
 
 /* Says that a frame has a byte more than the heap block that holds it: the call reads that byte as the tail. */
 static int lie_reading(void)
@@ -641,40 +636,22 @@ static int show(bool all)
     return all && missing;
 }
 
-/* The option's number, NULL if there is no such option. */
-static uint64_t *option(const char *name)
-{
-    if (strcmp(name, "--seed") == 0)
-        return &seed;
-    if (strcmp(name, "--calls") == 0)
-        return &most_calls;
-    return strcmp(name, "--seconds") == 0 ? &seconds : NULL;
-}
-
 int main(int count, char **words)
 {
     signal(SIGSEGV, on_fault);
     if (count == 3 && strcmp(words[1], "--lie") == 0)
         return lie(words[2]);
-    for (int i = 1; i < count; i += 2) {
-        uint64_t *number = option(words[i]);
-        if (number == NULL || i + 1 == count) {
-            fprintf(stderr, "usage: fuzz [--seed N] [--calls N] [--seconds N] | fuzz --lie guard|heap|page|read\n");
-            return 2;
-        }
-        *number = strtoull(words[i + 1], NULL, 10);
-    }
-    bool whole = most_calls == UINT64_MAX;
+    if (count > 1)
+        seed = strtoull(words[1], NULL, 10);
+    uint64_t most = count > 2 ? strtoull(words[2], NULL, 10) : CALLS;
     random_state = seed;
     if (tecelume_receiver_size() != TECELUME_RECEIVER_SIZE || tecelume_map_size() != TECELUME_MAP_SIZE)
         fail(&receiver, "header and archive do not go together");
     use_fresh_memory();
-    sweep_reception(whole ? TECELUME_RECEIVER_SIZE + STATE_EXTRA : 100);
+    sweep_reception(most < SHORT ? 100 : TECELUME_RECEIVER_SIZE + STATE_EXTRA);
     sweep_sending();
-    uint64_t swept = calls;
-    time_t from = time(NULL);
-    while (calls - swept < most_calls && (uint64_t)(time(NULL) - from) < seconds)
+    for (uint64_t swept = calls; calls - swept < most;)
         one_step();
     printf("seed %" PRIu64 ": %" PRIu64 " calls, each made twice; %" PRIu64 " transfers went through\n", seed, calls, through);
-    return show(whole);
+    return show(most >= SHORT);
 }
