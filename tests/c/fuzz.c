@@ -1,14 +1,14 @@
 /* Random calls of every C entry, on buffers that show it when a call leaves them (lent.h).
  *
  *     fuzz [SEED [CALLS]]      the same seed gives the same calls
- *     fuzz --lie guard|heap|page|read
+ *     fuzz --selftest guard|heap|page|read
  *
  * Each call is made twice, on equal buffers placed differently, and must give the same word and the same bytes: so nothing but the
  * arguments counts. Then the C contract is checked that include/tecelume.h states: const inputs stay, a refusal leaves every buffer as
  * it was and all other bits of the word 0, success writes only where it may, and a payload sent comes out as it went in. What the
  * answers must be otherwise is the business of the comparison with the second implementation.
  *
- * --lie makes one call that says one byte too many of a buffer. Something must notice, or the runs without it show nothing. */
+ * --selftest makes one call that says one byte too many of a buffer. Something must notice, or the runs without it show nothing. */
 #include <inttypes.h>
 #include <signal.h>
 #include <stdio.h>
@@ -639,7 +639,7 @@ static int show(bool all)
 int main(int count, char **words)
 {
     signal(SIGSEGV, on_fault);
-    if (count == 3 && strcmp(words[1], "--lie") == 0)
+    if (count == 3 && strcmp(words[1], "--selftest") == 0)
         return lie(words[2]);
     if (count > 1)
         seed = strtoull(words[1], NULL, 10);
