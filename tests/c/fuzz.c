@@ -4,9 +4,9 @@
  *     fuzz --selftest guard|heap|page|read
  *
  * Each call is made twice, on equal buffers placed differently, and must give the same word and the same bytes: so nothing but the
- * arguments counts. Then the C contract is checked that include/tecelume.h states: const inputs stay, a refusal leaves every buffer as
- * it was and all other bits of the word 0, success writes only where it may, and a payload sent comes out as it went in. What the
- * answers must be otherwise is the business of the comparison with the second implementation.
+ * arguments counts. Then what include/tecelume.h promises is checked (call.c): const inputs stay, a refusal leaves every buffer as it
+ * was and all other bits of the word 0, success writes only where it may. A payload sent comes out as it went in. What the answers
+ * must be otherwise is the business of the comparison with the second implementation.
  *
  * --selftest makes one call that says one byte too many of a buffer. Something must notice, or the runs without it show nothing. */
 #include <inttypes.h>
@@ -16,190 +16,13 @@
 #include <string.h>
 #include <unistd.h>
 
-#include "lent.h"
-#include "tecelume.h"
+#include "call.h"
 
 enum { CALLS = 400000, SHORT = 100000 }; /* fewer calls than that need not show every answer, and sweep fewer lengths */
+enum { STATE_EXTRA = 40, INPUT_MAX = 1000, OUT_MAX = 1100, FRAME_LENGTH_MAX = 20, PAYLOAD_MAX = 600, SUBSCRIPTIONS = 8 };
 
-/* ---- randomness ---- */
-
-static uint64_t seed = 1, random_state;
-
-static uint64_t next_random(void)
-{
-    uint64_t z = random_state += 0x9E3779B97F4A7C15;
-    z = (z ^ z >> 30) * 0xBF58476D1CE4E5B9;
-    z = (z ^ z >> 27) * 0x94D049BB133111EB;
-    return z ^ z >> 31;
-}
-
-/* 0 to n - 1 */
-static uint32_t below(uint32_t n)
-{
-    return (uint32_t)(next_random() % n);
-}
-
-static bool once_in(uint32_t n)
-{
-    return below(n) == 0;
-}
-
-static void fill(uint8_t *bytes, size_t n)
-{
-    for (size_t i = 0; i < n; i++)
-        bytes[i] = (uint8_t)next_random();
-}
-
-/* ---- a call ---- */
-
-enum entry { SETUP, RECEIVE, MAP_SETUP, SEND, ENTRIES };
-
-static const char *const entry_names[ENTRIES] = {"setup", "receive", "map setup", "send"};
-
-enum { STATE_EXTRA = 40, INPUT_MAX = 1000, OUT_MAX = 1100, FRAME_LENGTH_MAX = 20, PAYLOAD_MAX = 600 };
-
-struct buffer {
-    uint8_t bytes[LENT_MAX];
-    size_t length;
-};
-
-/* `state` is a receiver's or a map, `input` the subscriptions, the frame or the payload. */
-struct call {
-    enum entry entry;
-    uint32_t own, id, kind, type_id, destination, priority, transfer_id, discriminator;
-    uint64_t signature, time;
-    struct buffer state, input, out;
-};
-
-static uint64_t calls, seen[ENTRIES][256];
+static uint64_t seed = 1;
 static uint64_t through; /* transfers sent, received and compared */
-
-static void fail(const struct call *c, const char *what)
-{
-    printf("seed %" PRIu64 ", call %" PRIu64 ", %s with %zu, %zu and %zu bytes lent: %s\n", seed, calls, entry_names[c->entry],
-           c->state.length, c->input.length, c->out.length, what);
-    exit(1);
-}
-
-/* A fault in the midst of a call. Nothing is left to save, so that what a handler may not do does no harm. */
-static void on_fault(int signal_number)
-{
-    (void)signal_number;
-    printf("seed %" PRIu64 ", call %" PRIu64 ": memory was touched that no one may touch\n", seed, calls);
-    fflush(stdout);
-    _exit(1);
-}
-
-static uint64_t make(const struct call *c, const struct lent *state, const struct lent *input, const struct lent *out)
-{
-    switch (c->entry) {
-    case SETUP:
-        return tecelume_setup(state->bytes, state->length, c->own, input->bytes, input->length);
-    case RECEIVE:
-        return tecelume_receive(state->bytes, state->length, c->id, input->bytes, input->length, c->time, out->bytes, out->length);
-    case MAP_SETUP:
-        return tecelume_map_setup(state->bytes, state->length);
-    default:
-        return tecelume_send(state->bytes, state->length, c->own, c->kind, c->type_id, c->destination, c->priority, input->bytes,
-                             input->length, c->signature, c->time, c->transfer_id, c->discriminator, out->bytes, out->length);
-    }
-}
-
-/* Makes the call on buffers placed at random, and gives its word; the buffers of `after` get what it left. */
-static uint64_t make_placed(const struct call *c, struct call *after)
-{
-    static uint8_t input_after[LENT_MAX];
-    uint64_t choice = next_random();
-    struct lent state = lend((enum placement)(choice % PLACEMENTS), c->state.bytes, c->state.length, choice >> 8 & 255);
-    struct lent input = lend((enum placement)(choice / PLACEMENTS % PLACEMENTS), c->input.bytes, c->input.length, choice >> 16 & 255);
-    struct lent out = lend((enum placement)(choice / (PLACEMENTS * PLACEMENTS) % PLACEMENTS), c->out.bytes, c->out.length,
-                           choice >> 24 & 255);
-    uint64_t word = make(c, &state, &input, &out);
-    if (!guards_stay(&state) || !guards_stay(&input) || !guards_stay(&out))
-        fail(c, "bytes beside a lent buffer were written");
-    take_back(&state, after->state.bytes);
-    take_back(&input, input_after);
-    take_back(&out, after->out.bytes);
-    if (memcmp(input_after, c->input.bytes, c->input.length) != 0)
-        fail(c, "a const input was written");
-    return word;
-}
-
-/* ---- the contract ---- */
-
-static bool stays(const struct buffer *before, const struct buffer *after, size_t from)
-{
-    return from >= before->length || memcmp(before->bytes + from, after->bytes + from, before->length - from) == 0;
-}
-
-static size_t frames_of(size_t payload)
-{
-    return payload > 7 ? (payload + 8) / 7 : 1;
-}
-
-/* How much of the output a call with this word may write. */
-static size_t written(const struct call *c, uint64_t word)
-{
-    if (c->entry == RECEIVE && tecelume_number(word) == TECELUME_HANDED_OUT)
-        return tecelume_length(word);
-    if (c->entry == SEND && tecelume_number(word) == TECELUME_SUCCESS)
-        return tecelume_frames(word) * TECELUME_RECORD_SIZE;
-    return 0;
-}
-
-static bool may_change_state(enum entry entry, uint32_t number)
-{
-    return entry == RECEIVE ? number <= TECELUME_HANDED_OUT || (number >= TECELUME_PASSED_OVER && number <= TECELUME_CHECKSUM_DIFFERS)
-                            : number == TECELUME_SUCCESS;
-}
-
-/* Which numbers an entry answers, as bits. */
-static const uint32_t answers[ENTRIES] = {
-    1u << 0 | 1u << 13 | 1u << 20,
-    0x1FFFu | 1u << 20,
-    1u << 0 | 1u << 20,
-    1u << 0 | 1u << 8 | 1u << 9 | 1u << 11 | 1u << 14 | 1u << 20,
-};
-
-static void judge(const struct call *c, const struct call *after, uint64_t word)
-{
-    uint32_t number = tecelume_number(word);
-    bool detailed = (c->entry == RECEIVE && number == TECELUME_HANDED_OUT) || (c->entry == SEND && number == TECELUME_SUCCESS);
-    size_t size = c->entry == SETUP || c->entry == RECEIVE ? TECELUME_RECEIVER_SIZE : TECELUME_MAP_SIZE;
-    if (number > 31 || (answers[c->entry] >> number & 1) == 0)
-        fail(c, "a number that this call does not answer");
-    if (!detailed && word != number)
-        fail(c, "other bits of the word are not 0");
-    if (c->state.length < size && number != TECELUME_STATE_FAULT)
-        fail(c, "a state that is too short was accepted");
-    if (written(c, word) > c->out.length)
-        fail(c, "more was written than was lent");
-    if (c->entry == RECEIVE && detailed &&
-        (c->out.length < TECELUME_OUTPUT_SIZE || tecelume_length(word) > TECELUME_PAYLOAD_MAX || word >> 60 != 0))
-        fail(c, "a transfer that cannot be");
-    if (c->entry == SEND && detailed && word != (uint64_t)frames_of(c->input.length) << 8)
-        fail(c, "a number of frames that cannot be");
-    if (!stays(&c->state, &after->state, may_change_state(c->entry, number) ? size : 0))
-        fail(c, "bytes of the state that must stay were written");
-    if (!stays(&c->out, &after->out, written(c, word)))
-        fail(c, "bytes of the output that must stay were written");
-    seen[c->entry][number]++;
-}
-
-/* Makes the call twice and checks it; the buffers then hold what it left. */
-static uint64_t run(struct call *c)
-{
-    static struct call once, again;
-    calls++;
-    uint64_t word = make_placed(c, &once);
-    if (make_placed(c, &again) != word || memcmp(once.state.bytes, again.state.bytes, c->state.length) != 0 ||
-        memcmp(once.out.bytes, again.out.bytes, c->out.length) != 0)
-        fail(c, "the same call twice differs");
-    judge(c, &once, word);
-    memcpy(c->state.bytes, once.state.bytes, c->state.length);
-    memcpy(c->out.bytes, once.out.bytes, c->out.length);
-    return word;
-}
 
 /* ---- arguments ---- */
 
@@ -209,8 +32,6 @@ static uint32_t number_to(uint32_t limit)
     uint32_t which = below(40);
     return which > 1 ? below(limit + 1) : which == 1 ? limit + 1 + below(3) : (uint32_t)next_random();
 }
-
-enum { SUBSCRIPTIONS = 8 };
 
 /* Few types, so that traffic meets subscriptions. */
 static uint32_t a_type(void)
@@ -326,13 +147,13 @@ static void choose_transfer(const struct lane *lane)
 {
     sender.entry = SEND;
     sender.own = once_in(8) ? 0 : once_in(40) ? 128 + below(300) : a_source(lane);
-    sender.kind = number_to(2);
+    sender.transfer_type = number_to(2);
     sender.type_id = a_type() % (sender.own == 0 ? 5 : 70000);
-    sender.destination = sender.kind == 0 ? (once_in(20) ? below(300) : 0) : once_in(4) ? number_to(127) : receiver.own;
+    sender.destination = sender.transfer_type == 0 ? (once_in(20) ? below(300) : 0) : once_in(4) ? number_to(127) : receiver.own;
     sender.priority = number_to(31);
     sender.transfer_id = number_to(31);
     sender.discriminator = number_to(16383);
-    sender.signature = signature_of(sender.kind > 0, sender.type_id);
+    sender.signature = signature_of(sender.transfer_type > 0, sender.type_id);
     sender.time = now;
     sender.input.length = sender.own == 0 ? below(9) : payload_length();
     fill(sender.input.bytes, sender.input.length);
@@ -493,7 +314,7 @@ static void crowd_map(void)
 {
     for (int i = 0; i < 40; i++) {
         choose_transfer(lanes);
-        sender.type_id = below(sender.kind == 0 ? 65536 : 256);
+        sender.type_id = below(sender.transfer_type == 0 ? 65536 : 256);
         run(&sender);
     }
 }
@@ -549,7 +370,7 @@ static void sweep_sending(void)
     sweep(&sender, &sender.state.length, TECELUME_MAP_SIZE + STATE_EXTRA);
     choose_transfer(lanes);
     sender.own = 1;
-    sender.kind = TECELUME_MESSAGE;
+    sender.transfer_type = TECELUME_MESSAGE;
     sender.type_id = sender.destination = sender.priority = 0;
     sender.input.length = TECELUME_PAYLOAD_MAX;
     sweep(&sender, &sender.out.length, OUT_MAX);
@@ -592,6 +413,15 @@ static void use_fresh_memory(void)
 
 /* ---- a lie, and all the rest ---- */
 
+/* A fault in the midst of a call. Nothing is left to save, so that what a handler may not do does no harm. */
+static void on_fault(int signal_number)
+{
+    (void)signal_number;
+    printf("seed %" PRIu64 ", call %" PRIu64 ": memory was touched that no one may touch\n", seed, calls_made());
+    fflush(stdout);
+    _exit(1);
+}
+
 /* Says that a frame has a byte more than the heap block that holds it: the call reads that byte as the tail. */
 static int lie_reading(void)
 {
@@ -618,24 +448,6 @@ static int lie(const char *name)
     return 1;
 }
 
-static int show(bool all)
-{
-    int missing = 0;
-    for (int e = 0; e < ENTRIES; e++) {
-        printf("%-10s", entry_names[e]);
-        for (int n = 0; n < 32; n++) {
-            if (answers[e] >> n & 1) {
-                printf(" %d: %" PRIu64, n, seen[e][n]);
-                missing |= seen[e][n] == 0;
-            }
-        }
-        printf("\n");
-    }
-    if (all && missing)
-        printf("an answer was never seen\n");
-    return all && missing;
-}
-
 int main(int count, char **words)
 {
     signal(SIGSEGV, on_fault);
@@ -644,14 +456,17 @@ int main(int count, char **words)
     if (count > 1)
         seed = strtoull(words[1], NULL, 10);
     uint64_t most = count > 2 ? strtoull(words[2], NULL, 10) : CALLS;
-    random_state = seed;
+    random_start(seed);
     if (tecelume_receiver_size() != TECELUME_RECEIVER_SIZE || tecelume_map_size() != TECELUME_MAP_SIZE)
         fail(&receiver, "header and archive do not go together");
     use_fresh_memory();
     sweep_reception(most < SHORT ? 100 : TECELUME_RECEIVER_SIZE + STATE_EXTRA);
     sweep_sending();
-    for (uint64_t swept = calls; calls - swept < most;)
+    for (uint64_t swept = calls_made(); calls_made() - swept < most;)
         one_step();
-    printf("seed %" PRIu64 ": %" PRIu64 " calls, each made twice; %" PRIu64 " transfers went through\n", seed, calls, through);
-    return show(most >= SHORT);
+    printf("seed %" PRIu64 ": %" PRIu64 " calls, each made twice; %" PRIu64 " transfers went through\n", seed, calls_made(), through);
+    if (show_answers() || most < SHORT)
+        return 0;
+    printf("an answer was never seen\n");
+    return 1;
 }
