@@ -1,0 +1,53 @@
+// KeyValue (message 16370; 01, Messages).
+use bits::field;
+use shape::answer::Place;
+use shape::answer::Written;
+
+// The value is the 32 bits of a float.
+pub struct KeyValue {
+    pub value: u64,
+    pub key: Place,
+}
+
+pub enum Read {
+    Refused(u32),
+    Got(KeyValue),
+}
+
+// The key, as a part of the payload: all behind the value.
+pub fn key(payload: &[u8]) -> &[u8] {
+    if payload.len() < 4 {
+        return &payload[0..0];
+    }
+    &payload[4..]
+}
+
+pub fn decode(payload: &[u8]) -> Read {
+    if payload.len() < 4 {
+        return Read::Refused(15);
+    }
+    let len = key(payload).len();
+    if 58 < len {
+        return Read::Refused(16);
+    }
+    Read::Got(KeyValue {
+        value: field::read(payload, 0, 32),
+        key: Place { at: 4, len },
+    })
+}
+
+pub fn encode(value: u64, key: &[u8], out: &mut [u8]) -> Written {
+    if 4294967295 < value {
+        return Written::Refused(17);
+    }
+    if 58 < key.len() {
+        return Written::Refused(17);
+    }
+    let n = 4 + key.len();
+    if out.len() < n {
+        return Written::Refused(8);
+    }
+    field::write(out, 0, 32, value);
+    field::write_bytes(out, 4, key);
+    Written::Wrote(n)
+}

@@ -1,0 +1,86 @@
+// LogMessage (message 16383; 01, Messages).
+use bits::field;
+use bits::width;
+use shape::answer::Place;
+use shape::answer::Written;
+
+pub struct LogMessage {
+    pub level: u64,
+    pub source: Place,
+    pub text: Place,
+}
+
+pub enum Read {
+    Refused(u32),
+    Got(LogMessage),
+}
+
+// What the source's length field says; of an empty payload 0.
+fn source_length(payload: &[u8]) -> usize {
+    if payload.len() < 1 {
+        return 0;
+    }
+    field::read(payload, 3, width::width(31) as usize) as usize
+}
+
+// The source, as a part of the payload: behind the first byte, as long as its length field says.
+pub fn source(payload: &[u8]) -> &[u8] {
+    let end = 1 + source_length(payload);
+    if payload.len() < 1 {
+        return &payload[0..0];
+    }
+    if payload.len() < end {
+        return &payload[1..];
+    }
+    &payload[1..end]
+}
+
+// The text, as a part of the payload: all behind the source.
+pub fn text(payload: &[u8]) -> &[u8] {
+    let at = 1 + source_length(payload);
+    if payload.len() < at {
+        return &payload[0..0];
+    }
+    &payload[at..]
+}
+
+pub fn decode(payload: &[u8]) -> Read {
+    let at = 1 + source_length(payload);
+    if payload.len() < at {
+        return Read::Refused(15);
+    }
+    let len = text(payload).len();
+    if 90 < len {
+        return Read::Refused(16);
+    }
+    Read::Got(LogMessage {
+        level: field::read(payload, 0, 3),
+        source: Place {
+            at: 1,
+            len: source(payload).len(),
+        },
+        text: Place { at, len },
+    })
+}
+
+pub fn encode(level: u64, source: &[u8], text: &[u8], out: &mut [u8]) -> Written {
+    if 7 < level {
+        return Written::Refused(17);
+    }
+    if 31 < source.len() {
+        return Written::Refused(17);
+    }
+    if 90 < text.len() {
+        return Written::Refused(17);
+    }
+    let at = 1 + source.len();
+    let n = at + text.len();
+    if out.len() < n {
+        return Written::Refused(8);
+    }
+    field::write(out, 0, 3, level);
+    field::write(out, 3, width::width(31) as usize, source.len() as u64);
+    field::write_bytes(out, 1, source);
+    field::write_bytes(out, at, text);
+    Written::Wrote(n)
+}

@@ -1,0 +1,4 @@
+// GetNodeInfo (service 1; 01, Messages): the empty request, and the response.
+pub mod name;
+pub mod request;
+pub mod response;
