@@ -1,0 +1,4 @@
+mod Fields
+mod There
+mod Back
+pub mod RoundTrip

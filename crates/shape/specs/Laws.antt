@@ -1,0 +1,38 @@
+-- The return trip, over every description. `laws.rt` has a function for each law, whose contract it is.
+use mathlib.Core.Path.{_≡_}
+use mathlib.Core.Bool.{true}
+use mathlib.Core.List.{List}
+use Prim.Native.Nat.{ℕ, _≤_}
+use Rattle.bits.specs.Order.{Octets}
+use Rattle.shape.specs.Answer.{got}
+use Rattle.shape.specs.Shape.{Shape, end, num, void, items, list, tail, Values, decoded, message, fits, cleared}
+
+-- items of a list without a length field have 8 bits or more (004)
+abbrev pub Sound : Shape → Type 0
+Sound end = Unit {0}
+Sound (num w d) = Sound d
+Sound (void w d) = Sound d
+Sound (items w k d) = Sound d
+Sound (list w m d) = Sound d
+Sound (tail w m ok) = 8 ≤ w
+
+-- nothing in it is ignored
+abbrev pub Whole : Shape → Type 0
+Whole end = Unit {0}
+Whole (num w d) = Whole d
+Whole (void w d) = ⊥
+Whole (items w k d) = Whole d
+Whole (list w m d) = Whole d
+Whole (tail w m ok) = Unit {0}
+
+-- what was written is read: every field comes back
+abbrev pub There : Type 0
+There = (d : Shape) → Sound d → (v : Values d) → fits d v ≡ true → decoded d (message d v) ≡ got v
+
+-- what was read fits, and is written as it came, the ignored bits zero
+abbrev pub Back : Type 0
+Back = (d : Shape) (p : List ℕ) (v : Values d) → decoded d p ≡ got v → (fits d v ≡ true) × (message d v ≡ cleared d p)
+
+-- where nothing is ignored, that is the payload itself
+abbrev pub Same : Type 0
+Same = (d : Shape) → Whole d → (p : List ℕ) → Octets p → cleared d p ≡ p
