@@ -2,6 +2,10 @@
 use bits::field;
 use shape::answer::Place;
 use shape::answer::Written;
+ghost use mathlib.Core.Path.{_≡_};
+ghost use Rattle.shape.specs.Answer as answer;
+ghost use Rattle.shape.specs.Shape.{written};
+ghost use Rattle.messages.specs.Allocation.{allocation, uniqueIdIn, allocationIn, answerOf};
 
 pub struct Allocation {
     pub node_id: u64,
@@ -15,14 +19,18 @@ pub enum Read {
 }
 
 // The unique ID, as a part of the payload: all behind the first byte.
-pub fn unique_id(payload: &[u8]) -> &[u8] {
+pub fn unique_id(payload: &[u8]) -> &[u8]
+    ensures { λ r. ⌜ now r ≡ uniqueIdIn (now (payload .entry)) ⌝ }
+{
     if payload.len() < 1 {
         return &payload[0..0];
     }
     &payload[1..]
 }
 
-pub fn decode(payload: &[u8]) -> Read {
+pub fn decode(payload: &[u8]) -> Read
+    ensures { λ r. ⌜ answerOf r ≡ allocationIn (now (payload .entry)) ⌝ }
+{
     if payload.len() < 1 {
         return Read::Refused(15);
     }
@@ -37,7 +45,9 @@ pub fn decode(payload: &[u8]) -> Read {
     })
 }
 
-pub fn encode(node_id: u64, first_part: u64, unique_id: &[u8], out: &mut [u8]) -> Written {
+pub fn encode(node_id: u64, first_part: u64, unique_id: &[u8], out: &mut [u8]) -> Written
+    ensures { λ r. ⌜ (answer.answerOf r, now (out .exit)) ≡ written allocation (node_id, (first_part, now (unique_id .entry))) (now (out .entry)) ⌝ }
+{
     if 127 < node_id {
         return Written::Refused(17);
     }

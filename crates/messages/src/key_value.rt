@@ -2,6 +2,10 @@
 use bits::field;
 use shape::answer::Place;
 use shape::answer::Written;
+ghost use mathlib.Core.Path.{_≡_};
+ghost use Rattle.shape.specs.Answer as answer;
+ghost use Rattle.shape.specs.Shape.{written};
+ghost use Rattle.messages.specs.KeyValue.{keyValue, keyIn, keyValueIn, answerOf};
 
 // The value is the 32 bits of a float.
 pub struct KeyValue {
@@ -15,14 +19,18 @@ pub enum Read {
 }
 
 // The key, as a part of the payload: all behind the value.
-pub fn key(payload: &[u8]) -> &[u8] {
+pub fn key(payload: &[u8]) -> &[u8]
+    ensures { λ r. ⌜ now r ≡ keyIn (now (payload .entry)) ⌝ }
+{
     if payload.len() < 4 {
         return &payload[0..0];
     }
     &payload[4..]
 }
 
-pub fn decode(payload: &[u8]) -> Read {
+pub fn decode(payload: &[u8]) -> Read
+    ensures { λ r. ⌜ answerOf r ≡ keyValueIn (now (payload .entry)) ⌝ }
+{
     if payload.len() < 4 {
         return Read::Refused(15);
     }
@@ -36,7 +44,9 @@ pub fn decode(payload: &[u8]) -> Read {
     })
 }
 
-pub fn encode(value: u64, key: &[u8], out: &mut [u8]) -> Written {
+pub fn encode(value: u64, key: &[u8], out: &mut [u8]) -> Written
+    ensures { λ r. ⌜ (answer.answerOf r, now (out .exit)) ≡ written keyValue (value, now (key .entry)) (now (out .entry)) ⌝ }
+{
     if 4294967295 < value {
         return Written::Refused(17);
     }

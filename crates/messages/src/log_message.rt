@@ -3,6 +3,10 @@ use bits::field;
 use bits::width;
 use shape::answer::Place;
 use shape::answer::Written;
+ghost use mathlib.Core.Path.{_≡_};
+ghost use Rattle.shape.specs.Answer as answer;
+ghost use Rattle.shape.specs.Shape.{written};
+ghost use Rattle.messages.specs.LogMessage.{logMessage, sourceLength, sourceIn, textIn, logMessageIn, answerOf};
 
 pub struct LogMessage {
     pub level: u64,
@@ -16,7 +20,9 @@ pub enum Read {
 }
 
 // What the source's length field says; of an empty payload 0.
-fn source_length(payload: &[u8]) -> usize {
+fn source_length(payload: &[u8]) -> usize
+    ensures { λ r. ⌜ r ≡ sourceLength (now (payload .entry)) ⌝ }
+{
     if payload.len() < 1 {
         return 0;
     }
@@ -24,7 +30,9 @@ fn source_length(payload: &[u8]) -> usize {
 }
 
 // The source, as a part of the payload: behind the first byte, as long as its length field says.
-pub fn source(payload: &[u8]) -> &[u8] {
+pub fn source(payload: &[u8]) -> &[u8]
+    ensures { λ r. ⌜ now r ≡ sourceIn (now (payload .entry)) ⌝ }
+{
     let end = 1 + source_length(payload);
     if payload.len() < 1 {
         return &payload[0..0];
@@ -36,7 +44,9 @@ pub fn source(payload: &[u8]) -> &[u8] {
 }
 
 // The text, as a part of the payload: all behind the source.
-pub fn text(payload: &[u8]) -> &[u8] {
+pub fn text(payload: &[u8]) -> &[u8]
+    ensures { λ r. ⌜ now r ≡ textIn (now (payload .entry)) ⌝ }
+{
     let at = 1 + source_length(payload);
     if payload.len() < at {
         return &payload[0..0];
@@ -44,7 +54,9 @@ pub fn text(payload: &[u8]) -> &[u8] {
     &payload[at..]
 }
 
-pub fn decode(payload: &[u8]) -> Read {
+pub fn decode(payload: &[u8]) -> Read
+    ensures { λ r. ⌜ answerOf r ≡ logMessageIn (now (payload .entry)) ⌝ }
+{
     let at = 1 + source_length(payload);
     if payload.len() < at {
         return Read::Refused(15);
@@ -63,7 +75,9 @@ pub fn decode(payload: &[u8]) -> Read {
     })
 }
 
-pub fn encode(level: u64, source: &[u8], text: &[u8], out: &mut [u8]) -> Written {
+pub fn encode(level: u64, source: &[u8], text: &[u8], out: &mut [u8]) -> Written
+    ensures { λ r. ⌜ (answer.answerOf r, now (out .exit)) ≡ written logMessage (level, (now (source .entry), now (text .entry))) (now (out .entry)) ⌝ }
+{
     if 7 < level {
         return Written::Refused(17);
     }

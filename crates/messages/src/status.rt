@@ -1,6 +1,14 @@
 // NodeStatus (message 341; 01, Messages).
 use bits::field;
 use shape::answer::Written;
+ghost use mathlib.Core.Path.{_≡_};
+ghost use Prim.Native.Nat.{_≤_};
+ghost use lib.ListN.{length};
+ghost use Rattle.bits.specs.Order.{unpack, store};
+ghost use Rattle.shape.specs.Answer as answer;
+ghost use Rattle.shape.specs.Shape as shape;
+ghost use Rattle.shape.specs.Shape.{end, written};
+ghost use Rattle.messages.specs.Status.{nodeStatus, statusValues, statusIn, statusAt, answerOf};
 
 // Sub-mode is read as zero, and any value given is written as zero.
 pub struct NodeStatus {
@@ -17,7 +25,10 @@ pub enum Read {
 }
 
 // Internal. The status in the first seven bytes.
-pub fn read(s: &[u8]) -> NodeStatus {
+pub fn read(s: &[u8]) -> NodeStatus
+    requires { ⌜ 7 ≤ length (now s) ⌝ }
+    ensures { λ r. ⌜ r ≡ statusAt (unpack (now (s .entry))) ⌝ }
+{
     NodeStatus {
         uptime: field::read(s, 0, 32),
         health: field::read(s, 32, 2),
@@ -27,7 +38,9 @@ pub fn read(s: &[u8]) -> NodeStatus {
     }
 }
 
-pub fn decode(payload: &[u8]) -> Read {
+pub fn decode(payload: &[u8]) -> Read
+    ensures { λ r. ⌜ answerOf r ≡ statusIn (now (payload .entry)) ⌝ }
+{
     let n = payload.len();
     if n < 7 {
         return Read::Refused(15);
@@ -39,7 +52,9 @@ pub fn decode(payload: &[u8]) -> Read {
 }
 
 // Internal. Every number fits its field.
-pub fn fits(x: NodeStatus) -> bool {
+pub fn fits(x: NodeStatus) -> bool
+    ensures { λ r. ⌜ r ≡ shape.fits nodeStatus (statusValues x end tt) ⌝ }
+{
     if 4294967295 < x.uptime {
         return false;
     }
@@ -53,7 +68,10 @@ pub fn fits(x: NodeStatus) -> bool {
 }
 
 // Internal. The 56 bits of a status, from the front.
-pub fn write(out: &mut [u8], x: NodeStatus) {
+pub fn write(out: &mut [u8], x: NodeStatus)
+    requires { ⌜ 7 ≤ length (now out) ⌝ }
+    ensures { λ _. ⌜ now (out .exit) ≡ store (now (out .entry)) 0 (shape.encode nodeStatus (statusValues x end tt)) ⌝ }
+{
     field::write(out, 0, 32, x.uptime);
     field::write(out, 32, 2, x.health);
     field::write(out, 34, 3, x.mode);
@@ -61,7 +79,9 @@ pub fn write(out: &mut [u8], x: NodeStatus) {
     field::write(out, 40, 16, x.vendor);
 }
 
-pub fn encode(x: NodeStatus, out: &mut [u8]) -> Written {
+pub fn encode(x: NodeStatus, out: &mut [u8]) -> Written
+    ensures { λ r. ⌜ (answer.answerOf r, now (out .exit)) ≡ written nodeStatus (statusValues x end tt) (now (out .entry)) ⌝ }
+{
     if !fits(x) {
         return Written::Refused(17);
     }

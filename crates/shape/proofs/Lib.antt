@@ -1,4 +1,6 @@
-mod Fields
+pub mod Fields
 mod There
 mod Back
 pub mod RoundTrip
+pub mod Reading
+pub mod Writing

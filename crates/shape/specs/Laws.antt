@@ -1,11 +1,11 @@
 -- The return trip, over every description. `laws.rt` has a function for each law, whose contract it is.
 use mathlib.Core.Path.{_≡_}
-use mathlib.Core.Bool.{true}
 use mathlib.Core.List.{List}
 use Prim.Native.Nat.{ℕ, _≤_}
+use lib.ListN.{length}
 use Rattle.bits.specs.Order.{Octets}
 use Rattle.shape.specs.Answer.{got}
-use Rattle.shape.specs.Shape.{Shape, end, num, void, items, list, tail, Values, decoded, message, fits, cleared}
+use Rattle.shape.specs.Shape.{Shape, end, num, void, items, list, tail, Values, decoded, encoded, cleared}
 
 -- items of a list without a length field have 8 bits or more (004)
 abbrev pub Sound : Shape → Type 0
@@ -27,11 +27,11 @@ Whole (tail w m ok) = Unit {0}
 
 -- what was written is read: every field comes back
 abbrev pub There : Type 0
-There = (d : Shape) → Sound d → (v : Values d) → fits d v ≡ true → decoded d (message d v) ≡ got v
+There = (d : Shape) → Sound d → (v : Values d) (room : ℕ) (p : List ℕ) → encoded d v room ≡ got p → decoded d p ≡ got v
 
--- what was read fits, and is written as it came, the ignored bits zero
+-- what was read is written as it came, the ignored bits zero
 abbrev pub Back : Type 0
-Back = (d : Shape) (p : List ℕ) (v : Values d) → decoded d p ≡ got v → (fits d v ≡ true) × (message d v ≡ cleared d p)
+Back = (d : Shape) (p : List ℕ) (v : Values d) (room : ℕ) → decoded d p ≡ got v → length p ≤ room → encoded d v room ≡ got (cleared d p)
 
 -- where nothing is ignored, that is the payload itself
 abbrev pub Same : Type 0

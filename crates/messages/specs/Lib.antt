@@ -1,0 +1,4 @@
+pub mod Status
+pub mod Allocation
+pub mod KeyValue
+pub mod LogMessage
