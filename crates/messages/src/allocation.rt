@@ -46,7 +46,7 @@ pub fn decode(payload: &[u8]) -> Read
 }
 
 pub fn encode(node_id: u64, first_part: u64, unique_id: &[u8], out: &mut [u8]) -> Written
-    ensures { λ r. ⌜ (answer.answerOf r, now (out .exit)) ≡ written allocation (node_id, (first_part, now (unique_id .entry))) (now (out .entry)) ⌝ }
+    ensures { λ r. ⌜ (answer.answerOf r, now (out .exit)) ≡ written allocation («node_id», («first_part», now («unique_id» .entry))) (now (out .entry)) ⌝ }
 {
     if 127 < node_id {
         return Written::Refused(17);

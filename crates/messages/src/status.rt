@@ -25,7 +25,7 @@ pub enum Read {
 }
 
 // Internal. The status in the first seven bytes.
-pub fn read(s: &[u8]) -> NodeStatus
+pub fn read_front(s: &[u8]) -> NodeStatus
     requires { ⌜ 7 ≤ length (now s) ⌝ }
     ensures { λ r. ⌜ r ≡ statusAt (unpack (now (s .entry))) ⌝ }
 {
@@ -48,7 +48,7 @@ pub fn decode(payload: &[u8]) -> Read
     if 7 < n {
         return Read::Refused(16);
     }
-    Read::Got(read(payload))
+    Read::Got(read_front(payload))
 }
 
 // Internal. Every number fits its field.
@@ -68,7 +68,7 @@ pub fn fits(x: NodeStatus) -> bool
 }
 
 // Internal. The 56 bits of a status, from the front.
-pub fn write(out: &mut [u8], x: NodeStatus)
+pub fn write_front(out: &mut [u8], x: NodeStatus)
     requires { ⌜ 7 ≤ length (now out) ⌝ }
     ensures { λ _. ⌜ now (out .exit) ≡ store (now (out .entry)) 0 (shape.encode nodeStatus (statusValues x end tt)) ⌝ }
 {
@@ -88,6 +88,6 @@ pub fn encode(x: NodeStatus, out: &mut [u8]) -> Written
     if out.len() < 7 {
         return Written::Refused(8);
     }
-    write(out, x);
+    write_front(out, x);
     Written::Wrote(7)
 }

@@ -73,7 +73,7 @@ pub fn name(payload: &[u8]) -> &[u8] {
 
 fn read_info(s: &[u8]) -> NodeInfo {
     NodeInfo {
-        status: status::read(s),
+        status: status::read_front(s),
         software_major: field::read(s, 56, 8),
         software_minor: field::read(s, 64, 8),
         software_flags: field::read(s, 72, 8),
@@ -154,7 +154,7 @@ fn lists_fit(unique_id: &[u8], certificate: &[u8], name: &[u8]) -> bool {
 
 fn write_info(out: &mut [u8], m: NodeInfo) {
     let s = m.status;
-    status::write(out, s);
+    status::write_front(out, s);
     field::write(out, 56, 8, m.software_major);
     field::write(out, 64, 8, m.software_minor);
     field::write(out, 72, 8, m.software_flags);

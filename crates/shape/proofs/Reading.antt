@@ -1,11 +1,11 @@
 -- What a reader's code goes by: a head of numbers at once, lists of bytes as parts of the payload.
-use mathlib.Core.Path.{_≡_, refl, ap, _∙_}
+use mathlib.Core.Path.{_≡_, refl, sym, ap, _∙_}
 use mathlib.Core.Bool.{Bool, true, false}
 use mathlib.Core.List.{List, [], _∷_, _++_, append-nil}
 use Prim.Native.Nat.{ℕ, zero, suc, _+_, _*_, _/_, _%_, _≤_, _<_}
 use native.Mathlib.Nat.{add-zero}
 use native.Mathlib.Omega.{arith}
-use borrow.Author.Tests.{lt-ltb, le-ltb, le-leb, ltb-false}
+use borrow.Author.Tests.{lt-ltb, le-ltb, le-leb, ltb-true, ltb-false}
 use lib.Dec.{ltb}
 use lib.ListN.{length, take, drop, length-drop, drop-of-length-le}
 use lib.Seq.{take-at, drop-at, drop-drop, take-length}
@@ -13,8 +13,9 @@ use Rattle.bits.specs.Order.{Octets, digits, valueFrom, unpack, octets, number,
 use Rattle.bits.specs.Width.{widthOf}
 use Rattle.bits.proofs.Digits.{length-digits, value-digits}
 use Rattle.bits.proofs.Bytes.{length-unpack, drop-unpack}
+use Rattle.bits.proofs.Octets.{octets-drop}
 use Rattle.shape.specs.Answer.{Answer, refused, got, refuseIf, mapAnswer}
-use Rattle.shape.specs.Shape.{Shape, end, num, void, items, list, tail, Values, itemBits, itemsOf, allZero, allBelow, decode}
+use Rattle.shape.specs.Shape.{Shape, end, num, void, items, list, tail, Values, anything, itemsOf, allZero, decode}
 
 -- ── a head: numbers and ignored bits ──
 
@@ -51,6 +52,22 @@ unfolding mapAnswer
 map-same (refused n) = refl
 map-same (got a) = refl
 
+-- an answer through a map
+pub refused-on : {A B : Type 0} (f : A → B) {x : Answer B} {r : Answer A} {k : ℕ} → x ≡ mapAnswer f r → r ≡ refused k → x ≡ refused k
+unfolding mapAnswer
+refused-on f e h = e ∙ ap (λ r. mapAnswer f r) h
+
+pub got-on : {A B : Type 0} (f : A → B) {x : Answer B} {r : Answer A} {v : A} → x ≡ mapAnswer f r → r ≡ got v → x ≡ got (f v)
+unfolding mapAnswer
+got-on f e h = e ∙ ap (λ r. mapAnswer f r) h
+
+-- two answers of one payload
+pub never : {A : Type 0} {x : Answer A} {k : ℕ} {v : A} → x ≡ refused k → x ≡ got v → ⊥
+never {k = k} {v = v} e h = let q : refused k ≡ got v = sym e ∙ h in let z : _≡_ {A = ℕ} 0 1 = cc in omega arith
+
+pub only : {A : Type 0} {x : Answer A} {v w : A} → x ≡ got v → x ≡ got w → v ≡ w
+only {v = v} {w = w} e h = let q : got v ≡ got w = sym e ∙ h in cc
+
 module _ (w : ℕ) (d : Shape) (bs : List Bool) (at : ℕ) (h : at + w ≤ length bs) where
   enough : ltb (length (drop at bs)) w ≡ false
   enough = le-ltb (length (drop at bs)) w (rw length-drop (omega arith))
@@ -76,6 +93,15 @@ head-read (gap w ∷ ss) d bs at h =
     let e : at + w + total ss ≡ at + (w + total ss) = omega arith in
     void-at w (slots ss d) bs at (omega arith) ∙ head-read ss d bs (at + w) (omega arith)
     ∙ ap (λ (n : ℕ). mapAnswer (withHead (gap w ∷ ss) d bs at) (decode d (drop n bs))) e
+
+-- a head of n bytes
+pub head-bytes : (ss : List Slot) (d : Shape) (n : ℕ) → total ss ≡ n * 8 → (s : List ℕ) → n ≤ length s
+    → decode (slots ss d) (unpack s) ≡ mapAnswer (withHead ss d (unpack s) 0) (decode d (unpack (drop n s)))
+head-bytes ss d n e s h =
+    let z : 0 + total ss ≡ n * 8 = omega arith in
+    head-read ss d (unpack s) 0 (omega (arith, length-unpack s))
+    ∙ ap (λ (k : ℕ). mapAnswer (withHead ss d (unpack s) 0) (decode d (drop k (unpack s)))) z
+    ∙ ap (λ (b : List Bool). mapAnswer (withHead ss d (unpack s) 0) (decode d b)) (drop-unpack n s)
 
 -- a payload that ends in the head
 module _ (w : ℕ) (d : Shape) (bs : List Bool) (k : w ≤ length bs → decode d (drop w bs) ≡ refused 15) where
@@ -142,6 +168,28 @@ module _ (m : ℕ) (ok : List ℕ → Bool) (s : List ℕ) (os : Octets s) where
   pub tail-got : length s ≤ m → ok s ≡ true → decode (tail 8 m ok) (unpack s) ≡ got s
   unfolding decode refuseIf
   tail-got h k = rw (length-rest, none-left, le-ltb m (length s) h, nothing, whole, k)
+
+-- a head of n bytes, and a list of bytes that may hold anything
+module _ (ss : List Slot) (n : ℕ) (e : total ss ≡ n * 8) (m : ℕ) (s : List ℕ) (o : Octets s) where
+  abbrev rest : Shape
+  rest = tail 8 m anything
+
+  pub ht-short : length s < n → decode (slots ss rest) (unpack s) ≡ refused 15
+  ht-short h = head-short ss rest (unpack s) (omega (arith, length-unpack s))
+
+  pub ht-long : n ≤ length s → m < length (drop n s) → decode (slots ss rest) (unpack s) ≡ refused 16
+  ht-long h l = refused-on (withHead ss rest (unpack s) 0) (head-bytes ss rest n e s h) (tail-long m anything (drop n s) (octets-drop n s o) l)
+
+  pub ht-held : n ≤ length s → length (drop n s) ≤ m → decode (slots ss rest) (unpack s) ≡ got (withHead ss rest (unpack s) 0 (drop n s))
+  ht-held h l = got-on (withHead ss rest (unpack s) 0) (head-bytes ss rest n e s h) (tail-got m anything (drop n s) (octets-drop n s o) l refl)
+
+  -- nothing else is read
+  pub ht-only : (v : Values (slots ss rest)) → decode (slots ss rest) (unpack s) ≡ got v → v ≡ withHead ss rest (unpack s) 0 (drop n s)
+  ht-only v g = go (ltb (length s) n) (ltb m (length (drop n s))) refl refl where
+    go : (a b : Bool) → ltb (length s) n ≡ a → ltb m (length (drop n s)) ≡ b → v ≡ withHead ss rest (unpack s) 0 (drop n s)
+    go true b ea eb = absurd (never (ht-short (ltb-true (length s) n ea)) g)
+    go false true ea eb = absurd (never (ht-long (ltb-false (length s) n ea) (ltb-true m (length (drop n s)) eb)) g)
+    go false false ea eb = only g (ht-held (ltb-false (length s) n ea) (ltb-false m (length (drop n s)) eb))
 
 -- k bytes
 module _ (k : ℕ) (d : Shape) (s : List ℕ) (os : Octets s) where
