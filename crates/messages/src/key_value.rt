@@ -2,6 +2,7 @@
 use bits::field;
 use shape::answer::Place;
 use shape::answer::Written;
+use shape::part;
 ghost use mathlib.Core.Path.{_≡_};
 ghost use Rattle.shape.specs.Answer as answer;
 ghost use Rattle.shape.specs.Shape.{written};
@@ -22,10 +23,7 @@ pub enum Read {
 pub fn key(payload: &[u8]) -> &[u8]
     ensures { λ r. ⌜ now r ≡ keyIn (now (payload .entry)) ⌝ }
 {
-    if payload.len() < 4 {
-        return &payload[0..0];
-    }
-    &payload[4..]
+    part::behind(payload, 4)
 }
 
 pub fn decode(payload: &[u8]) -> Read

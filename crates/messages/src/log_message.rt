@@ -3,6 +3,7 @@ use bits::field;
 use bits::width;
 use shape::answer::Place;
 use shape::answer::Written;
+use shape::part;
 ghost use mathlib.Core.Path.{_≡_};
 ghost use Rattle.shape.specs.Answer as answer;
 ghost use Rattle.shape.specs.Shape.{written};
@@ -33,25 +34,14 @@ fn source_length(payload: &[u8]) -> usize
 pub fn source(payload: &[u8]) -> &[u8]
     ensures { λ r. ⌜ now r ≡ sourceIn (now (payload .entry)) ⌝ }
 {
-    let end = 1 + source_length(payload);
-    if payload.len() < 1 {
-        return &payload[0..0];
-    }
-    if payload.len() < end {
-        return &payload[1..];
-    }
-    &payload[1..end]
+    part::within(payload, 1, source_length(payload))
 }
 
 // The text, as a part of the payload: all behind the source.
 pub fn text(payload: &[u8]) -> &[u8]
     ensures { λ r. ⌜ now r ≡ textIn (now (payload .entry)) ⌝ }
 {
-    let at = 1 + source_length(payload);
-    if payload.len() < at {
-        return &payload[0..0];
-    }
-    &payload[at..]
+    part::behind(payload, 1 + source_length(payload))
 }
 
 pub fn decode(payload: &[u8]) -> Read

@@ -64,7 +64,7 @@ pub fn fits(x: NodeStatus) -> bool
     if 7 < x.mode {
         return false;
     }
-    x.vendor <= 65535
+    x.vendor < 65536
 }
 
 // Internal. The 56 bits of a status, from the front.

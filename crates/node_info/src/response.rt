@@ -6,6 +6,7 @@ use messages::status;
 use messages::status::NodeStatus;
 use shape::answer::Place;
 use shape::answer::Written;
+use shape::part;
 
 // The numbers of a response.
 pub struct NodeInfo {
@@ -41,34 +42,17 @@ fn certificate_length(payload: &[u8]) -> usize {
 
 // The unique ID, as a part of the payload: the 16 bytes from byte 24 on.
 pub fn unique_id(payload: &[u8]) -> &[u8] {
-    if payload.len() < 24 {
-        return &payload[0..0];
-    }
-    if payload.len() < 40 {
-        return &payload[24..];
-    }
-    &payload[24..40]
+    part::within(payload, 24, 16)
 }
 
 // The certificate, as a part of the payload: from byte 41 on, as long as its length field says.
 pub fn certificate(payload: &[u8]) -> &[u8] {
-    let end = 41 + certificate_length(payload);
-    if payload.len() < 41 {
-        return &payload[0..0];
-    }
-    if payload.len() < end {
-        return &payload[41..];
-    }
-    &payload[41..end]
+    part::within(payload, 41, certificate_length(payload))
 }
 
 // The name, as a part of the payload: all behind the certificate.
 pub fn name(payload: &[u8]) -> &[u8] {
-    let at = 41 + certificate_length(payload);
-    if payload.len() < at {
-        return &payload[0..0];
-    }
-    &payload[at..]
+    part::behind(payload, 41 + certificate_length(payload))
 }
 
 fn read_info(s: &[u8]) -> NodeInfo {

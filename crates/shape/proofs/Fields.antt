@@ -26,6 +26,10 @@ pub and-both : (a b : Bool) → a ≡ true → b ≡ true → a && b ≡ true
 and-both true b h k = k
 and-both false b h k = h
 
+pub and-true : (a : Bool) → a && true ≡ a
+and-true true = refl
+and-true false = refl
+
 -- ── items ──
 pub length-itemBits : (w : ℕ) (xs : List ℕ) → length (itemBits w xs) ≡ length xs * w
 unfolding itemBits

@@ -1,0 +1,4 @@
+mod StatusFacts
+mod AllocationFacts
+mod KeyValueFacts
+mod LogMessageFacts
