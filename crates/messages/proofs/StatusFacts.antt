@@ -74,7 +74,7 @@ module _ (x : NodeStatus) where
       let c = toBits 3 (x .mode) in
       let d = toBits 3 0 in
       let e = toBits 16 (x .vendor) in
-      let f₂ = more m₀ m₁ m₂ a b 32 e₁ (simp (length-append, length-toBits)) (omega arith) e₂ in
+      let f₂ = more m₀ m₁ m₂ a b 32 e₁ (length-toBits 32 (x .uptime)) (omega arith) e₂ in
       let f₃ = more m₀ m₂ m₃ (a ++ b) c 34 f₂ (simp (length-append, length-toBits)) (omega arith) e₃ in
       let f₄ = more m₀ m₃ m₄ (a ++ b ++ c) d 37 f₃ (simp (length-append, length-toBits)) (omega arith) e₄ in
       let f₅ = more m₀ m₄ m₅ (a ++ b ++ c ++ d) e 40 f₄ (simp (length-append, length-toBits)) (omega arith) e₅ in
