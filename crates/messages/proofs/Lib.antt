@@ -1,0 +1,5 @@
+mod StatusFacts
+mod AllocationFacts
+mod KeyValueFacts
+mod LogMessageFacts
+pub mod Trips

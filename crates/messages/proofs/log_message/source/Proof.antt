@@ -1,0 +1,24 @@
+use mathlib.Core.Path.{ap, _∙_}
+use Prim.Native.Nat.{ℕ}
+use Rattle.bits.specs.Part.{span}
+use borrow.Author.Needs.{needs}
+use Rattle.messages.proofs.log_message.source.Statement.{statement}
+use Rattle.messages.proofs.log_message.source.Tie as tie
+use Rattle.messages.proofs.log_message.source.Reads as reads
+use Rattle.messages.proofs.log_message.source.Lts as lts
+use Rattle.messages.proofs.log_message.source_length.Reads as source-length-reads
+use Rattle.shape.proofs.part.within.Reads as within-reads
+
+source-length-requires : tie.Need-source-length-requires
+source-length-requires c κs = search needs
+
+within-requires : tie.Need-within-requires
+within-requires c κs = search needs
+
+returns : tie.Need-returns
+returns c =
+    let n = c .before in
+    c .within .ensures ∙ ap (λ (k : ℕ). span (n .before .before .args .payload .now) 1 k) (n .source-length .ensures)
+
+pub source-spec : {M : Type 1} → statement M
+source-spec = tie.close (tie.spec source-length-requires within-requires returns)

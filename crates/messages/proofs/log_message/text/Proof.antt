@@ -1,0 +1,29 @@
+use mathlib.Core.Path.{ap, _∙_}
+use Prim.Native.Nat.{ℕ, _+_}
+use native.Mathlib.Omega.{arith}
+use lib.ListN.{drop}
+use Rattle.messages.proofs.LogMessageFacts.{below}
+use borrow.Author.Needs.{needs}
+use Rattle.messages.proofs.log_message.text.Statement.{statement}
+use Rattle.messages.proofs.log_message.text.Tie as tie
+use Rattle.messages.proofs.log_message.text.Reads as reads
+use Rattle.messages.proofs.log_message.text.Lts as lts
+use Rattle.messages.proofs.log_message.source_length.Reads as source-length-reads
+use Rattle.shape.proofs.part.behind.Reads as behind-reads
+
+source-length-requires : tie.Need-source-length-requires
+source-length-requires c κs = search needs
+
+add-behind : tie.Need-add-behind
+add-behind c = omega (arith, c .source-length .ensures, below (c .before .before .args .payload .now))
+
+behind-requires : tie.Need-behind-requires
+behind-requires c κs = search needs
+
+returns : tie.Need-returns
+returns c =
+    let n = c .before in
+    c .behind .ensures ∙ ap (λ (k : ℕ). drop (1 + k) (n .before .before .args .payload .now)) (n .source-length .ensures)
+
+pub text-spec : {M : Type 1} → statement M
+text-spec = tie.close (tie.spec source-length-requires add-behind behind-requires returns)

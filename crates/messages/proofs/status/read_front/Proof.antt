@@ -1,0 +1,28 @@
+use Rattle.messages.specs.Status.{statusAt}
+use Rattle.messages.proofs.StatusFacts.{made}
+use borrow.Author.Needs.{needs}
+use Rattle.messages.proofs.status.read_front.Statement.{statement}
+use Rattle.messages.proofs.status.read_front.Tie as tie
+use Rattle.messages.proofs.status.read_front.Reads as reads
+use Rattle.messages.proofs.status.read_front.Lts as lts
+use Rattle.bits.proofs.field.read.Reads as read-reads
+
+read-requires : tie.Need-read-requires
+read-requires c κs = search needs
+
+read-requires-2 : tie.Need-read-requires-2
+read-requires-2 c κs = search needs
+
+read-requires-3 : tie.Need-read-requires-3
+read-requires-3 c κs = search needs
+
+read-requires-4 : tie.Need-read-requires-4
+read-requires-4 c κs = search needs
+
+returns : tie.Need-returns
+unfolding statusAt
+returns c = made (c .before .before .before .read .ensures) (c .before .before .read2 .ensures) (c .before .read3 .ensures) (c .read4 .ensures)
+
+pub read-front-spec : {M : Type 1} → statement M
+read-front-spec =
+    tie.close (tie.spec read-requires read-requires-2 read-requires-3 read-requires-4 returns)

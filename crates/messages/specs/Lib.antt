@@ -1,0 +1,5 @@
+pub mod Status
+pub mod Allocation
+pub mod KeyValue
+pub mod LogMessage
+pub mod Laws

@@ -1,0 +1,4 @@
+mod NameFacts
+mod ReadFacts
+mod WriteFacts
+mod Trips

@@ -1,0 +1,95 @@
+-- The return trip on whole payloads.
+use mathlib.Core.Path.{_≡_, refl, sym, ap, _∙_, subst}
+use mathlib.Core.Bool.{Bool, true, false, not}
+use mathlib.Core.List.{List, [], _∷_, _++_}
+use Prim.Native.Nat.{ℕ, zero, suc, _+_, _*_, _-_, _/_, _^_, _≤_, _<_}
+use native.Mathlib.Nat.{min-le-left}
+use native.Mathlib.Omega.{arith}
+use borrow.Author.Tests.{le-ltb}
+use lib.Dec.{ltb}
+use lib.Pow.{pow-mono}
+use lib.ListN.{length, take, drop, replicate, length-append, length-replicate, length-take, take-append-drop}
+use Rattle.bits.specs.Order.{Octets, fromBits, unpack, bytes, bytesFor, padding, pack}
+use Rattle.bits.specs.Width.{widthOf}
+use Rattle.bits.proofs.Digits.{value-lt}
+use Rattle.bits.proofs.Bytes.{length-unpack, length-bytes, unpack-bytes, bytes-unpack}
+use Rattle.shape.specs.Answer.{Answer, got, refuseIf}
+use Rattle.shape.specs.Shape.{Shape, end, num, void, items, list, tail, Values, encode, decode, decoded, message, fits, encoded, clear, cleared}
+use Rattle.shape.specs.Laws.{Sound, Whole, There, Back, Same}
+use Rattle.shape.proofs.Fields.{zeros-are, zeros-zero}
+use Rattle.shape.proofs.There.{there}
+use Rattle.shape.proofs.Back.{Came, Good, back}
+
+unpack-pack : (bs : List Bool) → unpack (pack bs) ≡ bs ++ padding bs
+unpack-pack bs =
+    unpack-bytes (bytesFor (length bs)) (bs ++ padding bs)
+    (length-append bs (padding bs) ∙ omega (arith, length-replicate (bytesFor (length bs) * 8 - length bs) false))
+
+read-message : (d : Shape) → Sound d → (v : Values d) → fits d v ≡ true → decoded d (message d v) ≡ got v
+read-message d s v h =
+    let p = padding (encode d v) in
+    let l : length p < 8 = omega (arith, length-replicate (bytesFor (length (encode d v)) * 8 - length (encode d v)) false) in
+    ap (λ (b : List Bool). decode d b) (unpack-pack (encode d v)) ∙ there p l (zeros-zero (bytesFor (length (encode d v)) * 8 - length (encode d v))) d s v h
+
+octets-bytes : (n : ℕ) (bs : List Bool) → Octets (bytes n bs)
+unfolding bytes
+octets-bytes zero bs = tt
+octets-bytes (suc n) bs =
+    let k : length (take 8 bs) ≤ 8 = rw length-take (min-le-left 8 (length bs)) in
+    let l : 2 ^ length (take 8 bs) ≤ 2 ^ 8 = pow-mono k in
+    (omega (arith, value-lt (take 8 bs)), octets-bytes n (drop 8 bs))
+
+-- what an encoding that succeeds tells
+pub record Made (d : Shape) (v : Values d) (p : List ℕ) : Type 0 where
+  pub fit : fits d v ≡ true
+  pub is : p ≡ message d v
+  pub octets : Octets p
+
+pub made : (d : Shape) (v : Values d) (room : ℕ) (p : List ℕ) → encoded d v room ≡ got p → Made d v p
+unfolding encoded refuseIf
+made d v room p = go (fits d v) (ltb room (length (message d v))) refl where
+  go : (a b : Bool) → fits d v ≡ a → refuseIf (not a) 17 (refuseIf b 8 (got (message d v))) ≡ got p → Made d v p
+  go false b f e = absurd (let z : _≡_ {A = ℕ} 0 1 = cc in omega arith)
+  go true true f e = absurd (let z : _≡_ {A = ℕ} 0 1 = cc in omega arith)
+  go true false f e =
+      let i : p ≡ message d v = cc in
+      record { fit = f; is = i; octets = rw i (octets-bytes (bytesFor (length (encode d v))) (encode d v ++ padding (encode d v))) }
+
+pub round-there : There
+round-there d s v room p e =
+    let m = made d v room p e in
+    ap (λ (q : List ℕ). decoded d q) (m .is) ∙ read-message d s v (m .fit)
+
+came-back : (d : Shape) (s : List ℕ) (v : Values d) → Came d (unpack s) v → message d v ≡ cleared d s
+came-back d s v c =
+    let e = encode d v in
+    let l : length s * 8 ≡ length e + length (c .pad) = sym (c .long ∙ length-unpack s) ∙ ap (λ (b : List Bool). length b) (c .whole) ∙ length-append e (c .pad) in
+    let h : length (c .pad) < 8 = c .short in
+    let n : bytesFor (length e) ≡ length s = omega arith in
+    let k : bytesFor (length e) * 8 - length e ≡ length (c .pad) = omega arith in
+    let p : padding e ≡ c .pad = ap (λ (j : ℕ). replicate j false) k ∙ sym (zeros-are (c .pad) (c .empty)) in
+    ap (λ (b : List Bool). bytes (bytesFor (length e)) (e ++ b)) p ∙ ap (λ (b : List Bool). bytes (bytesFor (length e)) b) (sym (c .whole))
+    ∙ ap (λ (j : ℕ). bytes j (clear d (unpack s))) n
+
+pub round-back : Back
+unfolding encoded refuseIf
+round-back d s v room e l =
+    let c : Came d (unpack s) v = subst (λ (r : Answer (Values d)). Good d (unpack s) r) e (back d (unpack s)) in
+    let k : length (cleared d s) ≤ room = omega (arith, length-bytes (length s) (clear d (unpack s))) in
+    rw (c .fit, came-back d s v c, le-ltb room (length (cleared d s)) k)
+
+-- ── where nothing is ignored ──
+pub clear-same : (d : Shape) → Whole d → (bs : List Bool) → clear d bs ≡ bs
+unfolding clear
+clear-same end h bs = refl
+clear-same (num w d) h bs = rw (clear-same d h (drop w bs)) (take-append-drop w bs)
+clear-same (void w d) h bs = absurd h
+clear-same (items w k d) h bs = rw (clear-same d h (drop (k * w) bs)) (take-append-drop (k * w) bs)
+clear-same (list w m d) h bs =
+    let n = fromBits (widthOf m) bs in
+    let rest = drop (widthOf m) bs in
+    rw (clear-same d h (drop (n * w) rest), take-append-drop (n * w) rest) (take-append-drop (widthOf m) bs)
+clear-same (tail w m ok) h bs = refl
+
+pub whole-same : Same
+whole-same d h p o = ap (λ (b : List Bool). bytes (length p) b) (clear-same d h (unpack p)) ∙ bytes-unpack (length p) p refl o

@@ -1,0 +1,92 @@
+-- What was written is read: over every description.
+use mathlib.Core.Path.{_≡_, refl, sym, ap, _∙_}
+use mathlib.Core.Bool.{Bool, true, false, not, _&&_}
+use mathlib.Core.List.{List, [], _∷_, _++_, append-assoc, append-nil}
+use Prim.Native.Nat.{ℕ, zero, suc, _+_, _*_, _-_, _/_, _%_, _^_, _≤_, _<_}
+use native.Mathlib.Omega.{arith}
+use borrow.Author.Tests.{lt-ltb, le-ltb, lt-leb, le-leb, ltb-true, leb-true, eqb-true}
+use lib.Dec.{ltb, leb, eqb}
+use lib.Arith.{digits-div, digits-mod}
+use lib.ListN.{length, take, drop, length-append}
+use lib.Seq.{take-at, drop-at}
+use Rattle.bits.specs.Order.{toBits, fromBits}
+use Rattle.bits.proofs.Numbers.{length-toBits, fromBits-toBits}
+use Rattle.bits.specs.Width.{widthOf}
+use Rattle.bits.proofs.Widths.{width-law}
+use Rattle.shape.specs.Answer.{Answer, got, refuseIf, mapAnswer}
+use Rattle.shape.specs.Shape.{Shape, end, num, void, items, list, tail, Values, itemBits, itemsOf, allZero, allBelow, encode, decode, fits}
+use Rattle.shape.specs.Laws.{Sound}
+use Rattle.shape.proofs.Fields.{and-left, and-right, length-itemBits, items-there}
+
+-- a number in front
+front : (w n : ℕ) (r : List Bool) → ltb (length (toBits w n ++ r)) w ≡ false
+front w n r = le-ltb (length (toBits w n ++ r)) w (omega (arith, length-append (toBits w n) r, length-toBits w n))
+
+behind : (w n : ℕ) (r : List Bool) → drop w (toBits w n ++ r) ≡ r
+behind w n r = drop-at (toBits w n) r w (length-toBits w n)
+
+-- items in front
+items-front : (w : ℕ) (xs : List ℕ) (r : List Bool) → ltb (length (itemBits w xs ++ r)) (length xs * w) ≡ false
+items-front w xs r = le-ltb (length (itemBits w xs ++ r)) (length xs * w) (omega (arith, length-append (itemBits w xs) r, length-itemBits w xs))
+
+items-behind : (w : ℕ) (xs : List ℕ) (r : List Bool) → drop (length xs * w) (itemBits w xs ++ r) ≡ r
+items-behind w xs r = drop-at (itemBits w xs) r (length xs * w) (length-itemBits w xs)
+
+num-there : (w : ℕ) (d : Shape) (n : ℕ) (r : List Bool) → n < 2 ^ w → decode (num w d) (toBits w n ++ r) ≡ mapAnswer (λ (v : Values d). (n, v)) (decode d r)
+unfolding decode refuseIf
+num-there w d n r h = rw (front w n r, fromBits-toBits w n r h, behind w n r)
+
+items-there' : (w : ℕ) (d : Shape) (xs : List ℕ) (r : List Bool) → allBelow (2 ^ w) xs ≡ true
+    → decode (items w (length xs) d) (itemBits w xs ++ r) ≡ mapAnswer (λ (v : Values d). (xs, v)) (decode d r)
+unfolding decode refuseIf
+items-there' w d xs r h = rw (items-front w xs r, items-there w xs r h, items-behind w xs r)
+
+list-there : (w m : ℕ) (d : Shape) (xs : List ℕ) (r : List Bool) → length xs ≤ m → allBelow (2 ^ w) xs ≡ true
+    → decode (list w m d) (toBits (widthOf m) (length xs) ++ (itemBits w xs ++ r)) ≡ mapAnswer (λ (v : Values d). (xs, v)) (decode d r)
+unfolding decode refuseIf
+list-there w m d xs r l h =
+    let n : fromBits (widthOf m) (toBits (widthOf m) (length xs) ++ (itemBits w xs ++ r)) ≡ length xs = fromBits-toBits (widthOf m) (length xs) (itemBits w xs ++ r) (omega (arith, width-law m .holds)) in
+    rw (front (widthOf m) (length xs) (itemBits w xs ++ r), n, behind (widthOf m) (length xs) (itemBits w xs ++ r), items-front w xs r, le-ltb m (length xs) l, items-there w xs r h, items-behind w xs r)
+
+tail-there : (w m : ℕ) (ok : List ℕ → Bool) (xs : List ℕ) (pad : List Bool) → 8 ≤ w → length xs ≤ m → allBelow (2 ^ w) xs ≡ true → ok xs ≡ true → length pad < 8 → allZero pad ≡ true
+    → decode (tail w m ok) (itemBits w xs ++ pad) ≡ got xs
+unfolding decode refuseIf
+tail-there w m ok xs pad hw l h k short z =
+    let n : length (itemBits w xs ++ pad) ≡ length xs * w + length pad = length-append (itemBits w xs) pad ∙ ap (λ (j : ℕ). j + length pad) (length-itemBits w xs) in
+    let q : length (itemBits w xs ++ pad) / w ≡ length xs = ap (λ (j : ℕ). j / w) n ∙ digits-div (length xs) (omega arith) in
+    let p : length (itemBits w xs ++ pad) % w ≡ length pad = ap (λ (j : ℕ). j % w) n ∙ digits-mod (length xs) (omega arith) in
+    rw (q, p, le-ltb m (length xs) l, lt-leb 8 (length pad) short, items-behind w xs pad, z, items-there w xs pad h, k)
+
+void-there : (w : ℕ) (d : Shape) (r : List Bool) → decode (void w d) (toBits w 0 ++ r) ≡ decode d r
+unfolding decode refuseIf
+void-there w d r = rw (front w 0 r, behind w 0 r)
+
+module _ (pad : List Bool) (short : length pad < 8) (z : allZero pad ≡ true) where
+  pub there : (d : Shape) → Sound d → (v : Values d) → fits d v ≡ true → decode d (encode d v ++ pad) ≡ got v
+  unfolding encode fits mapAnswer decode refuseIf
+  there end s v h = rw (lt-leb 8 (length pad) short, z)
+  there (num w d) s v h =
+      let l = and-left (ltb (v .0) (2 ^ w)) (fits d (v .1)) h in
+      ap (λ (b : List Bool). decode (num w d) b) (append-assoc (toBits w (v .0)) (encode d (v .1)) pad)
+      ∙ num-there w d (v .0) (encode d (v .1) ++ pad) (ltb-true (v .0) (2 ^ w) l)
+      ∙ ap (λ (r : Answer (Values d)). mapAnswer (λ (u : Values d). (v .0, u)) r) (there d s (v .1) (and-right (ltb (v .0) (2 ^ w)) (fits d (v .1)) h))
+  there (void w d) s v h =
+      ap (λ (b : List Bool). decode (void w d) b) (append-assoc (toBits w 0) (encode d v) pad) ∙ void-there w d (encode d v ++ pad) ∙ there d s v h
+  there (items w k d) s v h =
+      let c = and-right (eqb (length (v .0)) k) (allBelow (2 ^ w) (v .0) && fits d (v .1)) h in
+      let e : length (v .0) ≡ k = eqb-true (length (v .0)) k (and-left (eqb (length (v .0)) k) (allBelow (2 ^ w) (v .0) && fits d (v .1)) h) in
+      ap (λ (b : List Bool). decode (items w k d) b) (append-assoc (itemBits w (v .0)) (encode d (v .1)) pad)
+      ∙ ap (λ (j : ℕ). decode (items w j d) (itemBits w (v .0) ++ (encode d (v .1) ++ pad))) (sym e)
+      ∙ items-there' w d (v .0) (encode d (v .1) ++ pad) (and-left (allBelow (2 ^ w) (v .0)) (fits d (v .1)) c)
+      ∙ ap (λ (r : Answer (Values d)). mapAnswer (λ (u : Values d). (v .0, u)) r) (there d s (v .1) (and-right (allBelow (2 ^ w) (v .0)) (fits d (v .1)) c))
+  there (list w m d) s v h =
+      let c = and-right (leb (length (v .0)) m) (allBelow (2 ^ w) (v .0) && fits d (v .1)) h in
+      let l : length (v .0) ≤ m = leb-true (length (v .0)) m (and-left (leb (length (v .0)) m) (allBelow (2 ^ w) (v .0) && fits d (v .1)) h) in
+      let e : encode (list w m d) v ++ pad ≡ toBits (widthOf m) (length (v .0)) ++ (itemBits w (v .0) ++ (encode d (v .1) ++ pad)) = simp append-assoc in
+      ap (λ (b : List Bool). decode (list w m d) b) e
+      ∙ list-there w m d (v .0) (encode d (v .1) ++ pad) l (and-left (allBelow (2 ^ w) (v .0)) (fits d (v .1)) c)
+      ∙ ap (λ (r : Answer (Values d)). mapAnswer (λ (u : Values d). (v .0, u)) r) (there d s (v .1) (and-right (allBelow (2 ^ w) (v .0)) (fits d (v .1)) c))
+  there (tail w m ok) s v h =
+      let c = and-right (leb (length v) m) (allBelow (2 ^ w) v && ok v) h in
+      let l : length v ≤ m = leb-true (length v) m (and-left (leb (length v) m) (allBelow (2 ^ w) v && ok v) h) in
+      tail-there w m ok v pad s l (and-left (allBelow (2 ^ w) v) (ok v) c) (and-right (allBelow (2 ^ w) v) (ok v) c) short z

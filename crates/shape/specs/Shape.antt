@@ -1,0 +1,129 @@
+-- A message described once, field by field (01, Messages; 004, Serialization). Its bits, its reading and its refusals follow from the description.
+use mathlib.Core.Bool.{Bool, true, false, not, _&&_}
+use mathlib.Core.List.{List, [], _∷_, _++_}
+use Prim.Native.Nat.{ℕ, zero, suc, _+_, _*_, _/_, _%_, _^_}
+use lib.Dec.{ltb, leb, eqb}
+use lib.ListN.{length, take, drop}
+use Rattle.bits.specs.Order.{toBits, fromBits, unpack, bytes, pack}
+use Rattle.bits.specs.Width.{widthOf}
+use Rattle.shape.specs.Answer.{Answer, refused, got, refuseIf, mapAnswer, wrote}
+
+-- ── a description: each field holds what follows it, so that a list without a length field is last ──
+
+pub data Shape : Type 0 where
+  end : Shape
+  -- a number of w bits
+  num : ℕ → Shape → Shape
+  -- w bits that are written as zero and ignored in reading
+  void : ℕ → Shape → Shape
+  -- exactly k items of w bits: w, k
+  items : ℕ → ℕ → Shape → Shape
+  -- at most m items of w bits, behind a length field: w, m
+  list : ℕ → ℕ → Shape → Shape
+  -- at most m items of w bits, the last thing of all, with no length field: w, m, what the content must pass
+  tail : ℕ → ℕ → (List ℕ → Bool) → Shape
+
+-- what a message of this shape holds
+abbrev pub Values : Shape → Type 0
+Values end = Unit {0}
+Values (num w d) = ℕ × Values d
+Values (void w d) = Values d
+Values (items w k d) = List ℕ × Values d
+Values (list w m d) = List ℕ × Values d
+Values (tail w m ok) = List ℕ
+
+-- any content
+abbrev pub anything : List ℕ → Bool
+anything xs = true
+
+-- ── items of w bits ──
+
+unfoldable pub itemBits : ℕ → List ℕ → List Bool
+itemBits w [] = []
+itemBits w (x ∷ xs) = toBits w x ++ itemBits w xs
+
+-- the n items at the front of bs
+unfoldable pub itemsOf : ℕ → ℕ → List Bool → List ℕ
+itemsOf w zero bs = []
+itemsOf w (suc n) bs = fromBits w bs ∷ itemsOf w n (drop w bs)
+
+abbrev pub allZero : List Bool → Bool
+allZero [] = true
+allZero (b ∷ bs) = not b && allZero bs
+
+unfoldable pub allBelow : ℕ → List ℕ → Bool
+allBelow n [] = true
+allBelow n (x ∷ xs) = ltb x n && allBelow n xs
+
+-- ── the bits of a message ──
+
+unfoldable pub encode : (d : Shape) → Values d → List Bool
+encode end v = []
+encode (num w d) v = toBits w (v .0) ++ encode d (v .1)
+encode (void w d) v = toBits w 0 ++ encode d v
+encode (items w k d) v = itemBits w (v .0) ++ encode d (v .1)
+encode (list w m d) v = toBits (widthOf m) (length (v .0)) ++ (itemBits w (v .0) ++ encode d (v .1))
+encode (tail w m ok) v = itemBits w v
+
+-- ── reading, field by field: 15 the payload ends in a field, 16 too many, 25 padding not zero, 17 not allowed ──
+-- What five types fill is whole bytes, and none of them can answer 25.
+
+unfoldable pub decode : (d : Shape) → List Bool → Answer (Values d)
+decode end bs = refuseIf (leb 8 (length bs)) 16 (refuseIf (not (allZero bs)) 25 (got tt))
+decode (num w d) bs = refuseIf (ltb (length bs) w) 15 (mapAnswer (λ v. (fromBits w bs, v)) (decode d (drop w bs)))
+decode (void w d) bs = refuseIf (ltb (length bs) w) 15 (decode d (drop w bs))
+decode (items w k d) bs =
+    refuseIf (ltb (length bs) (k * w)) 15 (mapAnswer (λ v. (itemsOf w k bs, v)) (decode d (drop (k * w) bs)))
+decode (list w m d) bs =
+    let n = fromBits (widthOf m) bs in
+    let rest = drop (widthOf m) bs in
+    refuseIf (ltb (length bs) (widthOf m)) 15
+    (refuseIf (ltb (length rest) (n * w)) 15
+    (refuseIf (ltb m n) 16 (mapAnswer (λ v. (itemsOf w n rest, v)) (decode d (drop (n * w) rest)))))
+decode (tail w m ok) bs =
+    let n = length bs / w in
+    refuseIf (ltb m n) 16
+    (refuseIf (leb 8 (length bs % w)) 16
+    (refuseIf (not (allZero (drop (n * w) bs))) 25
+    (refuseIf (not (ok (itemsOf w n bs))) 17 (got (itemsOf w n bs)))))
+
+-- ── writing: 17 over all fields, then 8 ──
+
+unfoldable pub fits : (d : Shape) → Values d → Bool
+fits end v = true
+fits (num w d) v = ltb (v .0) (2 ^ w) && fits d (v .1)
+fits (void w d) v = fits d v
+fits (items w k d) v = eqb (length (v .0)) k && (allBelow (2 ^ w) (v .0) && fits d (v .1))
+fits (list w m d) v = leb (length (v .0)) m && (allBelow (2 ^ w) (v .0) && fits d (v .1))
+fits (tail w m ok) v = leb (length v) m && (allBelow (2 ^ w) v && ok v)
+
+-- ── whole payloads ──
+
+abbrev pub decoded : (d : Shape) → List ℕ → Answer (Values d)
+decoded d p = decode d (unpack p)
+
+abbrev pub message : (d : Shape) → Values d → List ℕ
+message d v = pack (encode d v)
+
+unfoldable pub encoded : (d : Shape) → Values d → ℕ → Answer (List ℕ)
+encoded d v room = refuseIf (not (fits d v)) 17 (refuseIf (ltb room (length (message d v))) 8 (got (message d v)))
+
+-- what a writer answers, and the buffer m after it
+abbrev pub written : (d : Shape) → Values d → List ℕ → Answer ℕ × List ℕ
+written d v m = wrote (encoded d v (length m)) m
+
+-- ── a payload with its ignored bits zero ──
+
+unfoldable pub clear : Shape → List Bool → List Bool
+clear end bs = bs
+clear (num w d) bs = take w bs ++ clear d (drop w bs)
+clear (void w d) bs = toBits w 0 ++ clear d (drop w bs)
+clear (items w k d) bs = take (k * w) bs ++ clear d (drop (k * w) bs)
+clear (list w m d) bs =
+    let n = fromBits (widthOf m) bs in
+    let rest = drop (widthOf m) bs in
+    take (widthOf m) bs ++ (take (n * w) rest ++ clear d (drop (n * w) rest))
+clear (tail w m ok) bs = bs
+
+abbrev pub cleared : Shape → List ℕ → List ℕ
+cleared d p = bytes (length p) (clear d (unpack p))

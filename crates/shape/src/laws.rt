@@ -1,0 +1,14 @@
+// The laws of specs/Laws.antt: a function with no body for each, whose contract is the law.
+ghost use Rattle.shape.specs.Laws.{There, Back, Same};
+
+pub fn there()
+    ensures { λ _. ⌜ There ⌝ }
+{}
+
+pub fn back()
+    ensures { λ _. ⌜ Back ⌝ }
+{}
+
+pub fn same()
+    ensures { λ _. ⌜ Same ⌝ }
+{}

@@ -1,0 +1,4 @@
+// Messages described once: bits, reading, writing and refusals follow from a description, and so do the laws of the return trip.
+pub mod answer;
+pub mod laws;
+pub mod part;
