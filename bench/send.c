@@ -16,7 +16,7 @@
 #include "frames.h"
 #include "tecelume.h"
 
-enum { ROUNDS = 101, STEP = 100, OWN = 1, TURNS = 512, OTHER_TYPES = 1000, REFUSED = 10000 };
+enum { ROUNDS = 401, STEP = 100, OWN = 1, TURNS = 512, OTHER_TYPES = 1000, REFUSED = 10000 };
 
 struct row {
     unsigned length;  /* of a payload */
