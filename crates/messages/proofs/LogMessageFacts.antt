@@ -2,18 +2,18 @@
 use mathlib.Core.Path.{_≡_, refl, sym, ap, _∙_}
 use mathlib.Core.Bool.{Bool, true, false, _&&_}
 use mathlib.Core.List.{List, [], _∷_, _++_, append-assoc}
-use Prim.Native.Nat.{ℕ, _+_, _*_, _-_, _^_, _≤_, _<_}
+use Prim.Native.Nat.{ℕ, _+_, _*_, _-_, _≤_, _<_}
 use native.Mathlib.Omega.{arith}
 use borrow.Author.Tests.{ltb-true, ltb-false}
 use lib.Dec.{ltb, leb}
-use lib.ListN.{length, take, drop, length-append, length-drop}
+use lib.ListN.{length, drop, length-append, length-drop}
 use lib.Seq.{drop-drop, length-take-le}
-use Rattle.bits.specs.Order.{Octets, digits, valueFrom, unpack, number, toBits, fromBits, store}
+use Rattle.bits.specs.Order.{Octets, valueFrom, unpack, number, toBits, fromBits, store}
 use Rattle.bits.specs.Width.{widthIn, widthOf}
 use Rattle.bits.proofs.Bytes.{length-unpack, drop-unpack}
 use Rattle.bits.proofs.Octets.{octets-drop}
 use Rattle.bits.proofs.Numbers.{length-toBits, fromBits-lt}
-use Rattle.shape.specs.Answer.{Answer, refused, got, mapAnswer}
+use Rattle.shape.specs.Answer.{refused, got, mapAnswer}
 use Rattle.shape.specs.Shape.{Shape, list, tail, Values, anything, itemBits, encode, decode, decoded, fits}
 use Rattle.shape.proofs.Fields.{and-true, and-assoc, length-itemBits}
 use Rattle.shape.proofs.Reading.{Slot, value, withHead, head-read, head-short, refused-on, got-on, never, list-short, list-read, tail-long, tail-got}

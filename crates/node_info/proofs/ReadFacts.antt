@@ -1,19 +1,19 @@
 -- GetNodeInfo's response: what its reader goes by.
-use mathlib.Core.Path.{_≡_, refl, sym, ap, _∙_}
+use mathlib.Core.Path.{_≡_, refl, ap, _∙_}
 use mathlib.Core.Bool.{Bool, true, false}
 use mathlib.Core.List.{List, [], _∷_}
-use Prim.Native.Nat.{ℕ, _+_, _*_, _-_, _^_, _≤_, _<_}
+use Prim.Native.Nat.{ℕ, _+_, _^_, _≤_, _<_}
 use native.Mathlib.Omega.{arith}
 use borrow.Author.Tests.{ltb-true, ltb-false}
 use lib.Dec.{ltb}
-use lib.ListN.{length, take, drop, length-drop, drop-of-length-le}
+use lib.ListN.{length, drop, length-drop, drop-of-length-le}
 use lib.Seq.{drop-drop, length-take-le}
 use Rattle.bits.specs.Order.{Octets, valueFrom, unpack, number, fromBits}
 use Rattle.bits.specs.Width.{widthIn, widthOf}
 use Rattle.bits.proofs.Bytes.{length-unpack, drop-unpack}
 use Rattle.bits.proofs.Numbers.{fromBits-lt}
 use Rattle.bits.proofs.Octets.{octets-drop}
-use Rattle.shape.specs.Answer.{Answer, refused, got, mapAnswer}
+use Rattle.shape.specs.Answer.{refused, got, mapAnswer}
 use Rattle.shape.specs.Shape.{Shape, list, tail, Values, decode, decoded}
 use Rattle.shape.proofs.Reading.{Slot, value, gap, withHead, head-short, head-bytes, refused-on, got-on, never, items-short, items-read, list-none, list-short, list-read, tail-long, tail-not, tail-got}
 use Rattle.shape.proofs.Reading as reading

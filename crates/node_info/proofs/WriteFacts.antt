@@ -1,8 +1,8 @@
 -- GetNodeInfo's response: what its writer goes by.
 use mathlib.Core.Path.{_≡_, refl, sym, ap, _∙_}
 use mathlib.Core.Bool.{Bool, true, false, _&&_}
-use mathlib.Core.List.{List, [], _∷_, _++_, append-assoc, append-nil}
-use Prim.Native.Nat.{ℕ, _+_, _*_, _^_, _≤_, _<_}
+use mathlib.Core.List.{List, [], _++_, append-assoc, append-nil}
+use Prim.Native.Nat.{ℕ, _+_, _*_, _≤_, _<_}
 use native.Mathlib.Omega.{arith}
 use borrow.Author.Tests.{lt-ltb, le-leb, lt-leb, leb-true, eq-eqb, ne-eqb, eqb-true}
 use lib.Dec.{ltb, leb, eqb}
@@ -11,7 +11,7 @@ use Rattle.bits.specs.Order.{Octets, unpack, toBits, store}
 use Rattle.bits.specs.Width.{widthOf}
 use Rattle.bits.proofs.Bytes.{length-unpack}
 use Rattle.bits.proofs.Numbers.{length-toBits}
-use Rattle.shape.specs.Shape.{Shape, end, Values, itemBits, allBelow, encode, fits}
+use Rattle.shape.specs.Shape.{Shape, end, Values, allBelow, encode, fits}
 use Rattle.shape.proofs.Fields.{and-left, and-right, and-true, and-assoc, length-itemBits}
 use Rattle.shape.proofs.Writing.{more, more-from, item-bytes, all-bytes}
 use Rattle.messages.specs.Status.{nodeStatus, statusThen, statusValues}

@@ -1,20 +1,20 @@
 -- What was written is read: over every description.
-use mathlib.Core.Path.{_≡_, refl, sym, ap, _∙_}
-use mathlib.Core.Bool.{Bool, true, false, not, _&&_}
-use mathlib.Core.List.{List, [], _∷_, _++_, append-assoc, append-nil}
-use Prim.Native.Nat.{ℕ, zero, suc, _+_, _*_, _-_, _/_, _%_, _^_, _≤_, _<_}
+use mathlib.Core.Path.{_≡_, sym, ap, _∙_}
+use mathlib.Core.Bool.{Bool, true, false, _&&_}
+use mathlib.Core.List.{List, _++_, append-assoc}
+use Prim.Native.Nat.{ℕ, _+_, _*_, _/_, _%_, _^_, _≤_, _<_}
 use native.Mathlib.Omega.{arith}
-use borrow.Author.Tests.{lt-ltb, le-ltb, lt-leb, le-leb, ltb-true, leb-true, eqb-true}
+use borrow.Author.Tests.{le-ltb, lt-leb, ltb-true, leb-true, eqb-true}
 use lib.Dec.{ltb, leb, eqb}
 use lib.Arith.{digits-div, digits-mod}
-use lib.ListN.{length, take, drop, length-append}
-use lib.Seq.{take-at, drop-at}
+use lib.ListN.{length, drop, length-append}
+use lib.Seq.{drop-at}
 use Rattle.bits.specs.Order.{toBits, fromBits}
 use Rattle.bits.proofs.Numbers.{length-toBits, fromBits-toBits}
 use Rattle.bits.specs.Width.{widthOf}
 use Rattle.bits.proofs.Widths.{width-law}
 use Rattle.shape.specs.Answer.{Answer, got, refuseIf, mapAnswer}
-use Rattle.shape.specs.Shape.{Shape, end, num, void, items, list, tail, Values, itemBits, itemsOf, allZero, allBelow, encode, decode, fits}
+use Rattle.shape.specs.Shape.{Shape, end, num, void, items, list, tail, Values, itemBits, allZero, allBelow, encode, decode, fits}
 use Rattle.shape.specs.Laws.{Sound}
 use Rattle.shape.proofs.Fields.{and-left, and-right, length-itemBits, items-there}
 

@@ -1,15 +1,14 @@
 -- What a writer's code goes by: what it refuses, and its fields written from the front.
 use mathlib.Core.Path.{_≡_, refl, sym, ap, _∙_}
-use mathlib.Core.Bool.{Bool, true, false, not}
+use mathlib.Core.Bool.{Bool, true, false}
 use mathlib.Core.List.{List, [], _∷_, _++_, append-nil}
-use Prim.Native.Nat.{ℕ, _+_, _*_, _-_, _/_, _≤_, _<_}
+use Prim.Native.Nat.{ℕ, _+_, _*_, _-_, _≤_, _<_}
 use native.Mathlib.Omega.{arith}
 use borrow.Author.Tests.{lt-ltb, le-ltb}
-use lib.Dec.{ltb}
 use lib.ListN.{length, drop, replicate}
 use Rattle.bits.specs.Order.{Octets, digits, unpack, bytes, bytesFor, padding, octets, toBits, store}
 use Rattle.bits.proofs.Bytes.{length-bytes, store-front, store-store}
-use Rattle.shape.specs.Answer.{refused, got, refuseIf, wrote}
+use Rattle.shape.specs.Answer.{refused, got, refuseIf}
 use Rattle.shape.specs.Shape.{Shape, Values, itemBits, allBelow, encode, message, fits, encoded, written}
 
 module _ (d : Shape) (v : Values d) (m : List ℕ) where

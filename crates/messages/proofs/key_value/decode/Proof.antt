@@ -1,3 +1,4 @@
+-- `key_value::decode` meets its contract: 15, 16 or a value and its key.
 use mathlib.Core.List.{List}
 use mathlib.Core.Path.{sym, ap, _∙_}
 use Prim.Native.Nat.{ℕ}
@@ -10,10 +11,6 @@ use Rattle.messages.specs.declared.key_value.KeyValue.{KeyValue}
 use borrow.Author.Needs.{needs}
 use Rattle.messages.proofs.key_value.decode.Statement.{statement}
 use Rattle.messages.proofs.key_value.decode.Tie as tie
-use Rattle.messages.proofs.key_value.decode.Reads as reads
-use Rattle.messages.proofs.key_value.decode.Lts as lts
-use Rattle.bits.proofs.field.read.Reads as read-reads
-use Rattle.messages.proofs.key_value.key.Reads as key-reads
 
 returns : tie.Need-returns
 returns c =

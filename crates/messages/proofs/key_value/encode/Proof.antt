@@ -1,3 +1,4 @@
+-- `key_value::encode` meets its contract: 17, 8 or a value and its key.
 use mathlib.Core.Path.{sym, _∙_}
 use Prim.Native.Nat.{_+_}
 use native.Mathlib.Omega.{arith}
@@ -11,10 +12,6 @@ use Rattle.messages.specs.KeyValue.{keyValue}
 use borrow.Author.Needs.{needs}
 use Rattle.messages.proofs.key_value.encode.Statement.{statement}
 use Rattle.messages.proofs.key_value.encode.Tie as tie
-use Rattle.messages.proofs.key_value.encode.Reads as reads
-use Rattle.messages.proofs.key_value.encode.Lts as lts
-use Rattle.bits.proofs.field.write.Reads as write-reads
-use Rattle.bits.proofs.field.write_bytes.Reads as write-bytes-reads
 
 returns : tie.Need-returns
 returns c =

@@ -1,3 +1,4 @@
+-- `log_message::decode` meets its contract: 15, 16 or a message.
 use mathlib.Core.List.{List}
 use mathlib.Core.Path.{sym, ap, _∙_}
 use Prim.Native.Nat.{ℕ}
@@ -10,12 +11,6 @@ use Rattle.messages.specs.declared.log_message.LogMessage.{LogMessage}
 use borrow.Author.Needs.{needs}
 use Rattle.messages.proofs.log_message.decode.Statement.{statement}
 use Rattle.messages.proofs.log_message.decode.Tie as tie
-use Rattle.messages.proofs.log_message.decode.Reads as reads
-use Rattle.messages.proofs.log_message.decode.Lts as lts
-use Rattle.bits.proofs.field.read.Reads as read-reads
-use Rattle.messages.proofs.log_message.source.Reads as source-reads
-use Rattle.messages.proofs.log_message.source_length.Reads as source-length-reads
-use Rattle.messages.proofs.log_message.text.Reads as text-reads
 
 source-length-requires : tie.Need-source-length-requires
 source-length-requires c κs = search needs

@@ -1,3 +1,4 @@
+-- `log_message::encode` meets its contract: 17, 8 or a message.
 use mathlib.Core.Path.{sym, _∙_}
 use Prim.Native.Nat.{_+_}
 use native.Mathlib.Omega.{arith}
@@ -11,11 +12,6 @@ use Rattle.messages.specs.LogMessage.{logMessage}
 use borrow.Author.Needs.{needs}
 use Rattle.messages.proofs.log_message.encode.Statement.{statement}
 use Rattle.messages.proofs.log_message.encode.Tie as tie
-use Rattle.messages.proofs.log_message.encode.Reads as reads
-use Rattle.messages.proofs.log_message.encode.Lts as lts
-use Rattle.bits.proofs.field.write.Reads as write-reads
-use Rattle.bits.proofs.field.write_bytes.Reads as write-bytes-reads
-use Rattle.bits.proofs.width.width.Reads as width-reads
 
 returns : tie.Need-returns
 returns c =

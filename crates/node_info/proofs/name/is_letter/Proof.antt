@@ -1,3 +1,4 @@
+-- `name::is_letter` meets its contract, range by range.
 use mathlib.Core.Bool.{true, false}
 use mathlib.Core.Path.{_≡_, sym, _∙_}
 use Prim.Native.Nat.{ℕ}
@@ -6,9 +7,6 @@ use Rattle.node_info.specs.Name.{between, isLetter}
 use borrow.Author.Needs.{needs}
 use Rattle.node_info.proofs.name.is_letter.Statement.{statement}
 use Rattle.node_info.proofs.name.is_letter.Tie as tie
-use Rattle.node_info.proofs.name.is_letter.Reads as reads
-use Rattle.node_info.proofs.name.is_letter.Lts as lts
-use Rattle.node_info.proofs.name.is_between.Reads as is-between-reads
 
 module _ (c : ℕ) where
   small : between 97 122 c ≡ true → true ≡ isLetter c

@@ -1,3 +1,4 @@
+-- `name::is_name` meets its contract: the letters passed do not decide.
 use mathlib.Core.Path.{_≡_, refl, sym, _∙_}
 use Prim.Native.Nat.{_-_, _≤_, _<_}
 use native.Mathlib.Omega.{arith}
@@ -7,9 +8,6 @@ use Rattle.node_info.proofs.NameFacts.{empty, bad, next, all}
 use Rattle.node_info.specs.Name.{allLetters}
 use Rattle.node_info.proofs.name.is_name.Statement.{statement}
 use Rattle.node_info.proofs.name.is_name.Tie as tie
-use Rattle.node_info.proofs.name.is_name.Reads as reads
-use Rattle.node_info.proofs.name.is_name.Lts as lts
-use Rattle.node_info.proofs.name.is_letter.Reads as is-letter-reads
 
 abbrev Inv-loop : tie.InvT-loop
 Inv-loop s i₀ i = (0 < length s) × ((i ≤ length s) × (allLetters (drop i s) ≡ allLetters s))

@@ -1,3 +1,4 @@
+-- `response::encode` meets its contract: 17, 8 or a response.
 use mathlib.Core.Path.{sym, _∙_}
 use Prim.Native.Nat.{_+_}
 use native.Mathlib.Omega.{arith}
@@ -11,12 +12,6 @@ use Rattle.node_info.specs.Response.{lists, response, infoValues}
 use borrow.Author.Needs.{needs}
 use Rattle.node_info.proofs.response.encode.Statement.{statement}
 use Rattle.node_info.proofs.response.encode.Tie as tie
-use Rattle.node_info.proofs.response.encode.Reads as reads
-use Rattle.node_info.proofs.response.encode.Lts as lts
-use Rattle.node_info.proofs.response.fits.Reads as fits-reads
-use Rattle.node_info.proofs.response.lists_fit.Reads as lists-fit-reads
-use Rattle.node_info.proofs.response.write_info.Reads as write-info-reads
-use Rattle.node_info.proofs.response.write_lists.Reads as write-lists-reads
 
 fits-requires : tie.Need-fits-requires
 fits-requires c κs = search needs

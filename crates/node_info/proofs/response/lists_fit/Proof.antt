@@ -1,3 +1,4 @@
+-- `response::lists_fit` meets its contract, list by list.
 use mathlib.Core.Path.{_∙_}
 use native.Mathlib.Omega.{arith}
 use Rattle.bits.proofs.Octets.{octets-all}
@@ -5,9 +6,6 @@ use Rattle.node_info.proofs.WriteFacts.{no-id, no-certificate, no-name,
 use borrow.Author.Needs.{needs}
 use Rattle.node_info.proofs.response.lists_fit.Statement.{statement}
 use Rattle.node_info.proofs.response.lists_fit.Tie as tie
-use Rattle.node_info.proofs.response.lists_fit.Reads as reads
-use Rattle.node_info.proofs.response.lists_fit.Lts as lts
-use Rattle.node_info.proofs.name.is_name.Reads as is-name-reads
 
 returns : tie.Need-returns
 returns c =

@@ -1,11 +1,8 @@
+-- `response::read_info` meets its contract, field by field.
 use Rattle.node_info.specs.Response.{infoAt}
 use borrow.Author.Needs.{needs}
 use Rattle.node_info.proofs.response.read_info.Statement.{statement}
 use Rattle.node_info.proofs.response.read_info.Tie as tie
-use Rattle.node_info.proofs.response.read_info.Reads as reads
-use Rattle.node_info.proofs.response.read_info.Lts as lts
-use Rattle.bits.proofs.field.read.Reads as read-reads
-use Rattle.messages.proofs.status.read_front.Reads as read-front-reads
 
 read-front-requires : tie.Need-read-front-requires
 read-front-requires c κs = search needs

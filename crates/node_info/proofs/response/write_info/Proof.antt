@@ -1,12 +1,8 @@
-use native.Mathlib.Omega.{arith}
+-- `response::write_info` meets its contract: the fields follow each other.
 use Rattle.node_info.proofs.WriteFacts.{stored-info}
 use borrow.Author.Needs.{needs}
 use Rattle.node_info.proofs.response.write_info.Statement.{statement}
 use Rattle.node_info.proofs.response.write_info.Tie as tie
-use Rattle.node_info.proofs.response.write_info.Reads as reads
-use Rattle.node_info.proofs.response.write_info.Lts as lts
-use Rattle.bits.proofs.field.write.Reads as write-reads
-use Rattle.messages.proofs.status.write_front.Reads as write-front-reads
 
 write-front-requires : tie.Need-write-front-requires
 write-front-requires c κs = search needs

@@ -1,14 +1,10 @@
+-- `response::write_lists` meets its contract: the lists follow each other.
 use native.Mathlib.Omega.{arith}
 use Rattle.node_info.proofs.ReadFacts.{eight}
 use Rattle.node_info.proofs.WriteFacts.{stored-lists}
 use borrow.Author.Needs.{needs}
 use Rattle.node_info.proofs.response.write_lists.Statement.{statement}
 use Rattle.node_info.proofs.response.write_lists.Tie as tie
-use Rattle.node_info.proofs.response.write_lists.Reads as reads
-use Rattle.node_info.proofs.response.write_lists.Lts as lts
-use Rattle.bits.proofs.field.write.Reads as write-reads
-use Rattle.bits.proofs.field.write_bytes.Reads as write-bytes-reads
-use Rattle.bits.proofs.width.width.Reads as width-reads
 
 write-bytes-requires : tie.Need-write-bytes-requires
 write-bytes-requires c κs = search needs
