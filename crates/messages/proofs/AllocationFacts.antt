@@ -34,7 +34,8 @@ module _ (s : List ℕ) (o : Octets s) where
   only v e = ht-only head 1 refl 16 s o v e
 
 pub made : {n n' f f' l l' : ℕ} → n ≡ n' → f ≡ f' → l ≡ l'
-    → _≡_ {A = Allocation} (record { «node_id» = n; «first_part» = f; «unique_id» = record { at = 1; len = l } }) (record { «node_id» = n'; «first_part» = f'; «unique_id» = record { at = 1; len = l' } })
+    → _≡_ {A = Allocation} (record { «node_id» = n; «first_part» = f; «unique_id» = record { at = 1; len = l } })
+    (record { «node_id» = n'; «first_part» = f'; «unique_id» = record { at = 1; len = l' } })
 made a b c = cc
 
 module _ (n f : ℕ) (u : List ℕ) where

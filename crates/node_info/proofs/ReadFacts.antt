@@ -155,8 +155,10 @@ module _ (s : List ℕ) (o : Octets s) where
     go false false true ea eb ec = reading.only e (read (ltb-false (length s) (41 + n) ea) (ltb-false 80 (length (nameIn s)) eb) ec)
 
   -- the struct of what stands at these places
-  pub made : (m : NodeInfo) (u c a l : ℕ) → m ≡ infoAt (unpack s) → u ≡ length (uniqueIdIn s) → c ≡ length (certificateIn s) → a ≡ 41 + length (certificateIn s) → l ≡ length (nameIn s)
-      → _≡_ {A = Response} (record { info = m; «unique_id» = record { at = 24; len = u }; certificate = record { at = 41; len = c }; name = record { at = a; len = l } })
+  pub made : (m : NodeInfo) (u c a l : ℕ) → m ≡ infoAt (unpack s) → u ≡ length (uniqueIdIn s) → c ≡ length (certificateIn s) → a ≡ 41 + length (certificateIn s)
+      → l ≡ length (nameIn s)
+      → _≡_ {A = Response}
+      (record { info = m; «unique_id» = record { at = 24; len = u }; certificate = record { at = 41; len = c }; name = record { at = a; len = l } })
       (responseOf (responseFound s))
   unfolding infoAt statusAt
   made m u c a l e₁ e₂ e₃ e₄ e₅ = rw (e₁, e₂, e₃, e₄, e₅)

@@ -45,10 +45,12 @@ list-there : (w m : ℕ) (d : Shape) (xs : List ℕ) (r : List Bool) → length 
     → decode (list w m d) (toBits (widthOf m) (length xs) ++ (itemBits w xs ++ r)) ≡ mapAnswer (λ (v : Values d). (xs, v)) (decode d r)
 unfolding decode refuseIf
 list-there w m d xs r l h =
-    let n : fromBits (widthOf m) (toBits (widthOf m) (length xs) ++ (itemBits w xs ++ r)) ≡ length xs = fromBits-toBits (widthOf m) (length xs) (itemBits w xs ++ r) (omega (arith, width-law m .holds)) in
+    let n : fromBits (widthOf m) (toBits (widthOf m) (length xs) ++ (itemBits w xs ++ r)) ≡ length xs = fromBits-toBits (widthOf m) (length xs) (itemBits w xs ++ r)
+    (omega (arith, width-law m .holds)) in
     rw (front (widthOf m) (length xs) (itemBits w xs ++ r), n, behind (widthOf m) (length xs) (itemBits w xs ++ r), items-front w xs r, le-ltb m (length xs) l, items-there w xs r h, items-behind w xs r)
 
-tail-there : (w m : ℕ) (ok : List ℕ → Bool) (xs : List ℕ) (pad : List Bool) → 8 ≤ w → length xs ≤ m → allBelow (2 ^ w) xs ≡ true → ok xs ≡ true → length pad < 8 → allZero pad ≡ true
+tail-there : (w m : ℕ) (ok : List ℕ → Bool) (xs : List ℕ) (pad : List Bool) → 8 ≤ w → length xs ≤ m → allBelow (2 ^ w) xs ≡ true → ok xs ≡ true → length pad < 8
+    → allZero pad ≡ true
     → decode (tail w m ok) (itemBits w xs ++ pad) ≡ got xs
 unfolding decode refuseIf
 tail-there w m ok xs pad hw l h k short z =

@@ -41,12 +41,14 @@ module _ (d : Shape) (v : Values d) (m : List ℕ) where
         rw (f, size, le-ltb (length m) n h, b, size)
 
 -- one field more behind those written from bit b on
-pub more-from : (b : ℕ) (m m' m'' : List ℕ) (xs ys : List Bool) (at : ℕ) → m' ≡ store m b xs → b + length xs ≡ at → at ≤ length m * 8 → m'' ≡ store m' at ys → m'' ≡ store m b (xs ++ ys)
+pub more-from : (b : ℕ) (m m' m'' : List ℕ) (xs ys : List Bool) (at : ℕ) → m' ≡ store m b xs → b + length xs ≡ at → at ≤ length m * 8 → m'' ≡ store m' at ys
+    → m'' ≡ store m b (xs ++ ys)
 more-from b m m' m'' xs ys at e l h f =
     f ∙ ap (λ (x : List ℕ). store x at ys) e ∙ ap (λ (n : ℕ). store (store m b xs) n ys) (sym l) ∙ store-store m b xs ys (omega arith)
 
 -- from the front
-pub more : (m m' m'' : List ℕ) (xs ys : List Bool) (at : ℕ) → m' ≡ store m 0 xs → length xs ≡ at → at ≤ length m * 8 → m'' ≡ store m' at ys → m'' ≡ store m 0 (xs ++ ys)
+pub more : (m m' m'' : List ℕ) (xs ys : List Bool) (at : ℕ) → m' ≡ store m 0 xs → length xs ≡ at → at ≤ length m * 8 → m'' ≡ store m' at ys
+    → m'' ≡ store m 0 (xs ++ ys)
 more m m' m'' xs ys at e l h f = more-from 0 m m' m'' xs ys at e (omega arith) h f
 
 -- ── lists of bytes ──

@@ -38,7 +38,8 @@ returns-3 c =
     let k = q .before .before in
     let s = k .before .args .payload .now in
     let e = ap (λ (l : List ℕ). length l) (q .key .ensures) in
-    ap (λ (x : KeyValue). got x) (made (c .read .ensures) e) ∙ sym (held s (octets-all s (λ i. omega (arith, k .shared-slice-known .given i))) (omega arith) (omega (arith, e)))
+    ap (λ (x : KeyValue). got x) (made (c .read .ensures) e)
+    ∙ sym (held s (octets-all s (λ i. omega (arith, k .shared-slice-known .given i))) (omega arith) (omega (arith, e)))
 
 pub decode-spec : {M : Type 1} → statement M
 decode-spec = tie.close (tie.spec returns key-requires returns-2 read-requires returns-3)

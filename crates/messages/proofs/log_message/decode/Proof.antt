@@ -52,7 +52,8 @@ returns-3 c =
     let o = octets-all s (λ i. omega (arith, k .shared-slice-known .given i)) in
     let e = ap (λ (l : List ℕ). length l) (t .text .ensures) in
     let l = source-len s o (omega (arith, n .source-length .ensures)) in
-    ap (λ (x : LogMessage). got x) (made (c .before .read .ensures) (ap (λ (l : List ℕ). length l) (c .source .ensures)) (omega (arith, l, n .source-length .ensures)) e)
+    ap (λ (x : LogMessage). got x)
+    (made (c .before .read .ensures) (ap (λ (l : List ℕ). length l) (c .source .ensures)) (omega (arith, l, n .source-length .ensures)) e)
     ∙ sym (held s o (omega (arith, n .source-length .ensures)) (omega (arith, e)))
 
 pub decode-spec : {M : Type 1} → statement M

@@ -25,7 +25,8 @@ returns-2 c =
     let t = c .before in
     let f = t .before in
     let a = f .before .before .args in
-    refuse-8 nodeStatus (statusValues (a .x) end tt) (a .out .now) (sym (f .fits2 .ensures) ∙ not-false (f .fits2 .result) (t .if1 .left)) 7 (size (a .x)) (omega arith)
+    refuse-8 nodeStatus (statusValues (a .x) end tt) (a .out .now) (sym (f .fits2 .ensures) ∙ not-false (f .fits2 .result) (t .if1 .left)) 7 (size (a .x))
+    (omega arith)
 
 write-front-requires : tie.Need-write-front-requires
 write-front-requires c κs = search needs

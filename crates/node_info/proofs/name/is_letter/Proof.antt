@@ -46,13 +46,15 @@ returns-3 : tie.Need-returns-3
 returns-3 c =
     let f = c .before .before in
     let e = f .before .before in
-    mark _ (sym (e .before .is-between .ensures) ∙ e .if1 .left) (sym (f .before .is-between2 .ensures) ∙ f .if2 .left) (sym (c .before .is-between3 .ensures) ∙ c .if3 .taken)
+    mark _ (sym (e .before .is-between .ensures) ∙ e .if1 .left) (sym (f .before .is-between2 .ensures) ∙ f .if2 .left)
+    (sym (c .before .is-between3 .ensures) ∙ c .if3 .taken)
 
 returns-4 : tie.Need-returns-4
 returns-4 c =
     let f = c .before .before in
     let e = f .before .before in
-    other _ (sym (e .before .is-between .ensures) ∙ e .if1 .left) (sym (f .before .is-between2 .ensures) ∙ f .if2 .left) (sym (c .before .is-between3 .ensures) ∙ c .if3 .left)
+    other _ (sym (e .before .is-between .ensures) ∙ e .if1 .left) (sym (f .before .is-between2 .ensures) ∙ f .if2 .left)
+    (sym (c .before .is-between3 .ensures) ∙ c .if3 .left)
 
 pub is-letter-spec : {M : Type 1} → statement M
 is-letter-spec =

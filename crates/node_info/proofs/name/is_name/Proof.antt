@@ -31,7 +31,8 @@ returns-2 : tie.Need-returns-2 Inv-loop μ-loop
 returns-2 c =
     let n = c .before in
     let l = n .before .before .before in
-    bad (l .before .before .before .args .s .now) (l .loop .i) (omega arith) (l .loop .inv .1 .1) (sym (n .is-letter .ensures) ∙ not-true (n .is-letter .result) (c .if2 .taken))
+    bad (l .before .before .before .args .s .now) (l .loop .i) (omega arith) (l .loop .inv .1 .1)
+    (sym (n .is-letter .ensures) ∙ not-true (n .is-letter .result) (c .if2 .taken))
 
 add-i : tie.Need-add-i Inv-loop μ-loop
 add-i c = omega arith

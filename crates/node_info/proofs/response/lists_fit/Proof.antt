@@ -43,7 +43,8 @@ returns-4 c =
     let n = a .name .now in
     c .is-name .ensures
     ∙ by-name u t n (octets-all u (λ i. omega (arith, k₁ .shared-slice-known .given i))) (c .before .before .before .if1 .left)
-    (octets-all t (λ i. omega (arith, k₂ .shared-slice-known2 .given i))) (c .before .before .if2 .left) (octets-all n (λ i. omega (arith, k₃ .shared-slice-known3 .given i))) (c .before .if3 .left)
+    (octets-all t (λ i. omega (arith, k₂ .shared-slice-known2 .given i))) (c .before .before .if2 .left)
+    (octets-all n (λ i. omega (arith, k₃ .shared-slice-known3 .given i))) (c .before .if3 .left)
 
 pub lists-fit-spec : {M : Type 1} → statement M
 lists-fit-spec = tie.close (tie.spec returns returns-2 returns-3 is-name-requires returns-4)

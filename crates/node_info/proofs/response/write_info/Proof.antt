@@ -44,7 +44,8 @@ returns c =
     let k = w₁ .before .before .before .before in
     stored-info (k .args .m) (k .args .out .now) (w₁ .write-front .last .0) (w₂ .write .last .0) (w₃ .write2 .last .0) (w₄ .write3 .last .0) (w₅ .write4 .last .0)
     (w₆ .write5 .last .0) (w₇ .write6 .last .0) (w₈ .write7 .last .0) (k .pre)
-    (w₁ .write-front .ensures) (w₂ .write .ensures) (w₃ .write2 .ensures) (w₄ .write3 .ensures) (w₅ .write4 .ensures) (w₆ .write5 .ensures) (w₇ .write6 .ensures) (w₈ .write7 .ensures)
+    (w₁ .write-front .ensures) (w₂ .write .ensures) (w₃ .write2 .ensures) (w₄ .write3 .ensures) (w₅ .write4 .ensures) (w₆ .write5 .ensures) (w₇ .write6 .ensures)
+    (w₈ .write7 .ensures)
 
 pub write-info-spec : {M : Type 1} → statement M
 write-info-spec =
