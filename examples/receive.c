@@ -36,15 +36,20 @@ static uint8_t state[TECELUME_RECEIVER_SIZE];
 static uint8_t payload[TECELUME_OUTPUT_SIZE];
 
 /* A transfer is checked under the signature of its type, so a subscription names both. */
+static uint8_t *subscribe(uint8_t *record, uint32_t kind, uint32_t type_id)
+{
+    return tecelume_subscription(record, kind, type_id, tecelume_signature(kind, type_id));
+}
+
 static uint32_t set_up(void)
 {
     uint8_t list[TYPES * TECELUME_SUBSCRIPTION_SIZE];
     uint8_t *next = list;
-    next = tecelume_subscription(next, TECELUME_KIND_MESSAGE, 341, 0x0F0868D0C1A7C6F1);    /* NodeStatus */
-    next = tecelume_subscription(next, TECELUME_KIND_MESSAGE, 1, 0x0B2A812620A11D40);      /* Allocation */
-    next = tecelume_subscription(next, TECELUME_KIND_MESSAGE, 16370, 0xE02F25D6E0C98AE0);  /* KeyValue */
-    next = tecelume_subscription(next, TECELUME_KIND_MESSAGE, 16383, 0xD654A48E0C049D75);  /* LogMessage */
-    next = tecelume_subscription(next, TECELUME_KIND_SERVICE, 1, 0xEE468A8121C46A9E);      /* GetNodeInfo */
+    next = subscribe(next, TECELUME_KIND_MESSAGE, 341);    /* NodeStatus */
+    next = subscribe(next, TECELUME_KIND_MESSAGE, 1);      /* Allocation */
+    next = subscribe(next, TECELUME_KIND_MESSAGE, 16370);  /* KeyValue */
+    next = subscribe(next, TECELUME_KIND_MESSAGE, 16383);  /* LogMessage */
+    next = subscribe(next, TECELUME_KIND_SERVICE, 1);      /* GetNodeInfo */
     return tecelume_setup(state, sizeof state, OWN_ID, list, (size_t)(next - list));
 }
 

@@ -74,6 +74,12 @@ module _ {A : Type 0} (m : List A) (at : ℕ) (ys : List A) (fits : at + length 
       ∙ drop-drop (length zs) (at + length ys) m ∙ ap (λ (n : ℕ). drop n m) j in
       rw (take-splice (at + length ys) refl, d) (simp append-assoc)
 
+-- a store right behind another
+pub splice-next : {A : Type 0} (m m' m'' : List A) (at n : ℕ) (ys zs : List A) → at + n ≤ length m → length ys ≡ n → m' ≡ splice m at ys
+    → m'' ≡ splice m' (at + n) zs → m'' ≡ splice m at (ys ++ zs)
+splice-next m m' m'' at n ys zs h l e f =
+    f ∙ rw (e, ← l) (splice-splice m at ys (omega arith) zs)
+
 -- a store over all of m
 pub splice-all : {A : Type 0} (m ys : List A) → length ys ≡ length m → splice m 0 ys ≡ ys
 splice-all m ys e =

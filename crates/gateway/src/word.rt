@@ -1,8 +1,12 @@
 // Answers as numbers.
-use session::Answer;
-use session::Transfer;
-use setup::Outcome;
+use transport::Answer;
+use transport::Outcome;
+use transport::Sent;
+use transport::Transfer;
 ghost use mathlib.Core.Path.{_≡_};
+ghost use Prim.Native.Nat.{_+_, _*_, _^_, _≤_};
+ghost use Rattle.map.specs.SetUp as setting;
+ghost use Rattle.sender.specs.Send as send;
 ghost use Rattle.setup.specs.Setup.{numberOf};
 ghost use Rattle.gateway.specs.Word.{transferWord, wordOf};
 
@@ -40,5 +44,28 @@ pub fn of_answer(a: Answer) -> u64
         Answer::TooLong => 11,
         Answer::BadChecksum => 12,
         Answer::Faulty => 20,
+    }
+}
+
+pub fn of_map_outcome(o: map::Outcome) -> u32
+    ensures { λ r. ⌜ r ≡ setting.numberOf o ⌝ }
+{
+    match o {
+        map::Outcome::Done => 0,
+        map::Outcome::Short => 20,
+    }
+}
+
+pub fn of_sent(a: Sent) -> u64
+    requires { ⌜ send.framesOf a ≤ 74 ⌝ }
+    ensures { λ r. ⌜ r ≡ send.numberOf a + send.framesOf a * 2 ^ 8 ⌝ }
+{
+    match a {
+        Sent::Done(n) => n as u64 * 0x100,
+        Sent::OutputSmall => 8,
+        Sent::MapFull => 9,
+        Sent::TooLong => 11,
+        Sent::Misfit => 14,
+        Sent::Faulty => 20,
     }
 }

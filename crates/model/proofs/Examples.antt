@@ -42,7 +42,7 @@ example =
         record {
           size = omega arith;
           fields = (omega arith, omega arith);
-          signature = 0xE02F25D6E0C98AE0;
+          signature = 0x0123456789ABCDEF;
           subscribed = refl;
           brings =
               again 10000000 (omega arith)

@@ -2,7 +2,7 @@
 use mathlib.Core.Path.{_≡_}
 use mathlib.Core.Bool.{true, false}
 use mathlib.Core.List.{List, [], _∷_}
-use Prim.Native.Nat.{ℕ, zero, suc}
+use Prim.Native.Nat.{ℕ, zero, suc, _^_}
 use lib.ListN.{take}
 use Rattle.model.specs.Answer.{handed}
 use Rattle.model.specs.Check.{Reception}
@@ -15,31 +15,31 @@ use Rattle.model.specs.Table.{held, Places, begun}
 
 -- ── the stream ──
 
--- Allocation, NodeStatus and KeyValue
+-- three types of message, any signatures
 abbrev pub setup : Setup
 setup =
     record {
       own = 1;
       subscriptions =
-          record { kind = 0; type = 1; signature = 0x0B2A812620A11D40 } ∷
-          record { kind = 0; type = 341; signature = 0x0F0868D0C1A7C6F1 } ∷
-          record { kind = 0; type = 16370; signature = 0xE02F25D6E0C98AE0 } ∷ [];
+          record { kind = 0; type = 1; signature = 7 } ∷
+          record { kind = 0; type = 341; signature = 2 ^ 63 } ∷
+          record { kind = 0; type = 16370; signature = 0x0123456789ABCDEF } ∷ [];
     }
 
--- KeyValue from a source
-abbrev pub keyValue : ℕ → Stream
-keyValue source = record { kind = 0; type = 16370; source = source; destination = 0 }
+-- the third, from a source
+abbrev pub message : ℕ → Stream
+message source = record { kind = 0; type = 16370; source = source; destination = 0 }
 
 abbrev pub stream : Stream
-stream = keyValue 42
+stream = message 42
 
--- 45.0 under "pan_angle"
+-- 13 bytes: with the checksum three frames
 abbrev pub payload : List ℕ
 payload = 0x00 ∷ 0x00 ∷ 0x34 ∷ 0x42 ∷ 0x70 ∷ 0x61 ∷ 0x6E ∷ 0x5F ∷ 0x61 ∷ 0x6E ∷ 0x67 ∷ 0x6C ∷ 0x65 ∷ []
 
 -- its frames with transfer ID 5
 abbrev pub one : List ℕ
-one = 0xEB ∷ 0x95 ∷ 0x00 ∷ 0x00 ∷ 0x34 ∷ 0x42 ∷ 0x70 ∷ 0x85 ∷ []
+one = 0xEB ∷ 0x4A ∷ 0x00 ∷ 0x00 ∷ 0x34 ∷ 0x42 ∷ 0x70 ∷ 0x85 ∷ []
 
 abbrev pub two : List ℕ
 two = 0x61 ∷ 0x6E ∷ 0x5F ∷ 0x61 ∷ 0x6E ∷ 0x67 ∷ 0x6C ∷ 0x25 ∷ []
@@ -62,10 +62,10 @@ start = frame one 10000000
 
 -- ── two receivers ──
 
--- n sessions of KeyValue from the sources n to 1, with nothing in hand, begun at a time
+-- n sessions of such messages from the sources n to 1, with nothing in hand, begun at a time
 unfoldable pub crowd : ℕ → ℕ → Places
 crowd since zero = []
-crowd since (suc n) = held (keyValue (suc n)) (record { expected = 5; gathered = []; toggle = false; since = since }) ∷ crowd since n
+crowd since (suc n) = held (message (suc n)) (record { expected = 5; gathered = []; toggle = false; since = since }) ∷ crowd since n
 
 -- One has heard a whole single frame, its repeat and a bad one. Between the stream's frames it hears a frame of too large an ID, another stream's start,
 -- a type with no subscription, an anonymous frame and one with no data.

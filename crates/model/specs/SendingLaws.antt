@@ -50,6 +50,8 @@ pub record RecordLaws : Type 0 where
   -- there are as many records, and they fit in the room
   pub size : (c : Call) (m : Map) (room : ℕ) → length (sendStep c m room .records) ≡ 13 * framesOf (sendStep c m room .answer)
   pub room : (c : Call) (m : Map) (room : ℕ) → length (sendStep c m room .records) ≤ room
+  -- no call makes more frames than a payload of 512 bytes
+  pub few : (c : Call) (m : Map) (room : ℕ) → framesOf (sendStep c m room .answer) ≤ 74
   -- record n gives back the n-th frame's ID and data
   pub back : (id signature t : ℕ) (p : List ℕ) (time n : ℕ) → id < 2 ^ 32 → n < frameCount (length p)
       → frameIn (recordsOf id (sent signature t p)) time n ≡ frameAt id (getD (sent signature t p) n []) time

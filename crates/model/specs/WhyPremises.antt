@@ -70,7 +70,7 @@ late = receiver begun (received two 10100000 ∷ received three 12000001 ∷ [])
 
 -- of a transfer of four frames the second is repeated after the third: it is taken as the fourth
 abbrev pub first : Frame
-first = frame (0xB8 ∷ 0xD8 ∷ 0x00 ∷ 0x00 ∷ 0x34 ∷ 0x42 ∷ 0x70 ∷ 0x85 ∷ []) 10000000
+first = frame (0x3F ∷ 0x13 ∷ 0x00 ∷ 0x00 ∷ 0x34 ∷ 0x42 ∷ 0x70 ∷ 0x85 ∷ []) 10000000
 
 abbrev pub third : List ℕ
 third = 0x65 ∷ 0x5F ∷ 0x64 ∷ 0x65 ∷ 0x67 ∷ 0x72 ∷ 0x65 ∷ 0x05 ∷ []

@@ -106,26 +106,26 @@ fn main() {
     row(
         b"uavcan.protocol.NodeStatus",
         node_status(),
-        0x0F0868D0C1A7C6F1,
+        types::signature(0, 341),
     );
     row(
         b"uavcan.protocol.GetNodeInfo",
         get_node_info(),
-        0xEE468A8121C46A9E,
+        types::signature(1, 1),
     );
     row(
         b"uavcan.protocol.dynamic_node_id.Allocation",
         allocation(),
-        0x0B2A812620A11D40,
+        types::signature(0, 1),
     );
     row(
         b"uavcan.protocol.debug.KeyValue",
         key_value(),
-        0xE02F25D6E0C98AE0,
+        types::signature(0, 16370),
     );
     row(
         b"uavcan.protocol.debug.LogMessage",
         log_message(),
-        0xD654A48E0C049D75,
+        types::signature(0, 16383),
     );
 }

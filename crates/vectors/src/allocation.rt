@@ -29,7 +29,7 @@ fn answer(map: &mut [u8; 416], time: u64, payload: &[u8]) {
         type_id: 1,
         destination: 0,
         priority: 30,
-        signature: 0x0B2A812620A11D40,
+        signature: types::signature(0, 1),
         time: time,
         transfer_id: 0,
         discriminator: 0,

@@ -1,0 +1,31 @@
+-- 01, Messages: the standard types, with the signatures of the public DroneCAN set. The program `signatures` works them out by the rule of 004.
+use mathlib.Core.List.{List, [], _∷_, _++_}
+use Prim.Native.Nat.{ℕ}
+use Rattle.bits.specs.Little.{leBytes}
+use Rattle.model.specs.Check.{orZero}
+use Rattle.model.specs.Setup.{Subscription, subscribed}
+
+abbrev pub standard : List Subscription
+standard =
+    -- NodeStatus
+    record { kind = 0; type = 341; signature = 0x0F0868D0C1A7C6F1 } ∷
+    -- GetNodeInfo
+    record { kind = 1; type = 1; signature = 0xEE468A8121C46A9E } ∷
+    -- Allocation
+    record { kind = 0; type = 1; signature = 0x0B2A812620A11D40 } ∷
+    -- KeyValue
+    record { kind = 0; type = 16370; signature = 0xE02F25D6E0C98AE0 } ∷
+    -- LogMessage
+    record { kind = 0; type = 16383; signature = 0xD654A48E0C049D75 } ∷ []
+
+-- 0: no standard type
+unfoldable pub signatureOf : ℕ → ℕ → ℕ
+signatureOf kind type = orZero (subscribed kind type standard)
+
+-- a subscription as a setup takes it: kind (1), type ID (4), signature (8), low byte first
+unfoldable pub record13 : ℕ → ℕ → ℕ → List ℕ
+record13 kind type signature = leBytes 1 kind ++ (leBytes 4 type ++ leBytes 8 signature)
+
+unfoldable pub records : List Subscription → List ℕ
+records [] = []
+records (a ∷ more) = record13 (a .kind) (a .type) (a .signature) ++ records more
