@@ -1,16 +1,16 @@
 -- Allocation: what its reader and its writer go by.
 use mathlib.Core.Path.{_≡_, refl, sym, ap, _∙_}
-use mathlib.Core.Bool.{Bool, true, false}
+use mathlib.Core.Bool.{Bool, true, false, _&&_}
 use mathlib.Core.List.{List, [], _∷_, _++_, append-assoc}
 use Prim.Native.Nat.{ℕ, _+_, _*_, _^_, _≤_, _<_}
 use native.Mathlib.Omega.{arith}
-use borrow.Author.Tests.{lt-ltb, le-ltb, le-leb, lt-leb}
+use lib.Dec.{ltb, leb}
 use lib.ListN.{length, drop, length-append}
 use Rattle.bits.specs.Order.{Octets, unpack, toBits, fromBits, store}
 use Rattle.bits.proofs.Numbers.{length-toBits}
 use Rattle.shape.specs.Answer.{refused, got}
 use Rattle.shape.specs.Shape.{Values, encode, decoded, fits}
-use Rattle.shape.proofs.Fields.{length-itemBits}
+use Rattle.shape.proofs.Fields.{and-true, and-assoc, length-itemBits}
 use Rattle.shape.proofs.Reading.{Slot, value, refused-on, got-on, ht-short, ht-long, ht-held, ht-only}
 use Rattle.shape.proofs.Writing.{more, item-bytes, all-bytes}
 use Rattle.messages.specs.Allocation.{allocation, uniqueIdIn, allocationOf, allocationIn}
@@ -41,21 +41,9 @@ module _ (n f : ℕ) (u : List ℕ) where
   unfolding encode
   size = simp (length-append, length-toBits, length-itemBits) (omega arith)
 
-  pub fit : Octets u → n ≤ 127 → f ≤ 1 → length u ≤ 16 → fits allocation (n, (f, u)) ≡ true
+  pub fit : Octets u → (ltb n 128 && ltb f 2) && leb (length u) 16 ≡ fits allocation (n, (f, u))
   unfolding fits
-  fit o a b c = rw (lt-ltb n 128 (omega arith), lt-ltb f 2 (omega arith), le-leb (length u) 16 c, all-bytes u o)
-
-  pub no-node : 127 < n → fits allocation (n, (f, u)) ≡ false
-  unfolding fits
-  no-node a = rw (le-ltb n 128 (omega arith))
-
-  pub no-first : n ≤ 127 → 1 < f → fits allocation (n, (f, u)) ≡ false
-  unfolding fits
-  no-first a b = rw (lt-ltb n 128 (omega arith), le-ltb f 2 (omega arith))
-
-  pub no-unique : n ≤ 127 → f ≤ 1 → 16 < length u → fits allocation (n, (f, u)) ≡ false
-  unfolding fits
-  no-unique a b c = rw (lt-ltb n 128 (omega arith), lt-ltb f 2 (omega arith), lt-leb (length u) 16 c)
+  fit o = rw (all-bytes u o) (simp (and-assoc, and-true))
 
   pub stored : (m₀ m₁ m₂ m₃ : List ℕ) → 1 ≤ length m₀ → m₁ ≡ store m₀ 0 (toBits 7 n) → m₂ ≡ store m₁ 7 (toBits 1 f) → m₃ ≡ store m₂ 8 (unpack u)
       → m₃ ≡ store m₀ 0 (encode allocation (n, (f, u)))

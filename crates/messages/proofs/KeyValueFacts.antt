@@ -1,16 +1,16 @@
 -- KeyValue: what its reader and its writer go by.
 use mathlib.Core.Path.{_≡_, refl, sym, ap, _∙_}
-use mathlib.Core.Bool.{Bool, true, false}
+use mathlib.Core.Bool.{Bool, true, false, _&&_}
 use mathlib.Core.List.{List, [], _∷_, _++_}
 use Prim.Native.Nat.{ℕ, _+_, _*_, _^_, _≤_, _<_}
 use native.Mathlib.Omega.{arith}
-use borrow.Author.Tests.{lt-ltb, le-ltb, le-leb, lt-leb}
+use lib.Dec.{ltb, leb}
 use lib.ListN.{length, drop, length-append}
 use Rattle.bits.specs.Order.{Octets, unpack, toBits, fromBits, store}
 use Rattle.bits.proofs.Numbers.{length-toBits}
 use Rattle.shape.specs.Answer.{refused, got}
 use Rattle.shape.specs.Shape.{Values, encode, decoded, fits}
-use Rattle.shape.proofs.Fields.{length-itemBits}
+use Rattle.shape.proofs.Fields.{and-true, and-assoc, length-itemBits}
 use Rattle.shape.proofs.Reading.{Slot, value, refused-on, got-on, ht-short, ht-long, ht-held, ht-only}
 use Rattle.shape.proofs.Writing.{more, item-bytes, all-bytes}
 use Rattle.messages.specs.KeyValue.{keyValue, keyIn, keyValueOf, keyValueIn}
@@ -41,17 +41,9 @@ module _ (v : ℕ) (key : List ℕ) where
   unfolding encode
   size = simp (length-append, length-toBits, length-itemBits) (omega arith)
 
-  pub fit : Octets key → v ≤ 4294967295 → length key ≤ 58 → fits keyValue (v, key) ≡ true
+  pub fit : Octets key → ltb v 4294967296 && leb (length key) 58 ≡ fits keyValue (v, key)
   unfolding fits
-  fit o a b = rw (lt-ltb v 4294967296 (omega arith), le-leb (length key) 58 b, all-bytes key o)
-
-  pub no-value : 4294967295 < v → fits keyValue (v, key) ≡ false
-  unfolding fits
-  no-value a = rw (le-ltb v 4294967296 (omega arith))
-
-  pub no-key : v ≤ 4294967295 → 58 < length key → fits keyValue (v, key) ≡ false
-  unfolding fits
-  no-key a b = rw (lt-ltb v 4294967296 (omega arith), lt-leb (length key) 58 b)
+  fit o = rw (all-bytes key o) (simp and-true)
 
   pub stored : (m₀ m₁ m₂ : List ℕ) → 4 ≤ length m₀ → m₁ ≡ store m₀ 0 (toBits 32 v) → m₂ ≡ store m₁ 32 (unpack key) → m₂ ≡ store m₀ 0 (encode keyValue (v, key))
   unfolding encode

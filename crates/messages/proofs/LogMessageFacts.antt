@@ -1,11 +1,11 @@
 -- LogMessage: what its reader and its writer go by.
 use mathlib.Core.Path.{_≡_, refl, sym, ap, _∙_}
-use mathlib.Core.Bool.{Bool, true, false}
+use mathlib.Core.Bool.{Bool, true, false, _&&_}
 use mathlib.Core.List.{List, [], _∷_, _++_, append-assoc}
 use Prim.Native.Nat.{ℕ, _+_, _*_, _-_, _^_, _≤_, _<_}
 use native.Mathlib.Omega.{arith}
-use borrow.Author.Tests.{lt-ltb, le-ltb, le-leb, lt-leb, ltb-true, ltb-false}
-use lib.Dec.{ltb}
+use borrow.Author.Tests.{ltb-true, ltb-false}
+use lib.Dec.{ltb, leb}
 use lib.ListN.{length, take, drop, length-append, length-drop}
 use lib.Seq.{drop-drop, length-take-le}
 use Rattle.bits.specs.Order.{Octets, digits, valueFrom, unpack, number, toBits, fromBits, store}
@@ -15,7 +15,7 @@ use Rattle.bits.proofs.Octets.{octets-drop}
 use Rattle.bits.proofs.Numbers.{length-toBits, fromBits-lt}
 use Rattle.shape.specs.Answer.{Answer, refused, got, mapAnswer}
 use Rattle.shape.specs.Shape.{Shape, list, tail, Values, anything, itemBits, encode, decode, decoded, fits}
-use Rattle.shape.proofs.Fields.{length-itemBits}
+use Rattle.shape.proofs.Fields.{and-true, and-assoc, length-itemBits}
 use Rattle.shape.proofs.Reading.{Slot, value, withHead, head-read, head-short, refused-on, got-on, never, list-short, list-read, tail-long, tail-got}
 use Rattle.shape.proofs.Reading as reading
 use Rattle.shape.proofs.Writing.{more, item-bytes, all-bytes}
@@ -127,21 +127,9 @@ module _ (v : ℕ) (xs ys : List ℕ) where
   unfolding encode
   size = simp (length-append, length-toBits, length-itemBits) (omega (arith, five))
 
-  pub fit : Octets xs → Octets ys → v ≤ 7 → length xs ≤ 31 → length ys ≤ 90 → fits logMessage (v, (xs, ys)) ≡ true
+  pub fit : Octets xs → Octets ys → (ltb v 8 && leb (length xs) 31) && leb (length ys) 90 ≡ fits logMessage (v, (xs, ys))
   unfolding fits
-  fit o q a b c = rw (lt-ltb v 8 (omega arith), le-leb (length xs) 31 b, all-bytes xs o, le-leb (length ys) 90 c, all-bytes ys q)
-
-  pub no-level : 7 < v → fits logMessage (v, (xs, ys)) ≡ false
-  unfolding fits
-  no-level a = rw (le-ltb v 8 (omega arith))
-
-  pub no-source : v ≤ 7 → 31 < length xs → fits logMessage (v, (xs, ys)) ≡ false
-  unfolding fits
-  no-source a b = rw (lt-ltb v 8 (omega arith), lt-leb (length xs) 31 b)
-
-  pub no-text : Octets xs → v ≤ 7 → length xs ≤ 31 → 90 < length ys → fits logMessage (v, (xs, ys)) ≡ false
-  unfolding fits
-  no-text o a b c = rw (lt-ltb v 8 (omega arith), le-leb (length xs) 31 b, all-bytes xs o, lt-leb (length ys) 90 c)
+  fit o q = rw (all-bytes xs o, all-bytes ys q) (simp (and-assoc, and-true))
 
   -- w: the width that the code works out
   pub stored : (w : ℕ) → w ≡ widthOf 31 → (m₀ m₁ m₂ m₃ m₄ : List ℕ) → 1 + length xs ≤ length m₀ → m₁ ≡ store m₀ 0 (toBits 3 v) → m₂ ≡ store m₁ 3 (toBits w (length xs))

@@ -1,10 +1,9 @@
 -- NodeStatus: what its reader and its writer go by.
-use mathlib.Core.Path.{_≡_, refl, sym, ap, _∙_}
-use mathlib.Core.Bool.{Bool, true, false}
+use mathlib.Core.Path.{_≡_, refl, ap, _∙_}
+use mathlib.Core.Bool.{Bool, _&&_}
 use mathlib.Core.List.{List, [], _∷_, _++_, append-assoc, append-nil}
 use Prim.Native.Nat.{ℕ, _+_, _*_, _^_, _≤_, _<_}
 use native.Mathlib.Omega.{arith}
-use borrow.Author.Tests.{lt-ltb, le-ltb}
 use lib.Dec.{ltb}
 use lib.ListN.{length, drop, length-append, length-drop}
 use Rattle.bits.specs.Order.{unpack, toBits, fromBits, store}
@@ -12,7 +11,7 @@ use Rattle.bits.proofs.Bytes.{length-unpack}
 use Rattle.bits.proofs.Numbers.{length-toBits}
 use Rattle.shape.specs.Answer.{refused, got, mapAnswer}
 use Rattle.shape.specs.Shape.{end, encode, decoded, fits}
-use Rattle.shape.proofs.Fields.{and-true}
+use Rattle.shape.proofs.Fields.{and-true, and-assoc}
 use Rattle.shape.proofs.Reading.{Slot, value, gap, withHead, head-short, head-bytes, end-none, end-left, refused-on, got-on}
 use Rattle.shape.proofs.Writing.{more}
 use Rattle.messages.specs.Status.{nodeStatus, statusValues, statusOf, statusIn, statusAt}
@@ -49,21 +48,9 @@ module _ (x : NodeStatus) where
   unfolding encode
   size = simp (length-append, length-toBits)
 
-  pub fit : x .uptime ≤ 4294967295 → x .health ≤ 3 → x .mode ≤ 7 → ltb (x .vendor) 65536 ≡ fits nodeStatus (statusValues x end tt)
+  pub fit : ((ltb (x .uptime) 4294967296 && ltb (x .health) 4) && ltb (x .mode) 8) && ltb (x .vendor) 65536 ≡ fits nodeStatus (statusValues x end tt)
   unfolding fits
-  fit a b c = rw (lt-ltb (x .uptime) 4294967296 (omega arith), lt-ltb (x .health) 4 (omega arith), lt-ltb (x .mode) 8 (omega arith)) (sym (and-true (ltb (x .vendor) 65536)))
-
-  pub no-uptime : 4294967295 < x .uptime → false ≡ fits nodeStatus (statusValues x end tt)
-  unfolding fits
-  no-uptime a = rw (le-ltb (x .uptime) 4294967296 (omega arith))
-
-  pub no-health : x .uptime ≤ 4294967295 → 3 < x .health → false ≡ fits nodeStatus (statusValues x end tt)
-  unfolding fits
-  no-health a b = rw (lt-ltb (x .uptime) 4294967296 (omega arith), le-ltb (x .health) 4 (omega arith))
-
-  pub no-mode : x .uptime ≤ 4294967295 → x .health ≤ 3 → 7 < x .mode → false ≡ fits nodeStatus (statusValues x end tt)
-  unfolding fits
-  no-mode a b c = rw (lt-ltb (x .uptime) 4294967296 (omega arith), lt-ltb (x .health) 4 (omega arith), le-ltb (x .mode) 8 (omega arith))
+  fit = simp (and-assoc, and-true)
 
   pub stored : (m₀ m₁ m₂ m₃ m₄ m₅ : List ℕ) → 7 ≤ length m₀ → m₁ ≡ store m₀ 0 (toBits 32 (x .uptime)) → m₂ ≡ store m₁ 32 (toBits 2 (x .health))
       → m₃ ≡ store m₂ 34 (toBits 3 (x .mode)) → m₄ ≡ store m₃ 37 (toBits 3 0) → m₅ ≡ store m₄ 40 (toBits 16 (x .vendor)) → m₅ ≡ store m₀ 0 (encode nodeStatus (statusValues x end tt))

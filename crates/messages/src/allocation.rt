@@ -46,13 +46,8 @@ pub fn decode(payload: &[u8]) -> Read
 pub fn encode(node_id: u64, first_part: u64, unique_id: &[u8], out: &mut [u8]) -> Written
     ensures { λ r. ⌜ (answer.answerOf r, now (out .exit)) ≡ written allocation («node_id», («first_part», now («unique_id» .entry))) (now (out .entry)) ⌝ }
 {
-    if 127 < node_id {
-        return Written::Refused(17);
-    }
-    if 1 < first_part {
-        return Written::Refused(17);
-    }
-    if 16 < unique_id.len() {
+    let fits = (node_id < 128) & (first_part < 2) & (unique_id.len() <= 16);
+    if !fits {
         return Written::Refused(17);
     }
     let n = 1 + unique_id.len();

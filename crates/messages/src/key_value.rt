@@ -45,10 +45,8 @@ pub fn decode(payload: &[u8]) -> Read
 pub fn encode(value: u64, key: &[u8], out: &mut [u8]) -> Written
     ensures { λ r. ⌜ (answer.answerOf r, now (out .exit)) ≡ written keyValue (value, now (key .entry)) (now (out .entry)) ⌝ }
 {
-    if 4294967295 < value {
-        return Written::Refused(17);
-    }
-    if 58 < key.len() {
+    let fits = (value < 4294967296) & (key.len() <= 58);
+    if !fits {
         return Written::Refused(17);
     }
     let n = 4 + key.len();

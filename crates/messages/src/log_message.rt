@@ -68,13 +68,8 @@ pub fn decode(payload: &[u8]) -> Read
 pub fn encode(level: u64, source: &[u8], text: &[u8], out: &mut [u8]) -> Written
     ensures { λ r. ⌜ (answer.answerOf r, now (out .exit)) ≡ written logMessage (level, (now (source .entry), now (text .entry))) (now (out .entry)) ⌝ }
 {
-    if 7 < level {
-        return Written::Refused(17);
-    }
-    if 31 < source.len() {
-        return Written::Refused(17);
-    }
-    if 90 < text.len() {
+    let fits = (level < 8) & (source.len() <= 31) & (text.len() <= 90);
+    if !fits {
         return Written::Refused(17);
     }
     let at = 1 + source.len();

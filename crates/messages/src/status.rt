@@ -55,16 +55,7 @@ pub fn decode(payload: &[u8]) -> Read
 pub fn fits(x: NodeStatus) -> bool
     ensures { λ r. ⌜ r ≡ shape.fits nodeStatus (statusValues x end tt) ⌝ }
 {
-    if 4294967295 < x.uptime {
-        return false;
-    }
-    if 3 < x.health {
-        return false;
-    }
-    if 7 < x.mode {
-        return false;
-    }
-    x.vendor < 65536
+    (x.uptime < 4294967296) & (x.health < 4) & (x.mode < 8) & (x.vendor < 65536)
 }
 
 // Internal. The 56 bits of a status, from the front.

@@ -1,6 +1,10 @@
 // What a node's name may hold.
+ghost use mathlib.Core.Path.{_≡_};
+ghost use Rattle.node_info.specs.Name.{between, isLetter, isName};
 
-fn is_between(low: u8, c: u8, high: u8) -> bool {
+fn is_between(low: u8, c: u8, high: u8) -> bool
+    ensures { λ r. ⌜ r ≡ between low high c ⌝ }
+{
     if low <= c {
         return c <= high;
     }
@@ -8,7 +12,9 @@ fn is_between(low: u8, c: u8, high: u8) -> bool {
 }
 
 // a-z, 0-9, dash and dot, underscore.
-fn is_letter(c: u8) -> bool {
+fn is_letter(c: u8) -> bool
+    ensures { λ r. ⌜ r ≡ isLetter c ⌝ }
+{
     if is_between(97, c, 122) {
         return true;
     }
@@ -22,7 +28,9 @@ fn is_letter(c: u8) -> bool {
 }
 
 // Internal. Not empty, and of these letters alone.
-pub fn is_name(s: &[u8]) -> bool {
+pub fn is_name(s: &[u8]) -> bool
+    ensures { λ r. ⌜ r ≡ isName (now (s .entry)) ⌝ }
+{
     if s.len() == 0 {
         return false;
     }

@@ -1,12 +1,18 @@
 // The request: it holds nothing.
 use shape::answer::Written;
+ghost use mathlib.Core.Path.{_≡_};
+ghost use Rattle.shape.specs.Answer as answer;
+ghost use Rattle.shape.specs.Shape.{decoded, written};
+ghost use Rattle.node_info.specs.Request.{request, answerOf};
 
 pub enum Read {
     Refused(u32),
     Got,
 }
 
-pub fn decode(payload: &[u8]) -> Read {
+pub fn decode(payload: &[u8]) -> Read
+    ensures { λ r. ⌜ answerOf r ≡ decoded request (now (payload .entry)) ⌝ }
+{
     if 0 < payload.len() {
         return Read::Refused(16);
     }
@@ -14,6 +20,8 @@ pub fn decode(payload: &[u8]) -> Read {
 }
 
 // No byte is written, and any buffer will do.
-pub fn encode(out: &mut [u8]) -> Written {
+pub fn encode(out: &mut [u8]) -> Written
+    ensures { λ r. ⌜ (answer.answerOf r, now (out .exit)) ≡ written request tt (now (out .entry)) ⌝ }
+{
     Written::Wrote(0)
 }

@@ -7,6 +7,15 @@ use messages::status::NodeStatus;
 use shape::answer::Place;
 use shape::answer::Written;
 use shape::part;
+ghost use mathlib.Core.Path.{_≡_};
+ghost use Prim.Native.Nat.{_+_, _≤_};
+ghost use lib.ListN.{length};
+ghost use Rattle.bits.specs.Order.{unpack, store};
+ghost use Rattle.shape.specs.Answer as answer;
+ghost use Rattle.shape.specs.Shape as shape;
+ghost use Rattle.shape.specs.Shape.{end, written};
+ghost use Rattle.messages.specs.Status.{statusThen};
+ghost use Rattle.node_info.specs.Response.{versionsThen, lists, response, certificateLength, uniqueIdIn, certificateIn, nameIn, infoValues, responseIn, infoAt, answerOf};
 
 // The numbers of a response.
 pub struct NodeInfo {
@@ -33,7 +42,9 @@ pub enum Read {
 }
 
 // What the certificate's length field says; 0 where the payload ends before it.
-fn certificate_length(payload: &[u8]) -> usize {
+fn certificate_length(payload: &[u8]) -> usize
+    ensures { λ r. ⌜ r ≡ certificateLength (now (payload .entry)) ⌝ }
+{
     if payload.len() < 41 {
         return 0;
     }
@@ -41,21 +52,31 @@ fn certificate_length(payload: &[u8]) -> usize {
 }
 
 // The unique ID, as a part of the payload: the 16 bytes from byte 24 on.
-pub fn unique_id(payload: &[u8]) -> &[u8] {
+pub fn unique_id(payload: &[u8]) -> &[u8]
+    ensures { λ r. ⌜ now r ≡ uniqueIdIn (now (payload .entry)) ⌝ }
+{
     part::within(payload, 24, 16)
 }
 
 // The certificate, as a part of the payload: from byte 41 on, as long as its length field says.
-pub fn certificate(payload: &[u8]) -> &[u8] {
+pub fn certificate(payload: &[u8]) -> &[u8]
+    ensures { λ r. ⌜ now r ≡ certificateIn (now (payload .entry)) ⌝ }
+{
     part::within(payload, 41, certificate_length(payload))
 }
 
 // The name, as a part of the payload: all behind the certificate.
-pub fn name(payload: &[u8]) -> &[u8] {
+pub fn name(payload: &[u8]) -> &[u8]
+    ensures { λ r. ⌜ now r ≡ nameIn (now (payload .entry)) ⌝ }
+{
     part::behind(payload, 41 + certificate_length(payload))
 }
 
-fn read_info(s: &[u8]) -> NodeInfo {
+// The numbers in the first 24 bytes.
+fn read_info(s: &[u8]) -> NodeInfo
+    requires { ⌜ 24 ≤ length (now s) ⌝ }
+    ensures { λ r. ⌜ r ≡ infoAt (unpack (now (s .entry))) ⌝ }
+{
     NodeInfo {
         status: status::read_front(s),
         software_major: field::read(s, 56, 8),
@@ -68,7 +89,9 @@ fn read_info(s: &[u8]) -> NodeInfo {
     }
 }
 
-pub fn decode(payload: &[u8]) -> Read {
+pub fn decode(payload: &[u8]) -> Read
+    ensures { λ r. ⌜ answerOf r ≡ responseIn (now (payload .entry)) ⌝ }
+{
     let at = 41 + certificate_length(payload);
     if payload.len() < at {
         return Read::Refused(15);
@@ -95,35 +118,24 @@ pub fn decode(payload: &[u8]) -> Read {
     })
 }
 
-fn is_byte(x: u64) -> bool {
-    x <= 255
-}
-
 // Every number fits its field; the image CRC always does.
-fn fits(m: NodeInfo) -> bool {
+fn fits(m: NodeInfo) -> bool
+    ensures { λ r. ⌜ r ≡ shape.fits (statusThen (versionsThen end)) (infoValues m end tt) ⌝ }
+{
     let s = m.status;
-    if !status::fits(s) {
-        return false;
-    }
-    if !is_byte(m.software_major) {
-        return false;
-    }
-    if !is_byte(m.software_minor) {
-        return false;
-    }
-    if !is_byte(m.software_flags) {
-        return false;
-    }
-    if 4294967295 < m.software_commit {
-        return false;
-    }
-    if !is_byte(m.hardware_major) {
-        return false;
-    }
-    is_byte(m.hardware_minor)
+    status::fits(s)
+        & (m.software_major < 256)
+        & (m.software_minor < 256)
+        & (m.software_flags < 256)
+        & (m.software_commit < 4294967296)
+        & (m.hardware_major < 256)
+        & (m.hardware_minor < 256)
 }
 
-fn lists_fit(unique_id: &[u8], certificate: &[u8], name: &[u8]) -> bool {
+// Every list fits.
+fn lists_fit(unique_id: &[u8], certificate: &[u8], name: &[u8]) -> bool
+    ensures { λ r. ⌜ r ≡ shape.fits lists (now («unique_id» .entry), (now (certificate .entry), now (name .entry))) ⌝ }
+{
     if unique_id.len() != 16 {
         return false;
     }
@@ -136,7 +148,11 @@ fn lists_fit(unique_id: &[u8], certificate: &[u8], name: &[u8]) -> bool {
     is_name(name)
 }
 
-fn write_info(out: &mut [u8], m: NodeInfo) {
+// The 192 bits of the numbers, from the front.
+fn write_info(out: &mut [u8], m: NodeInfo)
+    requires { ⌜ 24 ≤ length (now out) ⌝ }
+    ensures { λ _. ⌜ now (out .exit) ≡ store (now (out .entry)) 0 (shape.encode (statusThen (versionsThen end)) (infoValues m end tt)) ⌝ }
+{
     let s = m.status;
     status::write_front(out, s);
     field::write(out, 56, 8, m.software_major);
@@ -148,7 +164,11 @@ fn write_info(out: &mut [u8], m: NodeInfo) {
     field::write(out, 184, 8, m.hardware_minor);
 }
 
-fn write_lists(out: &mut [u8], unique_id: &[u8], certificate: &[u8], name: &[u8]) {
+// The bits of the lists, behind the numbers.
+fn write_lists(out: &mut [u8], unique_id: &[u8], certificate: &[u8], name: &[u8])
+    requires { ⌜ (length (now «unique_id») ≡ 16) × (41 + length (now certificate) + length (now name) ≤ length (now out)) ⌝ }
+    ensures { λ _. ⌜ now (out .exit) ≡ store (now (out .entry)) 192 (shape.encode lists (now («unique_id» .entry), (now (certificate .entry), now (name .entry)))) ⌝ }
+{
     field::write_bytes(out, 24, unique_id);
     field::write(
         out,
@@ -166,7 +186,9 @@ pub fn encode(
     certificate: &[u8],
     name: &[u8],
     out: &mut [u8],
-) -> Written {
+) -> Written
+    ensures { λ r. ⌜ (answer.answerOf r, now (out .exit)) ≡ written response (infoValues m lists (now («unique_id» .entry), (now (certificate .entry), now (name .entry)))) (now (out .entry)) ⌝ }
+{
     if !fits(m) {
         return Written::Refused(17);
     }

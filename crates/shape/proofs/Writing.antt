@@ -41,11 +41,14 @@ module _ (d : Shape) (v : Values d) (m : List ℕ) where
         let b : m' ≡ message d v ++ drop n m = e ∙ store-front m n (encode d v) o l h ∙ ap (λ (x : List ℕ). x ++ drop n m) (sym packed) in
         rw (f, size, le-ltb (length m) n h, b, size)
 
--- one field more behind those written
+-- one field more behind those written from bit b on
+pub more-from : (b : ℕ) (m m' m'' : List ℕ) (xs ys : List Bool) (at : ℕ) → m' ≡ store m b xs → b + length xs ≡ at → at ≤ length m * 8 → m'' ≡ store m' at ys → m'' ≡ store m b (xs ++ ys)
+more-from b m m' m'' xs ys at e l h f =
+    f ∙ ap (λ (x : List ℕ). store x at ys) e ∙ ap (λ (n : ℕ). store (store m b xs) n ys) (sym l) ∙ store-store m b xs ys (omega arith)
+
+-- from the front
 pub more : (m m' m'' : List ℕ) (xs ys : List Bool) (at : ℕ) → m' ≡ store m 0 xs → length xs ≡ at → at ≤ length m * 8 → m'' ≡ store m' at ys → m'' ≡ store m 0 (xs ++ ys)
-more m m' m'' xs ys at e l h f =
-    let z : 0 + length xs ≡ at = omega arith in
-    f ∙ ap (λ (x : List ℕ). store x at ys) e ∙ ap (λ (n : ℕ). store (store m 0 xs) n ys) (sym z) ∙ store-store m 0 xs ys (omega arith)
+more m m' m'' xs ys at e l h f = more-from 0 m m' m'' xs ys at e (omega arith) h f
 
 -- ── lists of bytes ──
 

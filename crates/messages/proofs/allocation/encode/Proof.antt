@@ -1,10 +1,12 @@
+use mathlib.Core.Path.{sym, _∙_}
 use Prim.Native.Nat.{_+_}
 use native.Mathlib.Omega.{arith}
+use borrow.Author.Tests.{not-true, not-false}
 use lib.ListN.{length}
 use Rattle.bits.specs.Order.{Octets}
 use Rattle.bits.proofs.Octets.{octets-all}
 use Rattle.shape.proofs.Writing.{refuse-17, refuse-8, write-all}
-use Rattle.messages.proofs.AllocationFacts.{size, fit, no-node, no-first, no-unique, stored}
+use Rattle.messages.proofs.AllocationFacts.{size, fit, stored}
 use Rattle.messages.specs.Allocation.{allocation}
 use borrow.Author.Needs.{needs}
 use Rattle.messages.proofs.allocation.encode.Statement.{statement}
@@ -16,30 +18,24 @@ use Rattle.bits.proofs.field.write_bytes.Reads as write-bytes-reads
 
 returns : tie.Need-returns
 returns c =
-    let a = c .before .before .before .args in
-    refuse-17 allocation (a .node-id, (a .first-part, a .unique-id .now)) (a .out .now) (no-node (a .node-id) (a .first-part) (a .unique-id .now) (omega arith))
-
-returns-2 : tie.Need-returns-2
-returns-2 c =
-    let a = c .before .before .before .before .args in
-    refuse-17 allocation (a .node-id, (a .first-part, a .unique-id .now)) (a .out .now) (no-first (a .node-id) (a .first-part) (a .unique-id .now) (omega arith) (omega arith))
-
-returns-3 : tie.Need-returns-3
-returns-3 c =
-    let a = c .before .before .before .before .before .args in
-    refuse-17 allocation (a .node-id, (a .first-part, a .unique-id .now)) (a .out .now) (no-unique (a .node-id) (a .first-part) (a .unique-id .now) (omega arith) (omega arith) (omega arith))
+    let k = c .before .before in
+    let a = k .before .args in
+    let u = a .unique-id .now in
+    let o : Octets u = octets-all u (λ i. omega (arith, k .shared-slice-known .given i)) in
+    refuse-17 allocation (a .node-id, (a .first-part, u)) (a .out .now) (sym (fit (a .node-id) (a .first-part) u o) ∙ not-true _ (c .if1 .taken))
 
 add-n : tie.Need-add-n
 add-n c = search needs
 
-returns-4 : tie.Need-returns-4
-returns-4 c =
-    let k = c .before .before .before .before .before in
+returns-2 : tie.Need-returns-2
+returns-2 c =
+    let f = c .before in
+    let k = f .before .before in
     let a = k .before .args in
     let u = a .unique-id .now in
     let o : Octets u = octets-all u (λ i. omega (arith, k .shared-slice-known .given i)) in
-    refuse-8 allocation (a .node-id, (a .first-part, u)) (a .out .now) (fit (a .node-id) (a .first-part) u o (omega arith) (omega arith) (omega arith)) (1 + length u)
-    (size (a .node-id) (a .first-part) u) (omega arith)
+    refuse-8 allocation (a .node-id, (a .first-part, u)) (a .out .now) (sym (fit (a .node-id) (a .first-part) u o) ∙ not-false _ (f .if1 .left)) (1 + length u)
+    (size (a .node-id) (a .first-part) u) (c .if2 .taken)
 
 write-requires : tie.Need-write-requires
 write-requires c κs = search needs
@@ -53,19 +49,21 @@ write-bytes-requires c κs = search needs
 same-length : tie.Need-same-length
 same-length c = search needs
 
-returns-5 : tie.Need-returns-5
-returns-5 c =
+returns-3 : tie.Need-returns-3
+returns-3 c =
     let w₃ = c .before .before in
     let w₂ = w₃ .before .before .before .before in
     let w₁ = w₂ .before .before .before .before in
-    let m = w₁ .before .before .before .before .before .before in
+    let g = w₁ .before .before in
+    let f = g .before in
+    let m = f .before in
     let k = m .before in
     let a = k .before .args in
     let u = a .unique-id .now in
     let o : Octets u = octets-all u (λ i. omega (arith, k .shared-slice-known .given i)) in
-    write-all allocation (a .node-id, (a .first-part, u)) (a .out .now) (fit (a .node-id) (a .first-part) u o (omega arith) (omega arith) (omega arith)) (1 + length u)
-    (size (a .node-id) (a .first-part) u) (octets-all (a .out .now) (λ i. omega (arith, m .slice-known .given i))) (omega arith) (w₃ .write-bytes .last .0)
-    (stored (a .node-id) (a .first-part) u (a .out .now) (w₁ .write .last .0) (w₂ .write2 .last .0) (w₃ .write-bytes .last .0) (omega arith)
+    write-all allocation (a .node-id, (a .first-part, u)) (a .out .now) (sym (fit (a .node-id) (a .first-part) u o) ∙ not-false _ (f .if1 .left)) (1 + length u)
+    (size (a .node-id) (a .first-part) u) (octets-all (a .out .now) (λ i. omega (arith, m .slice-known .given i))) (g .if2 .left) (w₃ .write-bytes .last .0)
+    (stored (a .node-id) (a .first-part) u (a .out .now) (w₁ .write .last .0) (w₂ .write2 .last .0) (w₃ .write-bytes .last .0) (omega (arith, g .if2 .left))
     (w₁ .write .ensures) (w₂ .write2 .ensures) (w₃ .write-bytes .ensures))
 
 pub encode-spec : {M : Type 1} → statement M
@@ -73,12 +71,10 @@ encode-spec =
     tie.close
     (tie.spec
     returns
-    returns-2
-    returns-3
     add-n
-    returns-4
+    returns-2
     write-requires
     write-requires-2
     write-bytes-requires
     same-length
-    returns-5)
+    returns-3)

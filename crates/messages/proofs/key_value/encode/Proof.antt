@@ -1,10 +1,12 @@
+use mathlib.Core.Path.{sym, _∙_}
 use Prim.Native.Nat.{_+_}
 use native.Mathlib.Omega.{arith}
+use borrow.Author.Tests.{not-true, not-false}
 use lib.ListN.{length}
 use Rattle.bits.specs.Order.{Octets}
 use Rattle.bits.proofs.Octets.{octets-all}
 use Rattle.shape.proofs.Writing.{refuse-17, refuse-8, write-all}
-use Rattle.messages.proofs.KeyValueFacts.{size, fit, no-value, no-key, stored}
+use Rattle.messages.proofs.KeyValueFacts.{size, fit, stored}
 use Rattle.messages.specs.KeyValue.{keyValue}
 use borrow.Author.Needs.{needs}
 use Rattle.messages.proofs.key_value.encode.Statement.{statement}
@@ -16,23 +18,21 @@ use Rattle.bits.proofs.field.write_bytes.Reads as write-bytes-reads
 
 returns : tie.Need-returns
 returns c =
-    let a = c .before .before .before .args in
-    refuse-17 keyValue (a .value, a .key .now) (a .out .now) (no-value (a .value) (a .key .now) (omega arith))
-
-returns-2 : tie.Need-returns-2
-returns-2 c =
-    let a = c .before .before .before .before .args in
-    refuse-17 keyValue (a .value, a .key .now) (a .out .now) (no-key (a .value) (a .key .now) (omega arith) (omega arith))
+    let k = c .before .before in
+    let a = k .before .args in
+    let o : Octets (a .key .now) = octets-all (a .key .now) (λ i. omega (arith, k .shared-slice-known .given i)) in
+    refuse-17 keyValue (a .value, a .key .now) (a .out .now) (sym (fit (a .value) (a .key .now) o) ∙ not-true _ (c .if1 .taken))
 
 add-n : tie.Need-add-n
 add-n c = search needs
 
-returns-3 : tie.Need-returns-3
-returns-3 c =
-    let k = c .before .before .before .before in
+returns-2 : tie.Need-returns-2
+returns-2 c =
+    let f = c .before in
+    let k = f .before .before in
     let a = k .before .args in
     let o : Octets (a .key .now) = octets-all (a .key .now) (λ i. omega (arith, k .shared-slice-known .given i)) in
-    refuse-8 keyValue (a .value, a .key .now) (a .out .now) (fit (a .value) (a .key .now) o (omega arith) (omega arith)) (4 + length (a .key .now)) (size (a .value) (a .key .now)) (omega arith)
+    refuse-8 keyValue (a .value, a .key .now) (a .out .now) (sym (fit (a .value) (a .key .now) o) ∙ not-false _ (f .if1 .left)) (4 + length (a .key .now)) (size (a .value) (a .key .now)) (c .if2 .taken)
 
 write-requires : tie.Need-write-requires
 write-requires c κs = search needs
@@ -43,27 +43,21 @@ write-bytes-requires c κs = search needs
 same-length : tie.Need-same-length
 same-length c = search needs
 
-returns-4 : tie.Need-returns-4
-returns-4 c =
+returns-3 : tie.Need-returns-3
+returns-3 c =
     let w₂ = c .before .before in
     let w₁ = w₂ .before .before .before .before in
-    let m = w₁ .before .before .before .before .before in
+    let g = w₁ .before .before in
+    let f = g .before in
+    let m = f .before in
     let k = m .before in
     let a = k .before .args in
     let o : Octets (a .key .now) = octets-all (a .key .now) (λ i. omega (arith, k .shared-slice-known .given i)) in
-    write-all keyValue (a .value, a .key .now) (a .out .now) (fit (a .value) (a .key .now) o (omega arith) (omega arith)) (4 + length (a .key .now)) (size (a .value) (a .key .now))
-    (octets-all (a .out .now) (λ i. omega (arith, m .slice-known .given i))) (omega arith) (w₂ .write-bytes .last .0)
-    (stored (a .value) (a .key .now) (a .out .now) (w₁ .write .last .0) (w₂ .write-bytes .last .0) (omega arith) (w₁ .write .ensures) (w₂ .write-bytes .ensures))
+    write-all keyValue (a .value, a .key .now) (a .out .now) (sym (fit (a .value) (a .key .now) o) ∙ not-false _ (f .if1 .left)) (4 + length (a .key .now)) (size (a .value) (a .key .now))
+    (octets-all (a .out .now) (λ i. omega (arith, m .slice-known .given i))) (g .if2 .left) (w₂ .write-bytes .last .0)
+    (stored (a .value) (a .key .now) (a .out .now) (w₁ .write .last .0) (w₂ .write-bytes .last .0) (omega (arith, g .if2 .left)) (w₁ .write .ensures) (w₂ .write-bytes .ensures))
 
 pub encode-spec : {M : Type 1} → statement M
 encode-spec =
     tie.close
-    (tie.spec
-    returns
-    returns-2
-    add-n
-    returns-3
-    write-requires
-    write-bytes-requires
-    same-length
-    returns-4)
+    (tie.spec returns add-n returns-2 write-requires write-bytes-requires same-length returns-3)

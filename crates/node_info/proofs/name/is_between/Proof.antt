@@ -1,0 +1,17 @@
+use Rattle.node_info.specs.Name.{between}
+use borrow.Author.Tests.{le-leb, lt-leb}
+use Rattle.node_info.proofs.name.is_between.Statement.{statement}
+use Rattle.node_info.proofs.name.is_between.Tie as tie
+use Rattle.node_info.proofs.name.is_between.Reads as reads
+use Rattle.node_info.proofs.name.is_between.Lts as lts
+
+returns : tie.Need-returns
+unfolding between
+returns c = simp (le-leb _ _ (c .if1 .taken))
+
+returns-2 : tie.Need-returns-2
+unfolding between
+returns-2 c = simp (lt-leb _ _ (c .if1 .left))
+
+pub is-between-spec : {M : Type 1} → statement M
+is-between-spec = tie.close (tie.spec returns returns-2)
