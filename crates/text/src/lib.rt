@@ -28,7 +28,8 @@ pub fn find(s: &[u8], from: usize, c: u8) -> usize
     i
 }
 
-fn digit(c: u8) -> u64
+// Internal. The digit that a character is; 16, which is a digit in no base, of any other character.
+pub fn digit(c: u8) -> u64
     ensures { λ r. ⌜ r ≡ digitOf c ⌝ }
 {
     if c < 48 {
@@ -77,8 +78,8 @@ pub fn count(v: u64) -> usize
     k
 }
 
-// The w lowest decimal digits of v, from the last one on.
-fn put_digits(out: &mut [u8], at: usize, w: usize, v: u64)
+// Internal. The w lowest decimal digits of v, from the last one on.
+pub fn put_digits(out: &mut [u8], at: usize, w: usize, v: u64)
     requires { ⌜ at + w ≤ length (now out) ⌝ }
     ensures { λ _. ⌜ now (out .exit) ≡ splice (now (out .entry)) at (digits 10 w v) ⌝ }
 {
