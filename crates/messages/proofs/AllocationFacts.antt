@@ -14,6 +14,7 @@ use Rattle.shape.proofs.Fields.{and-true, and-assoc, length-itemBits}
 use Rattle.shape.proofs.Reading.{Slot, value, refused-on, got-on, ht-short, ht-long, ht-held, ht-only}
 use Rattle.shape.proofs.Writing.{more, item-bytes, all-bytes}
 use Rattle.messages.specs.Allocation.{allocation, uniqueIdIn, allocationOf, allocationIn}
+use Rattle.messages.specs.Laws.{allocationFound}
 use Rattle.messages.specs.declared.allocation.Allocation.{Allocation}
 
 abbrev head : List Slot
@@ -26,10 +27,10 @@ module _ (s : List ℕ) (o : Octets s) where
   pub long : 1 ≤ length s → 16 < length (uniqueIdIn s) → allocationIn s ≡ refused 16
   long h l = refused-on allocationOf refl (ht-long head 1 refl 16 s o h l)
 
-  pub held : 1 ≤ length s → length (uniqueIdIn s) ≤ 16 → allocationIn s ≡ got (allocationOf (fromBits 7 (unpack s), (fromBits 1 (drop 7 (unpack s)), uniqueIdIn s)))
+  pub held : 1 ≤ length s → length (uniqueIdIn s) ≤ 16 → allocationIn s ≡ got (allocationOf (allocationFound s))
   held h l = got-on allocationOf refl (ht-held head 1 refl 16 s o h l)
 
-  pub only : (v : Values allocation) → decoded allocation s ≡ got v → v ≡ (fromBits 7 (unpack s), (fromBits 1 (drop 7 (unpack s)), uniqueIdIn s))
+  pub only : (v : Values allocation) → decoded allocation s ≡ got v → v ≡ allocationFound s
   only v e = ht-only head 1 refl 16 s o v e
 
 pub made : {n n' f f' l l' : ℕ} → n ≡ n' → f ≡ f' → l ≡ l'

@@ -14,6 +14,7 @@ use Rattle.shape.proofs.Fields.{and-true, and-assoc, length-itemBits}
 use Rattle.shape.proofs.Reading.{Slot, value, refused-on, got-on, ht-short, ht-long, ht-held, ht-only}
 use Rattle.shape.proofs.Writing.{more, item-bytes, all-bytes}
 use Rattle.messages.specs.KeyValue.{keyValue, keyIn, keyValueOf, keyValueIn}
+use Rattle.messages.specs.Laws.{keyValueFound}
 use Rattle.messages.specs.declared.key_value.KeyValue.{KeyValue}
 
 abbrev head : List Slot
@@ -26,10 +27,10 @@ module _ (s : List ℕ) (o : Octets s) where
   pub long : 4 ≤ length s → 58 < length (keyIn s) → keyValueIn s ≡ refused 16
   long h l = refused-on keyValueOf refl (ht-long head 4 refl 58 s o h l)
 
-  pub held : 4 ≤ length s → length (keyIn s) ≤ 58 → keyValueIn s ≡ got (keyValueOf (fromBits 32 (unpack s), keyIn s))
+  pub held : 4 ≤ length s → length (keyIn s) ≤ 58 → keyValueIn s ≡ got (keyValueOf (keyValueFound s))
   held h l = got-on keyValueOf refl (ht-held head 4 refl 58 s o h l)
 
-  pub only : (v : Values keyValue) → decoded keyValue s ≡ got v → v ≡ (fromBits 32 (unpack s), keyIn s)
+  pub only : (v : Values keyValue) → decoded keyValue s ≡ got v → v ≡ keyValueFound s
   only v e = ht-only head 4 refl 58 s o v e
 
 pub made : {v v' l l' : ℕ} → v ≡ v' → l ≡ l'

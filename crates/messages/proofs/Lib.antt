@@ -2,3 +2,4 @@ mod StatusFacts
 mod AllocationFacts
 mod KeyValueFacts
 mod LogMessageFacts
+pub mod Trips

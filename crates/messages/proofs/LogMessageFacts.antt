@@ -20,6 +20,7 @@ use Rattle.shape.proofs.Reading.{Slot, value, withHead, head-read, head-short, 
 use Rattle.shape.proofs.Reading as reading
 use Rattle.shape.proofs.Writing.{more, item-bytes, all-bytes}
 use Rattle.messages.specs.LogMessage.{logMessage, sourceLength, sourceIn, textIn, logMessageOf, logMessageIn}
+use Rattle.messages.specs.Laws.{logMessageFound}
 use Rattle.messages.specs.declared.log_message.LogMessage.{LogMessage}
 
 abbrev text : Shape
@@ -97,22 +98,22 @@ module _ (s : List ℕ) (o : Octets s) where
     too-many : 90 < length (textIn s) → decoded logMessage s ≡ refused 16
     too-many g = refused-on (withHead head lists (unpack s) 0) (on (omega arith)) (refused-on with-source source (tail-long 90 anything (textIn s) (octets-drop (1 + n) s o) g))
 
-    read : length (textIn s) ≤ 90 → decoded logMessage s ≡ got (fromBits 3 (unpack s), (sourceIn s, textIn s))
+    read : length (textIn s) ≤ 90 → decoded logMessage s ≡ got (logMessageFound s)
     read g = got-on (withHead head lists (unpack s) 0) (on (omega arith)) (got-on with-source source (tail-got 90 anything (textIn s) (octets-drop (1 + n) s o) g refl))
 
     pub long : 90 < length (textIn s) → logMessageIn s ≡ refused 16
     long g = refused-on logMessageOf refl (too-many g)
 
-    pub held : length (textIn s) ≤ 90 → logMessageIn s ≡ got (logMessageOf (fromBits 3 (unpack s), (sourceIn s, textIn s)))
+    pub held : length (textIn s) ≤ 90 → logMessageIn s ≡ got (logMessageOf (logMessageFound s))
     held g = got-on logMessageOf refl (read g)
 
     pub source-len : length (sourceIn s) ≡ n
     source-len = length-take-le n (drop 1 s) (omega (arith, length-drop 1 s))
 
   -- nothing else is read
-  pub only : (v : Values logMessage) → decoded logMessage s ≡ got v → v ≡ (fromBits 3 (unpack s), (sourceIn s, textIn s))
+  pub only : (v : Values logMessage) → decoded logMessage s ≡ got v → v ≡ logMessageFound s
   only v e = go (ltb (length s) (1 + n)) (ltb 90 (length (textIn s))) refl refl where
-    go : (a b : Bool) → ltb (length s) (1 + n) ≡ a → ltb 90 (length (textIn s)) ≡ b → v ≡ (fromBits 3 (unpack s), (sourceIn s, textIn s))
+    go : (a b : Bool) → ltb (length s) (1 + n) ≡ a → ltb 90 (length (textIn s)) ≡ b → v ≡ logMessageFound s
     go true b ea eb = absurd (never (ends (ltb-true (length s) (1 + n) ea)) e)
     go false true ea eb = absurd (never (too-many (ltb-false (length s) (1 + n) ea) (ltb-true 90 (length (textIn s)) eb)) e)
     go false false ea eb = reading.only e (read (ltb-false (length s) (1 + n) ea) (ltb-false 90 (length (textIn s)) eb))

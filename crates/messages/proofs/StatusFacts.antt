@@ -1,43 +1,60 @@
 -- NodeStatus: what its reader and its writer go by.
 use mathlib.Core.Path.{_≡_, refl, ap, _∙_}
-use mathlib.Core.Bool.{Bool, _&&_}
+use mathlib.Core.Bool.{Bool, true, false, _&&_}
 use mathlib.Core.List.{List, [], _∷_, _++_, append-assoc, append-nil}
 use Prim.Native.Nat.{ℕ, _+_, _*_, _^_, _≤_, _<_}
 use native.Mathlib.Omega.{arith}
+use borrow.Author.Tests.{ltb-true, ltb-false}
 use lib.Dec.{ltb}
 use lib.ListN.{length, drop, length-append, length-drop}
 use Rattle.bits.specs.Order.{unpack, toBits, fromBits, store}
 use Rattle.bits.proofs.Bytes.{length-unpack}
 use Rattle.bits.proofs.Numbers.{length-toBits}
-use Rattle.shape.specs.Answer.{refused, got, mapAnswer}
-use Rattle.shape.specs.Shape.{end, encode, decoded, fits}
+use Rattle.shape.specs.Answer.{refused, got}
+use Rattle.shape.specs.Shape.{end, Values, encode, decoded, fits}
 use Rattle.shape.proofs.Fields.{and-true, and-assoc}
-use Rattle.shape.proofs.Reading.{Slot, value, gap, withHead, head-short, head-bytes, end-none, end-left, refused-on, got-on}
+use Rattle.shape.proofs.Reading.{Slot, value, gap, withHead, head-short, head-bytes, end-none, end-left, refused-on, got-on, never}
+use Rattle.shape.proofs.Reading as reading
 use Rattle.shape.proofs.Writing.{more}
 use Rattle.messages.specs.Status.{nodeStatus, statusValues, statusOf, statusIn, statusAt}
+use Rattle.messages.specs.Laws.{statusFound}
 use Rattle.messages.specs.declared.status.NodeStatus.{NodeStatus}
 
-abbrev pub head : List Slot
+abbrev head : List Slot
 head = value 32 ∷ value 2 ∷ value 3 ∷ gap 3 ∷ value 16 ∷ []
 
 module _ (s : List ℕ) where
-  pub short : length s < 7 → statusIn s ≡ refused 15
-  short h = refused-on (statusOf end) refl (head-short head end (unpack s) (omega (arith, length-unpack s)))
+  ends : length s < 7 → decoded nodeStatus s ≡ refused 15
+  ends h = head-short head end (unpack s) (omega (arith, length-unpack s))
 
   left : length (unpack (drop 7 s)) ≡ length (drop 7 s) * 8
   left = length-unpack (drop 7 s)
 
-  pub long : 7 < length s → statusIn s ≡ refused 16
-  long h =
-      refused-on (statusOf end) refl
-      (refused-on (withHead head end (unpack s) 0) (head-bytes head end 7 refl s (omega arith)) (end-left (unpack (drop 7 s)) (omega (arith, left, length-drop 7 s))))
+  too-many : 7 < length s → decoded nodeStatus s ≡ refused 16
+  too-many h =
+      refused-on (withHead head end (unpack s) 0) (head-bytes head end 7 refl s (omega arith)) (end-left (unpack (drop 7 s)) (omega (arith, left, length-drop 7 s)))
 
-  pub exact : length s ≡ 7 → decoded nodeStatus s ≡ got (withHead head end (unpack s) 0 tt)
+  exact : length s ≡ 7 → decoded nodeStatus s ≡ got (statusFound s)
+  unfolding statusAt
   exact h = got-on (withHead head end (unpack s) 0) (head-bytes head end 7 refl s (omega arith)) (end-none (unpack (drop 7 s)) (omega (arith, left, length-drop 7 s)))
+
+  pub short : length s < 7 → statusIn s ≡ refused 15
+  short h = refused-on (statusOf end) refl (ends h)
+
+  pub long : 7 < length s → statusIn s ≡ refused 16
+  long h = refused-on (statusOf end) refl (too-many h)
 
   pub read : length s ≡ 7 → statusIn s ≡ got (statusAt (unpack s))
   unfolding statusAt
   read h = got-on (statusOf end) refl (exact h)
+
+  -- nothing else is read
+  pub only : (v : Values nodeStatus) → decoded nodeStatus s ≡ got v → v ≡ statusFound s
+  only v e = go (ltb (length s) 7) (ltb 7 (length s)) refl refl where
+    go : (a b : Bool) → ltb (length s) 7 ≡ a → ltb 7 (length s) ≡ b → v ≡ statusFound s
+    go true b ea eb = absurd (never (ends (ltb-true (length s) 7 ea)) e)
+    go false true ea eb = absurd (never (too-many (ltb-true 7 (length s) eb)) e)
+    go false false ea eb = reading.only e (exact (omega (arith, ltb-false (length s) 7 ea, ltb-false 7 (length s) eb)))
 
 pub made : {u h m v u' h' m' v' : ℕ} → u ≡ u' → h ≡ h' → m ≡ m' → v ≡ v'
     → _≡_ {A = NodeStatus} (record { uptime = u; health = h; mode = m; «sub_mode» = 0; vendor = v }) (record { uptime = u'; health = h'; mode = m'; «sub_mode» = 0; vendor = v' })

@@ -2,3 +2,4 @@ pub mod Status
 pub mod Allocation
 pub mod KeyValue
 pub mod LogMessage
+pub mod Laws

@@ -1,3 +1,4 @@
 mod NameFacts
 mod ReadFacts
 mod WriteFacts
+mod Trips

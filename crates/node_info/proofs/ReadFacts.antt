@@ -20,6 +20,7 @@ use Rattle.shape.proofs.Reading as reading
 use Rattle.messages.specs.Status.{statusAt}
 use Rattle.node_info.specs.Name.{isName}
 use Rattle.node_info.specs.Response.{lists, response, certificateLength, uniqueIdIn, certificateIn, nameIn, responseOf, responseIn, infoAt}
+use Rattle.node_info.specs.Laws.{responseFound}
 use Rattle.node_info.specs.declared.response.NodeInfo.{NodeInfo}
 use Rattle.node_info.specs.declared.response.Response.{Response}
 
@@ -126,7 +127,8 @@ module _ (s : List ℕ) (o : Octets s) where
     unnamed : length (nameIn s) ≤ 80 → isName (nameIn s) ≡ false → decoded response s ≡ refused 17
     unnamed g k = refuses 17 (tail-not 80 isName (nameIn s) (octets-drop (41 + n) s o) g k)
 
-    read : length (nameIn s) ≤ 80 → isName (nameIn s) ≡ true → decoded response s ≡ got (with-numbers (uniqueIdIn s, (certificateIn s, nameIn s)))
+    read : length (nameIn s) ≤ 80 → isName (nameIn s) ≡ true → decoded response s ≡ got (responseFound s)
+    unfolding infoAt statusAt
     read g k =
         got-on with-numbers (numbers (omega arith))
         (got-on with-id (ids (omega arith)) (got-on with-certificate certificates (tail-got 80 isName (nameIn s) (octets-drop (41 + n) s o) g k)))
@@ -137,16 +139,16 @@ module _ (s : List ℕ) (o : Octets s) where
     pub bad-name : length (nameIn s) ≤ 80 → isName (nameIn s) ≡ false → responseIn s ≡ refused 17
     bad-name g k = refused-on responseOf refl (unnamed g k)
 
-    pub held : length (nameIn s) ≤ 80 → isName (nameIn s) ≡ true → responseIn s ≡ got (responseOf (with-numbers (uniqueIdIn s, (certificateIn s, nameIn s))))
+    pub held : length (nameIn s) ≤ 80 → isName (nameIn s) ≡ true → responseIn s ≡ got (responseOf (responseFound s))
     held g k = got-on responseOf refl (read g k)
 
     pub certificate-len : length (certificateIn s) ≡ n
     certificate-len = length-take-le n (drop 41 s) (omega (arith, length-drop 41 s))
 
   -- nothing else is read
-  pub only : (v : Values response) → decoded response s ≡ got v → v ≡ with-numbers (uniqueIdIn s, (certificateIn s, nameIn s))
+  pub only : (v : Values response) → decoded response s ≡ got v → v ≡ responseFound s
   only v e = go (ltb (length s) (41 + n)) (ltb 80 (length (nameIn s))) (isName (nameIn s)) refl refl refl where
-    go : (a b c : Bool) → ltb (length s) (41 + n) ≡ a → ltb 80 (length (nameIn s)) ≡ b → isName (nameIn s) ≡ c → v ≡ with-numbers (uniqueIdIn s, (certificateIn s, nameIn s))
+    go : (a b c : Bool) → ltb (length s) (41 + n) ≡ a → ltb 80 (length (nameIn s)) ≡ b → isName (nameIn s) ≡ c → v ≡ responseFound s
     go true b c ea eb ec = absurd (never (ends (ltb-true (length s) (41 + n) ea)) e)
     go false true c ea eb ec = absurd (never (too-many (ltb-false (length s) (41 + n) ea) (ltb-true 80 (length (nameIn s)) eb)) e)
     go false false false ea eb ec = absurd (never (unnamed (ltb-false (length s) (41 + n) ea) (ltb-false 80 (length (nameIn s)) eb) ec) e)
@@ -155,6 +157,6 @@ module _ (s : List ℕ) (o : Octets s) where
   -- the struct of what stands at these places
   pub made : (m : NodeInfo) (u c a l : ℕ) → m ≡ infoAt (unpack s) → u ≡ length (uniqueIdIn s) → c ≡ length (certificateIn s) → a ≡ 41 + length (certificateIn s) → l ≡ length (nameIn s)
       → _≡_ {A = Response} (record { info = m; «unique_id» = record { at = 24; len = u }; certificate = record { at = 41; len = c }; name = record { at = a; len = l } })
-      (responseOf (with-numbers (uniqueIdIn s, (certificateIn s, nameIn s))))
+      (responseOf (responseFound s))
   unfolding infoAt statusAt
   made m u c a l e₁ e₂ e₃ e₄ e₅ = rw (e₁, e₂, e₃, e₄, e₅)

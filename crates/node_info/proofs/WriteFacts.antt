@@ -4,7 +4,7 @@ use mathlib.Core.Bool.{Bool, true, false, _&&_}
 use mathlib.Core.List.{List, [], _∷_, _++_, append-assoc, append-nil}
 use Prim.Native.Nat.{ℕ, _+_, _*_, _^_, _≤_, _<_}
 use native.Mathlib.Omega.{arith}
-use borrow.Author.Tests.{le-leb, lt-leb, leb-true, eq-eqb, ne-eqb, eqb-true}
+use borrow.Author.Tests.{lt-ltb, le-leb, lt-leb, leb-true, eq-eqb, ne-eqb, eqb-true}
 use lib.Dec.{ltb, leb, eqb}
 use lib.ListN.{length, length-append}
 use Rattle.bits.specs.Order.{Octets, unpack, toBits, store}
@@ -37,7 +37,7 @@ status-bits x d v = sym (simp (append-assoc, append-nil))
 
 -- ── the numbers, and what follows them ──
 
-abbrev pub versionsPass : NodeInfo → Bool → Bool
+abbrev versionsPass : NodeInfo → Bool → Bool
 versionsPass m r =
     ltb (m .«software_major») 256 && (ltb (m .«software_minor») 256 && (ltb (m .«software_flags») 256 && (ltb (m .«software_commit») 4294967296
     && (ltb (m .«image_crc») 18446744073709551616 && (ltb (m .«hardware_major») 256 && (ltb (m .«hardware_minor») 256 && r))))))
@@ -80,8 +80,14 @@ module _ (m : NodeInfo) where
   unfolding encode
   end-bits = refl
 
-  pub info-fits : fits info (infoValues m end tt) ≡ status-fit && versionsPass m true
+  info-fits : fits info (infoValues m end tt) ≡ status-fit && versionsPass m true
   info-fits = then-fits end tt ∙ ap (λ (b : Bool). status-fit && versionsPass m b) end-fits
+
+  -- 64 bits hold every image CRC
+  pub fit : (b : Bool) → b ≡ status-fit → m .«image_crc» < 18446744073709551616
+      → (((((b && ltb (m .«software_major») 256) && ltb (m .«software_minor») 256) && ltb (m .«software_flags») 256) && ltb (m .«software_commit») 4294967296)
+      && ltb (m .«hardware_major») 256) && ltb (m .«hardware_minor») 256 ≡ fits info (infoValues m end tt)
+  fit b e h = rw e (sym (info-fits ∙ rw (lt-ltb (m .«image_crc») 18446744073709551616 h) (sym (simp (and-assoc, and-true)))))
 
   info-bits : encode info (infoValues m end tt) ≡ bits-of-status ++ versionBits m []
   info-bits = then-bits end tt ∙ ap (λ (b : List Bool). bits-of-status ++ versionBits m b) end-bits
@@ -90,8 +96,18 @@ module _ (m : NodeInfo) where
   unfolding encode
   info-size = simp (length-append, length-toBits)
 
-  pub whole-fits : (v : Values lists) → fits response (infoValues m lists v) ≡ fits info (infoValues m end tt) && fits lists v
-  whole-fits v = then-fits lists v ∙ sym (ap (λ (b : Bool). b && fits lists v) info-fits ∙ simp and-assoc)
+  module _ (v : Values lists) where
+    whole-fits : fits response (infoValues m lists v) ≡ fits info (infoValues m end tt) && fits lists v
+    whole-fits = then-fits lists v ∙ sym (ap (λ (b : Bool). b && fits lists v) info-fits ∙ simp and-assoc)
+
+    pub whole-no-info : fits info (infoValues m end tt) ≡ false → fits response (infoValues m lists v) ≡ false
+    whole-no-info e = whole-fits ∙ rw e
+
+    pub whole-no-lists : fits info (infoValues m end tt) ≡ true → fits lists v ≡ false → fits response (infoValues m lists v) ≡ false
+    whole-no-lists e f = whole-fits ∙ rw (e, f)
+
+    pub whole-fit : fits info (infoValues m end tt) ≡ true → fits lists v ≡ true → fits response (infoValues m lists v) ≡ true
+    whole-fit e f = whole-fits ∙ rw (e, f)
 
   whole-bits : (v : Values lists) → encode response (infoValues m lists v) ≡ encode info (infoValues m end tt) ++ encode lists v
   whole-bits v = then-bits lists v ∙ sym (ap (λ (b : List Bool). b ++ encode lists v) info-bits ∙ simp (append-assoc, append-nil))

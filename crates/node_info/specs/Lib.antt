@@ -1,3 +1,4 @@
 pub mod Name
 pub mod Request
 pub mod Response
+pub mod Laws

@@ -1,4 +1,5 @@
 // GetNodeInfo (service 1; 01, Messages): the empty request, and the response.
+pub mod laws;
 pub mod name;
 pub mod request;
 pub mod response;

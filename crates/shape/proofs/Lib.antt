@@ -4,3 +4,4 @@ mod Back
 pub mod RoundTrip
 pub mod Reading
 pub mod Writing
+pub mod Trip

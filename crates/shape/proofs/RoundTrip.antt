@@ -79,7 +79,7 @@ round-back d s v room e l =
     rw (c .fit, came-back d s v c, le-ltb room (length (cleared d s)) k)
 
 -- ── where nothing is ignored ──
-clear-same : (d : Shape) → Whole d → (bs : List Bool) → clear d bs ≡ bs
+pub clear-same : (d : Shape) → Whole d → (bs : List Bool) → clear d bs ≡ bs
 unfolding clear
 clear-same end h bs = refl
 clear-same (num w d) h bs = rw (clear-same d h (drop w bs)) (take-append-drop w bs)

@@ -1,13 +1,22 @@
+use mathlib.Core.Path.{sym}
+use native.Mathlib.Omega.{arith}
+use Rattle.bits.specs.Order.{unpack}
+use Rattle.bits.proofs.Bytes.{length-unpack}
+use Rattle.shape.proofs.Reading.{end-none, end-left}
 use Rattle.node_info.proofs.request.decode.Statement.{statement}
 use Rattle.node_info.proofs.request.decode.Tie as tie
 use Rattle.node_info.proofs.request.decode.Reads as reads
 use Rattle.node_info.proofs.request.decode.Lts as lts
 
 returns : tie.Need-returns
-returns c = ?
+returns c =
+    let s = c .before .args .payload .now in
+    sym (end-left (unpack s) (omega (arith, length-unpack s)))
 
 returns-2 : tie.Need-returns-2
-returns-2 c = ?
+returns-2 c =
+    let s = c .before .args .payload .now in
+    sym (end-none (unpack s) (omega (arith, length-unpack s)))
 
 pub decode-spec : {M : Type 1} → statement M
 decode-spec = tie.close (tie.spec returns returns-2)

@@ -1,10 +1,17 @@
+use native.Mathlib.Omega.{arith}
+use borrow.Author.Tests.{le-ltb}
+use lib.ListN.{length}
+use Rattle.bits.specs.Order.{bytes}
+use Rattle.shape.specs.Answer.{refuseIf}
+use Rattle.shape.specs.Shape.{encode, fits, encoded}
 use Rattle.node_info.proofs.request.encode.Statement.{statement}
 use Rattle.node_info.proofs.request.encode.Tie as tie
 use Rattle.node_info.proofs.request.encode.Reads as reads
 use Rattle.node_info.proofs.request.encode.Lts as lts
 
 returns : tie.Need-returns
-returns c = ?
+unfolding encoded refuseIf fits encode bytes
+returns c = rw (le-ltb (length (c .args .out .now)) 0 (omega arith))
 
 pub encode-spec : {M : Type 1} → statement M
 encode-spec = tie.close (tie.spec returns)

@@ -1,0 +1,19 @@
+use native.Mathlib.Omega.{arith}
+use Rattle.node_info.proofs.WriteFacts.{fit}
+use borrow.Author.Needs.{needs}
+use Rattle.node_info.proofs.response.fits.Statement.{statement}
+use Rattle.node_info.proofs.response.fits.Tie as tie
+use Rattle.node_info.proofs.response.fits.Reads as reads
+use Rattle.node_info.proofs.response.fits.Lts as lts
+use Rattle.messages.proofs.status.fits.Reads as fits-reads
+
+fits-requires : tie.Need-fits-requires
+fits-requires c κs = search needs
+
+returns : tie.Need-returns
+returns c =
+    let s = c .before .before .before .before .before .before in
+    fit (s .before .before .args .m) (s .fits2 .result) (s .fits2 .ensures) (omega (arith, c .struct-known6))
+
+pub fits-spec : {M : Type 1} → statement M
+fits-spec = tie.close (tie.spec fits-requires returns)
