@@ -15,6 +15,7 @@ mod outgoing;
 mod payloads;
 mod random;
 mod receptions;
+mod requests;
 mod sends;
 mod setups;
 mod situations;
@@ -27,6 +28,7 @@ use mutants::{Mutant, Part};
 use options::{Options, Side};
 use payloads::Payloads;
 use receptions::Receptions;
+use requests::{Answerer, Requests};
 use sends::Sends;
 use setups::Setups;
 use std::process::ExitCode;
@@ -51,6 +53,7 @@ fn main() -> ExitCode {
         Side::Reference => compare(&REFERENCE, &options),
         Side::Mutant(mutant) => compare(&mutant.side, &options),
         Side::Mutants => all_caught(&options),
+        Side::Codec(path) => compare_codec(path, &options),
     };
     if passed {
         ExitCode::SUCCESS
@@ -107,6 +110,19 @@ fn run_all(side: &EntryPoints, options: &Options) -> Result<Vec<Tally>, Differen
     Ok(tallies)
 }
 
+/// Runs the codec program; true if nothing differed and everything was seen often enough.
+fn compare_codec(path: &str, options: &Options) -> bool {
+    let mut requests = Requests::new(Answerer::Program(path.to_string()), options.seed);
+    match requests.run(options.lines) {
+        Ok(()) => seen_enough(&requests.into_tallies(), options.minimum),
+        Err(difference) => {
+            println!("seed {}: {}", options.seed, difference.0);
+            println!("DIFFERENT");
+            false
+        }
+    }
+}
+
 fn seen_enough(tallies: &[Tally], minimum: u64) -> bool {
     for tally in tallies {
         tally.print();
@@ -148,6 +164,10 @@ fn is_caught(mutant: &Mutant, options: &Options) -> bool {
         },
         Part::Payloads => match side.serialization {
             Some(serialization) => Payloads::new(serialization, options.seed).run(options.messages),
+            None => Ok(()),
+        },
+        Part::Requests => match side.serialization {
+            Some(calls) => Requests::new(Answerer::Calls(calls), options.seed).run(options.lines),
             None => Ok(()),
         },
     };
