@@ -7,8 +7,10 @@ use messages::allocation;
 use messages::key_value;
 use messages::log_message;
 use messages::status;
+use messages::status::NodeStatus;
 use node_info::request;
 use node_info::response;
+use node_info::response::NodeInfo;
 ghost use Prim.Native.Nat.{_≤_};
 ghost use lib.ListN.{length};
 
@@ -18,94 +20,87 @@ struct Numbers {
     values: [u64; 12],
 }
 
-fn refused(answer: u32) -> Numbers {
+// An answer without numbers.
+fn answered(answer: u32) -> Numbers {
     let values = [0u64; 12];
     Numbers { answer, values }
 }
 
+// Success, with one number.
+fn only(number: u64) -> Numbers {
+    let mut n = answered(0);
+    n.values[0] = number;
+    n
+}
+
+fn with_status(n: Numbers, x: NodeStatus) -> Numbers {
+    let mut m = n;
+    m.values[0] = x.uptime;
+    m.values[1] = x.health;
+    m.values[2] = x.mode;
+    m.values[3] = x.sub_mode;
+    m.values[4] = x.vendor;
+    m
+}
+
+fn with_versions(n: Numbers, x: NodeInfo) -> Numbers {
+    let mut m = n;
+    m.values[5] = x.software_major;
+    m.values[6] = x.software_minor;
+    m.values[7] = x.software_flags;
+    m.values[8] = x.software_commit;
+    m.values[9] = x.image_crc;
+    m.values[10] = x.hardware_major;
+    m.values[11] = x.hardware_minor;
+    m
+}
+
 fn of_status(payload: &[u8]) -> Numbers {
     match status::decode(payload) {
-        status::Read::Refused(n) => refused(n),
-        status::Read::Got(x) => Numbers {
-            answer: 0,
-            values: [
-                x.uptime,
-                x.health,
-                x.mode,
-                x.sub_mode,
-                x.vendor,
-                0,
-                0,
-                0,
-                0,
-                0,
-                0,
-                0,
-            ],
-        },
+        status::Read::Refused(n) => answered(n),
+        status::Read::Got(x) => with_status(answered(0), x),
     }
 }
 
 fn of_allocation(payload: &[u8]) -> Numbers {
     match allocation::decode(payload) {
-        allocation::Read::Refused(n) => refused(n),
-        allocation::Read::Got(x) => Numbers {
-            answer: 0,
-            values: [x.node_id, x.first_part, 0, 0, 0, 0, 0, 0, 0, 0, 0, 0],
-        },
+        allocation::Read::Refused(n) => answered(n),
+        allocation::Read::Got(x) => {
+            let mut n = only(x.node_id);
+            n.values[1] = x.first_part;
+            n
+        }
     }
 }
 
 fn of_key_value(payload: &[u8]) -> Numbers {
     match key_value::decode(payload) {
-        key_value::Read::Refused(n) => refused(n),
-        key_value::Read::Got(x) => Numbers {
-            answer: 0,
-            values: [x.value, 0, 0, 0, 0, 0, 0, 0, 0, 0, 0, 0],
-        },
+        key_value::Read::Refused(n) => answered(n),
+        key_value::Read::Got(x) => only(x.value),
     }
 }
 
 fn of_log_message(payload: &[u8]) -> Numbers {
     match log_message::decode(payload) {
-        log_message::Read::Refused(n) => refused(n),
-        log_message::Read::Got(x) => Numbers {
-            answer: 0,
-            values: [x.level, 0, 0, 0, 0, 0, 0, 0, 0, 0, 0, 0],
-        },
+        log_message::Read::Refused(n) => answered(n),
+        log_message::Read::Got(x) => only(x.level),
     }
 }
 
 fn of_request(payload: &[u8]) -> Numbers {
     match request::decode(payload) {
-        request::Read::Refused(n) => refused(n),
-        request::Read::Got => refused(0),
+        request::Read::Refused(n) => answered(n),
+        request::Read::Got => answered(0),
     }
 }
 
 fn of_response(payload: &[u8]) -> Numbers {
     match response::decode(payload) {
-        response::Read::Refused(n) => refused(n),
+        response::Read::Refused(n) => answered(n),
         response::Read::Got(x) => {
             let i = x.info;
             let s = i.status;
-            Numbers {
-                answer: 0,
-                values: [
-                    s.uptime,
-                    s.health,
-                    s.mode,
-                    s.sub_mode,
-                    s.vendor,
-                    i.software_major,
-                    i.software_minor,
-                    i.software_flags,
-                    i.software_commit,
-                    i.image_crc,
-                    i.hardware_major,
-                    i.hardware_minor,
-                ],
-            }
+            with_versions(with_status(answered(0), s), i)
         }
     }
 }

@@ -23,25 +23,25 @@ ghost use lib.ListN.{length};
 // The sub-mode, in both types that have it: it takes any number.
 const SUB_MODE: usize = 3;
 
-// The fields that a line gives; those that it does not name are 0 or empty. A list's bytes stand where its digits stand in the line.
+// The fields that a line gives, of which `seen` has a bit for each; those that it does not name are 0 or empty. A list's bytes stand
+// where its digits stand in the line.
 struct Given {
     ok: bool,
     outside: bool,
-    seen: [bool; 15],
+    seen: u64,
     values: [u64; 12],
     starts: [usize; 3],
     lengths: [usize; 3],
 }
 
 fn nothing() -> Given {
-    let seen = [false; 15];
     let values = [0u64; 12];
     let starts = [0usize; 3];
     let lengths = [0usize; 3];
     Given {
         ok: true,
         outside: false,
-        seen,
+        seen: 0,
         values,
         starts,
         lengths,
@@ -94,11 +94,11 @@ fn with_field(g: Given, i: usize, numbers: usize, s: &[u8], bytes: &mut [u8], at
     if 14 < i {
         return ill_formed(g);
     }
-    if g.seen[i] {
+    if (g.seen >> i) % 2 == 1 {
         return ill_formed(g);
     }
     let mut h = g;
-    h.seen[i] = true;
+    h.seen = g.seen | (1u64 << i);
     if i < numbers {
         return with_number(h, i, s);
     }

@@ -33,7 +33,32 @@ fn typed(
     decode::answer(kind, names, numbers, rest, bytes, out, at)
 }
 
-// The request of a type by its name.
+// The request of a service by its name.
+fn service(
+    encodes: bool,
+    name: &[u8],
+    rest: &[u8],
+    bytes: &mut [u8],
+    out: &mut [u8],
+    at: usize,
+) -> usize
+    requires { ⌜ length (now rest) ≤ length (now bytes) ⌝ }
+{
+    if check::same(name, b"GetNodeInfo.Request") {
+        return typed(encodes, Kind::Request, b"", 0, rest, bytes, out, at);
+    }
+    if check::same(name, b"GetNodeInfo.Response") {
+        let names =
+            b"status.uptime_sec status.health status.mode status.sub_mode status.vendor_specific_status_code \
+software_version.major software_version.minor software_version.optional_field_flags software_version.vcs_commit \
+software_version.image_crc hardware_version.major hardware_version.minor hardware_version.unique_id \
+hardware_version.certificate_of_authenticity name";
+        return typed(encodes, Kind::Response, names, 12, rest, bytes, out, at);
+    }
+    put::ill_formed(out, at)
+}
+
+// The request of a type by its name: a message, or else a service.
 fn named(
     encodes: bool,
     name: &[u8],
@@ -76,18 +101,7 @@ fn named(
             at,
         );
     }
-    if check::same(name, b"GetNodeInfo.Request") {
-        return typed(encodes, Kind::Request, b"", 0, rest, bytes, out, at);
-    }
-    if check::same(name, b"GetNodeInfo.Response") {
-        let names =
-            b"status.uptime_sec status.health status.mode status.sub_mode status.vendor_specific_status_code \
-software_version.major software_version.minor software_version.optional_field_flags software_version.vcs_commit \
-software_version.image_crc hardware_version.major hardware_version.minor hardware_version.unique_id \
-hardware_version.certificate_of_authenticity name";
-        return typed(encodes, Kind::Response, names, 12, rest, bytes, out, at);
-    }
-    put::ill_formed(out, at)
+    service(encodes, name, rest, bytes, out, at)
 }
 
 // What comes behind the verb.
