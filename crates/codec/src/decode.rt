@@ -182,8 +182,8 @@ fn fields(
     o
 }
 
-// Internal. The answer to `decode TYPE` and the rest.
-pub fn answer(
+// By way of a buffer for the payload.
+fn through(
     kind: Kind,
     names: &[u8],
     numbers: usize,
@@ -206,4 +206,19 @@ pub fn answer(
         return fields(kind, names, numbers, values, payload, out, o);
     }
     o
+}
+
+// Internal. The answer to `decode TYPE` and the rest.
+pub fn answer(
+    kind: Kind,
+    names: &[u8],
+    numbers: usize,
+    rest: &[u8],
+    out: &mut [u8],
+    at: usize,
+) -> usize
+    requires { ⌜ (length (now rest) ≤ 8192) × (numbers ≤ 12) ⌝ }
+{
+    let mut bytes = [0u8; 8192];
+    through(kind, names, numbers, rest, &mut bytes, out, at)
 }

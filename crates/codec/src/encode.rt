@@ -238,8 +238,15 @@ fn into(kind: Kind, g: Given, room: usize, bytes: &[u8], out: &mut [u8], at: usi
     through(kind, g, bytes, &mut message[0..room], out, at)
 }
 
-// Internal. The answer to `encode TYPE` and the rest.
-pub fn answer(
+fn is_none(n: Number) -> bool {
+    match n {
+        Number::Not => true,
+        _ => false,
+    }
+}
+
+// By way of a buffer for the lists.
+fn from(
     kind: Kind,
     names: &[u8],
     numbers: usize,
@@ -262,9 +269,17 @@ pub fn answer(
     put::ill_formed(out, at)
 }
 
-fn is_none(n: Number) -> bool {
-    match n {
-        Number::Not => true,
-        _ => false,
-    }
+// Internal. The answer to `encode TYPE` and the rest.
+pub fn answer(
+    kind: Kind,
+    names: &[u8],
+    numbers: usize,
+    rest: &[u8],
+    out: &mut [u8],
+    at: usize,
+) -> usize
+    requires { ⌜ (length (now rest) ≤ 8192) × (numbers ≤ 12) ⌝ }
+{
+    let mut bytes = [0u8; 8192];
+    from(kind, names, numbers, rest, &mut bytes, out, at)
 }

@@ -21,26 +21,26 @@ struct At {
 }
 
 // Answers the line that is in hand.
-fn end_line(line: &[u8], n: usize, bytes: &mut [u8], out: &mut [u8], at: usize) -> usize
-    requires { ⌜ (8192 ≤ length (now line)) × (8192 ≤ length (now bytes)) ⌝ }
+fn end_line(line: &[u8], n: usize, out: &mut [u8], at: usize) -> usize
+    requires { ⌜ 8192 ≤ length (now line) ⌝ }
 {
     if LONGEST < n {
         return put::bytes(out, at, b"?\n");
     }
-    let o = request::answer(&line[0..n], bytes, out, at);
+    let o = request::answer(&line[0..n], out, at);
     put::byte(out, o, 10)
 }
 
 // One more byte of the input.
-fn step(line: &mut [u8], bytes: &mut [u8], out: &mut [u8], a: At, b: u8) -> At
-    requires { ⌜ (8192 ≤ length (now line)) × (8192 ≤ length (now bytes)) ⌝ }
+fn step(line: &mut [u8], out: &mut [u8], a: At, b: u8) -> At
+    requires { ⌜ 8192 ≤ length (now line) ⌝ }
 {
     let n = a.line;
     let at = a.out;
     if b == 10 {
         return At {
             line: 0,
-            out: end_line(line, n, bytes, out, at),
+            out: end_line(line, n, out, at),
         };
     }
     if n < LONGEST {
@@ -56,13 +56,13 @@ fn step(line: &mut [u8], bytes: &mut [u8], out: &mut [u8], a: At, b: u8) -> At
     }
 }
 
-fn chunk(src: &[u8], line: &mut [u8], bytes: &mut [u8], out: &mut [u8], a: At) -> At
-    requires { ⌜ (8192 ≤ length (now line)) × (8192 ≤ length (now bytes)) ⌝ }
+fn chunk(src: &[u8], line: &mut [u8], out: &mut [u8], a: At) -> At
+    requires { ⌜ 8192 ≤ length (now line) ⌝ }
 {
     let mut st = a;
     let mut i = 0;
     while i < src.len() {
-        st = step(line, bytes, out, st, src[i]);
+        st = step(line, out, st, src[i]);
         i += 1;
     }
     st
@@ -74,8 +74,8 @@ struct Go {
 }
 
 // One read. A failed one counts as the end of the input.
-fn some(line: &mut [u8], bytes: &mut [u8], out: &mut [u8], a: At) -> Go
-    requires { ⌜ (8192 ≤ length (now line)) × (8192 ≤ length (now bytes)) ⌝ }
+fn some(line: &mut [u8], out: &mut [u8], a: At) -> Go
+    requires { ⌜ 8192 ≤ length (now line) ⌝ }
 {
     let mut buf = io::large_buffer();
     let got = libc::read(0, &mut buf);
@@ -85,41 +85,40 @@ fn some(line: &mut [u8], bytes: &mut [u8], out: &mut [u8], a: At) -> Go
     let n = io::count(got, &buf);
     Go {
         more: true,
-        at: chunk(&buf[..n], line, bytes, out, a),
+        at: chunk(&buf[..n], line, out, a),
     }
 }
 
 // Every line; one without line feed at the end of the input too.
-fn all(line: &mut [u8], bytes: &mut [u8], out: &mut [u8])
-    requires { ⌜ (8192 ≤ length (now line)) × (8192 ≤ length (now bytes)) ⌝ }
+fn all(line: &mut [u8], out: &mut [u8])
+    requires { ⌜ 8192 ≤ length (now line) ⌝ }
 {
     let mut turns = u64::MAX;
     let mut st = At { line: 0, out: 0 };
     let mut more = true;
     while turns > 0 && more {
-        let g = some(line, bytes, out, st);
+        let g = some(line, out, st);
         st = g.at;
         more = g.more;
         turns -= 1;
     }
-    last(line, bytes, out, st);
+    last(line, out, st);
 }
 
-fn last(line: &[u8], bytes: &mut [u8], out: &mut [u8], a: At)
-    requires { ⌜ (8192 ≤ length (now line)) × (8192 ≤ length (now bytes)) ⌝ }
+fn last(line: &[u8], out: &mut [u8], a: At)
+    requires { ⌜ 8192 ≤ length (now line) ⌝ }
 {
     let n = a.line;
     let at = a.out;
     if n == 0 {
         return put::flush(out, at);
     }
-    let o = end_line(line, n, bytes, out, at);
+    let o = end_line(line, n, out, at);
     put::flush(out, o);
 }
 
 fn main() {
     let mut line = [0u8; 8192];
-    let mut bytes = [0u8; 8192];
     let mut out = [0u8; 65536];
-    all(&mut line, &mut bytes, &mut out);
+    all(&mut line, &mut out);
 }

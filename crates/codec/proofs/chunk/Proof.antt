@@ -7,10 +7,10 @@ use Rattle.codec.proofs.chunk.Statement.{statement}
 use Rattle.codec.proofs.chunk.Tie as tie
 
 abbrev Inv-loop : tie.InvT-loop
-Inv-loop src line₀ bytes₀ out₀ st₀ i₀ line bytes out st i = (i ≤ length src) × ((length line ≡ length line₀) × ((length bytes ≡ length bytes₀) × (length out ≡ length out₀)))
+Inv-loop src line₀ out₀ st₀ i₀ line out st i = (i ≤ length src) × ((length line ≡ length line₀) × (length out ≡ length out₀))
 
 abbrev μ-loop : tie.MeasureT-loop
-μ-loop src line₀ bytes₀ out₀ st₀ i₀ line bytes out st i = length src - i
+μ-loop src line₀ out₀ st₀ i₀ line out st i = length src - i
 
 loop-holds : tie.Need-loop-holds Inv-loop μ-loop
 loop-holds c = search needs
@@ -36,9 +36,6 @@ same-length c = search needs
 same-length-2 : tie.Need-same-length-2 Inv-loop μ-loop
 same-length-2 c = search needs
 
-same-length-3 : tie.Need-same-length-3 Inv-loop μ-loop
-same-length-3 c = search needs
-
 returns : tie.Need-returns Inv-loop μ-loop
 returns c = search needs
 
@@ -56,5 +53,4 @@ chunk-spec =
     loop-again
     same-length
     same-length-2
-    same-length-3
     returns)
