@@ -293,3 +293,88 @@ void baseline_init(struct baseline *r, uint8_t own, baseline_accept *accept, bas
     r->user = user;
     r->own = own;
 }
+
+/* ---- sending ---- */
+
+static struct baseline_entry *entry_of(struct baseline_sender *s, uint32_t key, uint64_t time)
+{
+    struct baseline_entry *e = s->entries, *end = s->entries + s->used;
+    while (e < end && e->key != key)
+        e++;
+    if (e < end)
+        return e;
+    if (s->used < BASELINE_ENTRIES)
+        s->used++;
+    else
+        for (e = s->entries; e < end && time - e->time < TIMEOUT; e++)
+            ;
+    if (e == s->entries + BASELINE_ENTRIES)
+        return NULL;
+    e->key = key;
+    e->next = 0;
+    return e;
+}
+
+static uint32_t id_of(const struct baseline_route *w)
+{
+    uint32_t id = (uint32_t)w->priority << 24 | w->source;
+    if (w->kind == BASELINE_MESSAGE)
+        return id | (uint32_t)w->type_id << 8;
+    uint32_t request = w->kind == BASELINE_REQUEST;
+    return id | (uint32_t)w->type_id << 16 | request << 15 | (uint32_t)w->destination << 8 | 128;
+}
+
+/* A record whose data begin with those that are there already; gives how many bytes of the payload it took. */
+static size_t put_record(uint8_t *out, uint32_t id, size_t there, const uint8_t *payload, size_t length, uint8_t flags)
+{
+    uint8_t *at = out + 5 + there;
+    size_t n = length < 7 - there ? length : 7 - there;
+    for (int i = 0; i < 4; i++)
+        out[i] = (uint8_t)(id >> (8 * i));
+    out[4] = (uint8_t)(there + n + 1);
+    for (size_t i = 0; i < n; i++)
+        *at++ = payload[i];
+    *at++ = (uint8_t)(flags | (n == length ? 64 : 0));
+    while (at < out + BASELINE_RECORD)
+        *at++ = 0;
+    return n;
+}
+
+static size_t put_records(uint8_t *out, uint32_t id, uint8_t transfer_id, uint64_t signature, const uint8_t *payload, size_t length)
+{
+    if (length <= 7) {
+        put_record(out, id, 0, payload, length, 128 | transfer_id);
+        return 1;
+    }
+    uint16_t c = crc_bytes(crc_signature(signature), payload, length);
+    out[5] = (uint8_t)c;
+    out[6] = (uint8_t)(c >> 8);
+    size_t done = put_record(out, id, 2, payload, length, 128 | transfer_id), n = 1;
+    for (; done < length; n++) {
+        out += BASELINE_RECORD;
+        done += put_record(out, id, 0, payload + done, length - done, (uint8_t)((n & 1) << 5 | transfer_id));
+    }
+    return n;
+}
+
+size_t baseline_send(struct baseline_sender *s, const struct baseline_route *route, uint8_t transfer_id, uint64_t signature,
+                     const uint8_t *payload, size_t length, uint64_t time, uint8_t *out)
+{
+    if (route->kind != BASELINE_RESPONSE) {
+        struct baseline_route to = *route;
+        to.source = 0;
+        struct baseline_entry *e = entry_of(s, key_of(&to), time);
+        if (e == NULL)
+            return 0;
+        transfer_id = e->next;
+        e->next = (e->next + 1) & 31;
+        e->time = time;
+    }
+    return put_records(out, id_of(route), transfer_id, signature, payload, length);
+}
+
+void baseline_sender_init(struct baseline_sender *s)
+{
+    fill_table();
+    s->used = 0;
+}

@@ -1,10 +1,15 @@
-/* A plain C receiver of UAVCAN v0 transfers, the opponent of bench/receive.c. It is written from the published transport (002) and
- * built as the stacks of the field are: one static pool of 32-byte blocks, linked by number, from which come a list of streams and, for
- * each, a list of chunks that gather its payload and is walked at each frame; a table checksum that runs along with the frames; a
- * callback that says which types are wanted, and one that gets the transfers.
+/* A plain C receiver and sender of UAVCAN v0 transfers, the opponents of bench/receive.c and bench/send.c. They are written from the
+ * published transport (002) and built as the stacks of the field are.
  *
- * It trusts its own memory and does less than the proved receiver: no frame is refused by number, a tail that does not fit its frame is
- * not looked for, a payload has no limit but the pool's, and a stream that falls silent keeps its block for good. */
+ * The receiver has one static pool of 32-byte blocks, linked by number, from which come a list of streams and, for each, a list of
+ * chunks that gather its payload and is walked at each frame; a table checksum that runs along with the frames; a callback that says
+ * which types are wanted, and one that gets the transfers. It trusts its own memory and does less than the proved receiver: no frame is
+ * refused by number, a tail that does not fit its frame is not looked for, a payload has no limit but the pool's, and a stream that
+ * falls silent keeps its block for good.
+ *
+ * The sender has a table of transfer IDs that it searches from the front, and writes the frames byte by byte as records of the same 13
+ * bytes. It trusts its memory, its caller's numbers and the room it is given: of the proved sender's refusals it has only the full
+ * table. */
 #ifndef BASELINE_H
 #define BASELINE_H
 
@@ -81,5 +86,26 @@ void baseline_receive(struct baseline *r, uint32_t id, const uint8_t *frame, siz
 
 /* Writes the payload into one buffer and gives its length. */
 size_t baseline_copy(const struct baseline *r, const struct baseline_transfer *transfer, uint8_t *out);
+
+/* ---- sending ---- */
+
+enum { BASELINE_ENTRIES = 32, BASELINE_RECORD = 13 };
+
+struct baseline_entry {
+    uint64_t time; /* of the last use */
+    uint32_t key;
+    uint8_t next; /* transfer ID */
+};
+
+struct baseline_sender {
+    struct baseline_entry entries[BASELINE_ENTRIES];
+    size_t used;
+};
+
+void baseline_sender_init(struct baseline_sender *s);
+
+/* Writes the records of a transfer and gives their number, 0 if the table is full. The transfer ID is that of a response. */
+size_t baseline_send(struct baseline_sender *s, const struct baseline_route *route, uint8_t transfer_id, uint64_t signature,
+                     const uint8_t *payload, size_t length, uint64_t time, uint8_t *out);
 
 #endif

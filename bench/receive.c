@@ -10,28 +10,12 @@
  * has no check of its own state (20), which the last rows show alone: a frame that is refused right behind that check, by its ID. */
 #include <stdbool.h>
 #include <stdio.h>
-#include <string.h>
-#include <time.h>
 
 #include "baseline.h"
+#include "frames.h"
 #include "tecelume.h"
 
-enum { ROUNDS = 101, STEP = 100, OWN = 1, FIRST_SOURCE = 10, FRAMES_MAX = 20000, PER_TRANSFER_MAX = 74, REFUSED = 10000 };
-
-/* ---- the five types ---- */
-
-static const struct type {
-    uint32_t kind, type_id;
-    uint64_t signature;
-} types[] = {
-    {TECELUME_KIND_MESSAGE, 341, 0x0F0868D0C1A7C6F1},   /* NodeStatus */
-    {TECELUME_KIND_MESSAGE, 1, 0x0B2A812620A11D40},     /* Allocation */
-    {TECELUME_KIND_MESSAGE, 16370, 0xE02F25D6E0C98AE0}, /* KeyValue */
-    {TECELUME_KIND_MESSAGE, 16383, 0xD654A48E0C049D75}, /* LogMessage */
-    {TECELUME_KIND_SERVICE, 1, 0xEE468A8121C46A9E},     /* GetNodeInfo */
-};
-
-enum { TYPES = sizeof types / sizeof types[0], NODE_STATUS = 0, LOG_MESSAGE = 3 };
+enum { ROUNDS = 101, STEP = 100, OWN = 1, FIRST_SOURCE = 10, ROW_FRAMES_MAX = 20000, REFUSED = 10000 };
 
 /* ---- the frames of a row ---- */
 
@@ -51,72 +35,18 @@ static const struct row rows[] = {
 
 enum { ROWS = sizeof rows / sizeof rows[0] };
 
-struct frame {
-    uint32_t id;
-    uint8_t length;
-    uint8_t data[8];
-};
-
-static struct frame frames[FRAMES_MAX];
+static struct frame frames[ROW_FRAMES_MAX];
 static size_t frame_count;
-
-static uint8_t payload_byte(unsigned source, unsigned turn, unsigned i)
-{
-    return (uint8_t)(source * 89 + turn * 57 + i * 7 + i / 3);
-}
-
-/* Bit by bit: a checksum that no receiver here shares. */
-static unsigned crc(unsigned c, uint8_t byte)
-{
-    c ^= (unsigned)byte << 8;
-    for (int k = 0; k < 8; k++)
-        c = ((c & 0x8000) ? (c << 1) ^ 0x1021 : c << 1) & 0xFFFF;
-    return c;
-}
-
-/* What the frames of a transfer carry: its payload, behind a checksum if it needs more than one frame. */
-static size_t carried(const struct row *row, unsigned source, unsigned turn, uint8_t *bytes)
-{
-    size_t front = row->length > 7 ? 2 : 0;
-    unsigned c = 0xFFFF;
-    for (int i = 0; i < 8; i++)
-        c = crc(c, (uint8_t)(types[row->type].signature >> (8 * i)));
-    for (unsigned i = 0; i < row->length; i++) {
-        bytes[front + i] = payload_byte(source, turn, i);
-        c = crc(c, bytes[front + i]);
-    }
-    if (front > 0) {
-        bytes[0] = (uint8_t)c;
-        bytes[1] = (uint8_t)(c >> 8);
-    }
-    return front + row->length;
-}
-
-static size_t cut(const struct row *row, unsigned source, unsigned turn, struct frame *f)
-{
-    uint8_t bytes[2 + TECELUME_OUTPUT_SIZE];
-    size_t total = carried(row, source, turn, bytes), at = 0, n = 0;
-    for (; at < total; n++) {
-        size_t part = total - at < 7 ? total - at : 7;
-        bool start = at == 0, end = at + part == total;
-        memcpy(f[n].data, bytes + at, part);
-        f[n].data[part] = (uint8_t)(start << 7 | end << 6 | (n & 1) << 5 | turn % 32);
-        f[n].length = (uint8_t)(part + 1);
-        f[n].id = 16u << 24 | types[row->type].type_id << 8 | source;
-        at += part;
-    }
-    return n;
-}
 
 /* All transfers of the row, the sources' frames taking turns. */
 static void make_frames(const struct row *row)
 {
-    static struct frame transfer[32][PER_TRANSFER_MAX];
+    static struct frame transfer[32][TECELUME_FRAMES_MAX];
     frame_count = 0;
     for (unsigned turn = 0; turn < row->turns; turn++) {
         size_t per = 0;
         for (unsigned s = 0; s < row->sources; s++)
-            per = cut(row, FIRST_SOURCE + s, turn, transfer[s]);
+            per = make_transfer(&types[row->type], FIRST_SOURCE + s, turn, row->length, transfer[s]);
         for (size_t n = 0; n < per; n++)
             for (unsigned s = 0; s < row->sources; s++)
                 frames[frame_count++] = transfer[s][n];
@@ -133,7 +63,7 @@ static bool tecelume_begin(void)
 {
     uint8_t list[TYPES * TECELUME_SUBSCRIPTION_SIZE], *next = list;
     for (int i = 0; i < TYPES; i++)
-        next = tecelume_subscription(next, types[i].kind, types[i].type_id, types[i].signature);
+        next = tecelume_subscription(next, types[i].kind, types[i].type_id, tecelume_signature(types[i].kind, types[i].type_id));
     return tecelume_setup(state, sizeof state, OWN, list, sizeof list) == TECELUME_SUCCESS;
 }
 
@@ -149,14 +79,8 @@ static int baseline_length;
 
 static bool is_wanted(enum baseline_kind kind, uint16_t type_id, uint64_t *signature)
 {
-    uint32_t service = kind == BASELINE_MESSAGE ? TECELUME_KIND_MESSAGE : TECELUME_KIND_SERVICE;
-    for (int i = 0; i < TYPES; i++) {
-        if (types[i].kind == service && types[i].type_id == type_id) {
-            *signature = types[i].signature;
-            return true;
-        }
-    }
-    return false;
+    *signature = tecelume_signature(kind == BASELINE_MESSAGE ? TECELUME_KIND_MESSAGE : TECELUME_KIND_SERVICE, type_id);
+    return *signature != 0;
 }
 
 static void keep(const struct baseline *r, const struct baseline_transfer *transfer)
@@ -240,13 +164,6 @@ static bool is_right(const struct side *side, const struct row *row)
 }
 
 /* ---- time ---- */
-
-static double nanoseconds(void)
-{
-    struct timespec t;
-    clock_gettime(CLOCK_MONOTONIC, &t);
-    return (double)t.tv_sec * 1e9 + (double)t.tv_nsec;
-}
 
 /* The best time of a frame for each side; false if a round did not hand out all. */
 static bool measure(const struct row *row, double best[SIDES])

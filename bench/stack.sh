@@ -1,6 +1,7 @@
 #!/usr/bin/env bash
 # stack.sh ARCHIVE: from its object code, the stack that each C entry needs and the functions it wants from outside. Fails if
-# tecelume_receive needs more than 3072 bytes, or if anything but memcpy, memset, memmove and memcmp is wanted.
+# tecelume_receive needs more than 3072 bytes or another entry more than 1024, or if anything but memcpy, memset, memmove and memcmp is
+# wanted.
 #
 # The figure is an upper bound. A function needs its return address, every push and every step down of %rsp that it has, each counted
 # once on whatever path, 128 bytes below %rsp if it calls nothing (the red zone), and the most that a function needs which it calls or
@@ -9,7 +10,6 @@
 set -euo pipefail
 
 archive=${1:?usage: stack.sh ARCHIVE}
-limit=3072
 allowed=' memcpy memset memmove memcmp '
 
 work=$(mktemp -d)
@@ -21,7 +21,7 @@ objdump -d --no-show-raw-insn -j .text "$work/linked" >"$work/code"
 nm -u "$work/linked" | awk '{ print $NF }' | sort -u >"$work/wanted"
 nm --defined-only -g "$work/linked" | awk '$2 == "T" { print $3 }' | sort -u >"$work/entries"
 
-awk -v limit="$limit" -v entries="$work/entries" '
+awk -v entries="$work/entries" '
     function fail(why) { print "stack.sh: " why; failed = 1; exit 1 }
 
     # the size of a step, and whether it is negative: then it has all 64 bits
@@ -126,9 +126,10 @@ awk -v limit="$limit" -v entries="$work/entries" '
         while ((getline f < entries) > 0) {
             n = need(f)
             printf "%-28s %6d   %s\n", f, n, path[f]
+            limit = f == "tecelume_receive" ? 3072 : 1024
+            if (n > limit)
+                fail(f " needs more than " limit " bytes")
         }
-        if (need("tecelume_receive") > limit)
-            fail("tecelume_receive needs more than " limit " bytes")
     }
 ' "$work/code"
 

@@ -9,6 +9,21 @@ pub const KEY_VALUE: u16 = 16370;
 pub const LOG_MESSAGE: u16 = 16383;
 pub const GET_NODE_INFO: u16 = 1;
 
+/// The signature of one of the five types, of kind 0 (message) or 1 (service); 0 of any other.
+pub fn signature(kind: u32, type_id: u32) -> u64 {
+    let Ok(type_id) = u16::try_from(type_id) else {
+        return 0;
+    };
+    match (kind, type_id) {
+        (0, NODE_STATUS) => node_status(),
+        (0, ALLOCATION) => allocation(),
+        (0, KEY_VALUE) => key_value(),
+        (0, LOG_MESSAGE) => log_message(),
+        (1, GET_NODE_INFO) => get_node_info(),
+        _ => 0,
+    }
+}
+
 pub fn node_status() -> u64 {
     hash(
         b"uavcan.protocol.NodeStatus\n\

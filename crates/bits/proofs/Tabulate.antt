@@ -1,8 +1,8 @@
 -- Laws of `tabulate`, as loops use them.
 use mathlib.Core.Path.{_≡_, refl, ap, ap₂, _∙_}
-use mathlib.Core.List.{[], _∷_, _++_}
+use mathlib.Core.List.{List, [], _∷_, _++_}
 use Prim.Native.Nat.{ℕ, zero, suc, _+_, _-_, _≤_, _<_}
-use native.Mathlib.Nat.{add-zero}
+use native.Mathlib.Nat.{zero-add, add-zero}
 use native.Mathlib.Omega.{arith}
 use lib.ListN.{length, getD}
 use Rattle.bits.specs.Tabulate.{tabulate}
@@ -15,6 +15,14 @@ module _ {A : Type 0} (f : ℕ → A) where
   pub tab-end : (i n : ℕ) → n ≤ i → tabulate f i (n - i) ≡ []
   unfolding tabulate
   tab-end i n h = let k : n - i ≡ 0 = omega arith in rw k
+
+  pub tab-append : (i a b : ℕ) → tabulate f i (a + b) ≡ tabulate f i a ++ tabulate f (i + a) b
+  unfolding tabulate
+  tab-append i zero b = rw (zero-add, add-zero)
+  tab-append i (suc a) b =
+      let n : suc a + b ≡ suc (a + b) = omega arith in
+      let e : suc i + a ≡ i + suc a = omega arith in
+      ap (tabulate f i) n ∙ ap (λ (l : List A). f i ∷ l) (tab-append (suc i) a b ∙ ap (λ (k : ℕ). tabulate f (suc i) a ++ tabulate f k b) e)
 
   pub length-tabulate : (i n : ℕ) → length (tabulate f i n) ≡ n
   unfolding tabulate

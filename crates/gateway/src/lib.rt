@@ -4,6 +4,7 @@ mod word;
 use transport::Outgoing;
 ghost use mathlib.Core.Path.{_≡_};
 ghost use Rattle.gateway.specs.Entry.{numbered, numberedMap, entry, packed, packedSend};
+ghost use Rattle.gateway.specs.Word.{WordLaws};
 ghost use Rattle.map.specs.Layout as layout;
 ghost use Rattle.map.specs.SetUp as setting;
 ghost use Rattle.receiver.specs.Receive.{frameOf, received};
@@ -97,3 +98,8 @@ pub extern "C" fn tecelume_signature(kind: u32, type_id: u32) -> u64
 {
     types::signature(kind, type_id)
 }
+
+// What the result word of a reception holds: every value that is handed out fits its field and is read back from it.
+pub fn word_fields()
+    ensures { λ _. ⌜ WordLaws ⌝ }
+{}

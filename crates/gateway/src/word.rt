@@ -8,18 +8,19 @@ ghost use Prim.Native.Nat.{_+_, _*_, _^_, _≤_};
 ghost use Rattle.map.specs.SetUp as setting;
 ghost use Rattle.sender.specs.Send as send;
 ghost use Rattle.setup.specs.Setup.{numberOf};
-ghost use Rattle.gateway.specs.Word.{transferWord, wordOf};
+ghost use Rattle.gateway.specs.Word.{transferWord, wordOf, TransferFits, Fits};
 
 fn of_transfer(t: Transfer) -> u64
+    requires { ⌜ TransferFits t ⌝ }
     ensures { λ r. ⌜ r ≡ transferWord t ⌝ }
 {
-    t.len as u64 % 0x400 * 0x100
-        + (t.kind as u64 % 4 * 0x40000
-            + (t.type_id as u64 % 0x10000 * 0x100000
-                + (t.source as u64 % 0x80 * 0x1000000000
-                    + (t.destination as u64 % 0x80 * 0x80000000000
-                        + (t.priority as u64 % 0x20 * 0x4000000000000
-                            + t.transfer as u64 % 0x20 * 0x80000000000000)))))
+    t.len as u64 * 0x100
+        + (t.kind as u64 * 0x40000
+            + (t.type_id as u64 * 0x100000
+                + (t.source as u64 * 0x1000000000
+                    + (t.destination as u64 * 0x80000000000
+                        + (t.priority as u64 * 0x4000000000000
+                            + t.transfer as u64 * 0x80000000000000)))))
 }
 
 pub fn of_outcome(o: Outcome) -> u32
@@ -33,6 +34,7 @@ pub fn of_outcome(o: Outcome) -> u32
 }
 
 pub fn of_answer(a: Answer) -> u64
+    requires { ⌜ Fits a ⌝ }
     ensures { λ r. ⌜ r ≡ wordOf a ⌝ }
 {
     match a {

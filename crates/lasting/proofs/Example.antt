@@ -10,6 +10,7 @@ use lib.ListN.{length, replicate, length-replicate}
 use Rattle.bits.proofs.Octets.{octets-append, octets-leBytes}
 use Rattle.bits.specs.Little.{le, leBytes}
 use Rattle.bits.specs.Order.{Octets}
+use Rattle.bits.specs.Tabulate.{tabulate}
 use Rattle.lasting.specs.Condition3.{took, startResult, framesOf, LentPremises, LentWhile}
 use Rattle.lasting.specs.Example.{callsOf, lentOf, lentSpacious, lentCrowded, LentExample}
 use Rattle.lasting.specs.Received.{Typed}
@@ -170,11 +171,11 @@ records =
     0 ∷ 0xF2 ∷ 0x3F ∷ 0 ∷ 0 ∷ 0xEF ∷ 0xCD ∷ 0xAB ∷ 0x89 ∷ 0x67 ∷ 0x45 ∷ 0x23 ∷ 0x01 ∷ []
 
 given-is : given 1 records ≡ setup
-unfolding given recordAt records le
+unfolding given recordAt records le tabulate
 given-is = refl
 
 accepted-is : accepted 1 records ≡ true
-unfolding accepted acceptable given recordAt records le
+unfolding accepted acceptable given recordAt records le tabulate
 accepted-is = refl
 
 records-bytes : bytesTest records ≡ true

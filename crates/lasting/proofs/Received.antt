@@ -24,7 +24,8 @@ use Rattle.receiver.specs.Receive.{arriving, receivedIf, received}
 use Rattle.state.proofs.Bools.{and-left, and-right}
 use Rattle.state.proofs.Faultless.{long, setup-fine, table-sound}
 use Rattle.state.proofs.Written.{AllStorable, octets-written, length-written, view-written, raw-written, past-written, setup-written}
-use Rattle.state.specs.Layout.{size, tabulate, setupOf, keyAt, countAt, timeAt, gatheredAt, sessionAt, placeAt, placesOf, streamOfKey}
+use Rattle.bits.specs.Tabulate.{tabulate}
+use Rattle.state.specs.Layout.{size, setupOf, keyAt, countAt, timeAt, gatheredAt, sessionAt, placeAt, placesOf, streamOfKey}
 use Rattle.state.specs.Place.{written}
 use Rattle.state.specs.Sound.{soundState}
 
@@ -48,6 +49,7 @@ module _ (m : List ℕ) (bytes : Octets m) (long : size ≤ length m) where
     go false = session-writable i h
 
   from-writable : (n i : ℕ) → i + n ≤ 32 → AllWritable (tabulate (placeAt m) i n)
+  unfolding tabulate
   from-writable zero i h = tt
   from-writable (suc n) i h = (place-writable i (omega arith), from-writable n (suc i) (omega arith))
 

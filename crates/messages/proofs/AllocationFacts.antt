@@ -1,12 +1,12 @@
 -- Allocation: what its reader and its writer go by.
 use mathlib.Core.Path.{_≡_, refl, sym, ap, _∙_}
-use mathlib.Core.Bool.{Bool, true, false, _&&_}
+use mathlib.Core.Bool.{Bool, _&&_}
 use mathlib.Core.List.{List, [], _∷_, _++_, append-assoc}
-use Prim.Native.Nat.{ℕ, _+_, _*_, _^_, _≤_, _<_}
+use Prim.Native.Nat.{ℕ, _+_, _*_, _≤_, _<_}
 use native.Mathlib.Omega.{arith}
 use lib.Dec.{ltb, leb}
-use lib.ListN.{length, drop, length-append}
-use Rattle.bits.specs.Order.{Octets, unpack, toBits, fromBits, store}
+use lib.ListN.{length, length-append}
+use Rattle.bits.specs.Order.{Octets, unpack, toBits, store}
 use Rattle.bits.proofs.Numbers.{length-toBits}
 use Rattle.shape.specs.Answer.{refused, got}
 use Rattle.shape.specs.Shape.{Values, encode, decoded, fits}
@@ -34,7 +34,8 @@ module _ (s : List ℕ) (o : Octets s) where
   only v e = ht-only head 1 refl 16 s o v e
 
 pub made : {n n' f f' l l' : ℕ} → n ≡ n' → f ≡ f' → l ≡ l'
-    → _≡_ {A = Allocation} (record { «node_id» = n; «first_part» = f; «unique_id» = record { at = 1; len = l } }) (record { «node_id» = n'; «first_part» = f'; «unique_id» = record { at = 1; len = l' } })
+    → _≡_ {A = Allocation} (record { «node_id» = n; «first_part» = f; «unique_id» = record { at = 1; len = l } })
+    (record { «node_id» = n'; «first_part» = f'; «unique_id» = record { at = 1; len = l' } })
 made a b c = cc
 
 module _ (n f : ℕ) (u : List ℕ) where

@@ -1,16 +1,16 @@
 -- KeyValue: what its reader and its writer go by.
 use mathlib.Core.Path.{_≡_, refl, sym, ap, _∙_}
-use mathlib.Core.Bool.{Bool, true, false, _&&_}
+use mathlib.Core.Bool.{Bool, _&&_}
 use mathlib.Core.List.{List, [], _∷_, _++_}
-use Prim.Native.Nat.{ℕ, _+_, _*_, _^_, _≤_, _<_}
+use Prim.Native.Nat.{ℕ, _+_, _*_, _≤_, _<_}
 use native.Mathlib.Omega.{arith}
 use lib.Dec.{ltb, leb}
-use lib.ListN.{length, drop, length-append}
-use Rattle.bits.specs.Order.{Octets, unpack, toBits, fromBits, store}
+use lib.ListN.{length, length-append}
+use Rattle.bits.specs.Order.{Octets, unpack, toBits, store}
 use Rattle.bits.proofs.Numbers.{length-toBits}
 use Rattle.shape.specs.Answer.{refused, got}
 use Rattle.shape.specs.Shape.{Values, encode, decoded, fits}
-use Rattle.shape.proofs.Fields.{and-true, and-assoc, length-itemBits}
+use Rattle.shape.proofs.Fields.{and-true, length-itemBits}
 use Rattle.shape.proofs.Reading.{Slot, value, refused-on, got-on, ht-short, ht-long, ht-held, ht-only}
 use Rattle.shape.proofs.Writing.{more, item-bytes, all-bytes}
 use Rattle.messages.specs.KeyValue.{keyValue, keyIn, keyValueOf, keyValueIn}

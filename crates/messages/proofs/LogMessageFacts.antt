@@ -2,18 +2,18 @@
 use mathlib.Core.Path.{_≡_, refl, sym, ap, _∙_}
 use mathlib.Core.Bool.{Bool, true, false, _&&_}
 use mathlib.Core.List.{List, [], _∷_, _++_, append-assoc}
-use Prim.Native.Nat.{ℕ, _+_, _*_, _-_, _^_, _≤_, _<_}
+use Prim.Native.Nat.{ℕ, _+_, _*_, _-_, _≤_, _<_}
 use native.Mathlib.Omega.{arith}
 use borrow.Author.Tests.{ltb-true, ltb-false}
 use lib.Dec.{ltb, leb}
-use lib.ListN.{length, take, drop, length-append, length-drop}
+use lib.ListN.{length, drop, length-append, length-drop}
 use lib.Seq.{drop-drop, length-take-le}
-use Rattle.bits.specs.Order.{Octets, digits, valueFrom, unpack, number, toBits, fromBits, store}
+use Rattle.bits.specs.Order.{Octets, valueFrom, unpack, number, toBits, fromBits, store}
 use Rattle.bits.specs.Width.{widthIn, widthOf}
 use Rattle.bits.proofs.Bytes.{length-unpack, drop-unpack}
 use Rattle.bits.proofs.Octets.{octets-drop}
 use Rattle.bits.proofs.Numbers.{length-toBits, fromBits-lt}
-use Rattle.shape.specs.Answer.{Answer, refused, got, mapAnswer}
+use Rattle.shape.specs.Answer.{refused, got, mapAnswer}
 use Rattle.shape.specs.Shape.{Shape, list, tail, Values, anything, itemBits, encode, decode, decoded, fits}
 use Rattle.shape.proofs.Fields.{and-true, and-assoc, length-itemBits}
 use Rattle.shape.proofs.Reading.{Slot, value, withHead, head-read, head-short, refused-on, got-on, never, list-short, list-read, tail-long, tail-got}
@@ -92,14 +92,17 @@ module _ (s : List ℕ) (o : Octets s) where
 
     source : decode lists (drop 3 (unpack s)) ≡ mapAnswer with-source (decode text (unpack (textIn s)))
     source =
-        list-read 31 text (drop 3 (unpack s)) (field s (omega arith)) (drop 1 s) (octets-drop 1 s o) (behind s (omega arith)) n is (omega (arith, length-drop 1 s)) (omega (arith, below s))
+        list-read 31 text (drop 3 (unpack s)) (field s (omega arith)) (drop 1 s) (octets-drop 1 s o) (behind s (omega arith)) n is (omega (arith, length-drop 1 s))
+        (omega (arith, below s))
         ∙ ap (λ (x : List ℕ). mapAnswer with-source (decode text (unpack x))) (drop-drop n 1 s)
 
     too-many : 90 < length (textIn s) → decoded logMessage s ≡ refused 16
-    too-many g = refused-on (withHead head lists (unpack s) 0) (on (omega arith)) (refused-on with-source source (tail-long 90 anything (textIn s) (octets-drop (1 + n) s o) g))
+    too-many g = refused-on (withHead head lists (unpack s) 0) (on (omega arith))
+        (refused-on with-source source (tail-long 90 anything (textIn s) (octets-drop (1 + n) s o) g))
 
     read : length (textIn s) ≤ 90 → decoded logMessage s ≡ got (logMessageFound s)
-    read g = got-on (withHead head lists (unpack s) 0) (on (omega arith)) (got-on with-source source (tail-got 90 anything (textIn s) (octets-drop (1 + n) s o) g refl))
+    read g = got-on (withHead head lists (unpack s) 0) (on (omega arith))
+        (got-on with-source source (tail-got 90 anything (textIn s) (octets-drop (1 + n) s o) g refl))
 
     pub long : 90 < length (textIn s) → logMessageIn s ≡ refused 16
     long g = refused-on logMessageOf refl (too-many g)
@@ -133,7 +136,8 @@ module _ (v : ℕ) (xs ys : List ℕ) where
   fit o q = rw (all-bytes xs o, all-bytes ys q) (simp (and-assoc, and-true))
 
   -- w: the width that the code works out
-  pub stored : (w : ℕ) → w ≡ widthOf 31 → (m₀ m₁ m₂ m₃ m₄ : List ℕ) → 1 + length xs ≤ length m₀ → m₁ ≡ store m₀ 0 (toBits 3 v) → m₂ ≡ store m₁ 3 (toBits w (length xs))
+  pub stored : (w : ℕ) → w ≡ widthOf 31 → (m₀ m₁ m₂ m₃ m₄ : List ℕ) → 1 + length xs ≤ length m₀ → m₁ ≡ store m₀ 0 (toBits 3 v)
+      → m₂ ≡ store m₁ 3 (toBits w (length xs))
       → m₃ ≡ store m₂ 8 (unpack xs) → m₄ ≡ store m₃ ((1 + length xs) * 8) (unpack ys) → m₄ ≡ store m₀ 0 (encode logMessage (v, (xs, ys)))
   unfolding encode
   stored w e m₀ m₁ m₂ m₃ m₄ h e₁ e₂ e₃ e₄ =

@@ -2,12 +2,12 @@
 use mathlib.Core.Path.{_≡_, refl, ap, _∙_}
 use mathlib.Core.Bool.{Bool, true, false, _&&_}
 use mathlib.Core.List.{List, [], _∷_, _++_, append-assoc, append-nil}
-use Prim.Native.Nat.{ℕ, _+_, _*_, _^_, _≤_, _<_}
+use Prim.Native.Nat.{ℕ, _*_, _≤_, _<_}
 use native.Mathlib.Omega.{arith}
 use borrow.Author.Tests.{ltb-true, ltb-false}
 use lib.Dec.{ltb}
 use lib.ListN.{length, drop, length-append, length-drop}
-use Rattle.bits.specs.Order.{unpack, toBits, fromBits, store}
+use Rattle.bits.specs.Order.{unpack, toBits, store}
 use Rattle.bits.proofs.Bytes.{length-unpack}
 use Rattle.bits.proofs.Numbers.{length-toBits}
 use Rattle.shape.specs.Answer.{refused, got}
@@ -36,7 +36,8 @@ module _ (s : List ℕ) where
 
   exact : length s ≡ 7 → decoded nodeStatus s ≡ got (statusFound s)
   unfolding statusAt
-  exact h = got-on (withHead head end (unpack s) 0) (head-bytes head end 7 refl s (omega arith)) (end-none (unpack (drop 7 s)) (omega (arith, left, length-drop 7 s)))
+  exact h = got-on (withHead head end (unpack s) 0) (head-bytes head end 7 refl s (omega arith))
+      (end-none (unpack (drop 7 s)) (omega (arith, left, length-drop 7 s)))
 
   pub short : length s < 7 → statusIn s ≡ refused 15
   short h = refused-on (statusOf end) refl (ends h)
@@ -57,7 +58,8 @@ module _ (s : List ℕ) where
     go false false ea eb = reading.only e (exact (omega (arith, ltb-false (length s) 7 ea, ltb-false 7 (length s) eb)))
 
 pub made : {u h m v u' h' m' v' : ℕ} → u ≡ u' → h ≡ h' → m ≡ m' → v ≡ v'
-    → _≡_ {A = NodeStatus} (record { uptime = u; health = h; mode = m; «sub_mode» = 0; vendor = v }) (record { uptime = u'; health = h'; mode = m'; «sub_mode» = 0; vendor = v' })
+    → _≡_ {A = NodeStatus} (record { uptime = u; health = h; mode = m; «sub_mode» = 0; vendor = v })
+    (record { uptime = u'; health = h'; mode = m'; «sub_mode» = 0; vendor = v' })
 made a b c d = cc
 
 module _ (x : NodeStatus) where
@@ -70,7 +72,8 @@ module _ (x : NodeStatus) where
   fit = simp (and-assoc, and-true)
 
   pub stored : (m₀ m₁ m₂ m₃ m₄ m₅ : List ℕ) → 7 ≤ length m₀ → m₁ ≡ store m₀ 0 (toBits 32 (x .uptime)) → m₂ ≡ store m₁ 32 (toBits 2 (x .health))
-      → m₃ ≡ store m₂ 34 (toBits 3 (x .mode)) → m₄ ≡ store m₃ 37 (toBits 3 0) → m₅ ≡ store m₄ 40 (toBits 16 (x .vendor)) → m₅ ≡ store m₀ 0 (encode nodeStatus (statusValues x end tt))
+      → m₃ ≡ store m₂ 34 (toBits 3 (x .mode)) → m₄ ≡ store m₃ 37 (toBits 3 0) → m₅ ≡ store m₄ 40 (toBits 16 (x .vendor))
+      → m₅ ≡ store m₀ 0 (encode nodeStatus (statusValues x end tt))
   unfolding encode
   stored m₀ m₁ m₂ m₃ m₄ m₅ h e₁ e₂ e₃ e₄ e₅ =
       let a = toBits 32 (x .uptime) in

@@ -3,3 +3,4 @@ pub mod Allocation
 pub mod KeyValue
 pub mod LogMessage
 pub mod Laws
+pub mod Samples

@@ -26,6 +26,7 @@ pub fn unique_id(payload: &[u8]) -> &[u8]
     part::behind(payload, 1)
 }
 
+// Reads an allocation: 15 for a payload that ends too early, 16 for one that is too long.
 pub fn decode(payload: &[u8]) -> Read
     ensures { λ r. ⌜ answerOf r ≡ allocationIn (now (payload .entry)) ⌝ }
 {
@@ -43,6 +44,7 @@ pub fn decode(payload: &[u8]) -> Read
     })
 }
 
+// Writes an allocation to the front of `out`: 17 for what does not fit its field, then 8 for too little room.
 pub fn encode(node_id: u64, first_part: u64, unique_id: &[u8], out: &mut [u8]) -> Written
     ensures { λ r. ⌜ (answer.answerOf r, now (out .exit)) ≡ written allocation («node_id», («first_part», now («unique_id» .entry))) (now (out .entry)) ⌝ }
 {

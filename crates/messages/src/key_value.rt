@@ -26,6 +26,7 @@ pub fn key(payload: &[u8]) -> &[u8]
     part::behind(payload, 4)
 }
 
+// Reads a value and its key: 15 for a payload that ends too early, 16 for one that is too long.
 pub fn decode(payload: &[u8]) -> Read
     ensures { λ r. ⌜ answerOf r ≡ keyValueIn (now (payload .entry)) ⌝ }
 {
@@ -42,6 +43,7 @@ pub fn decode(payload: &[u8]) -> Read
     })
 }
 
+// Writes a value and its key to the front of `out`: 17 for what does not fit its field, then 8 for too little room.
 pub fn encode(value: u64, key: &[u8], out: &mut [u8]) -> Written
     ensures { λ r. ⌜ (answer.answerOf r, now (out .exit)) ≡ written keyValue (value, now (key .entry)) (now (out .entry)) ⌝ }
 {

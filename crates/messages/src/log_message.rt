@@ -44,6 +44,7 @@ pub fn text(payload: &[u8]) -> &[u8]
     part::behind(payload, 1 + source_length(payload))
 }
 
+// Reads a log message: 15 for a payload that ends too early, 16 for one that is too long.
 pub fn decode(payload: &[u8]) -> Read
     ensures { λ r. ⌜ answerOf r ≡ logMessageIn (now (payload .entry)) ⌝ }
 {
@@ -65,6 +66,7 @@ pub fn decode(payload: &[u8]) -> Read
     })
 }
 
+// Writes a log message to the front of `out`: 17 for what does not fit its field, then 8 for too little room.
 pub fn encode(level: u64, source: &[u8], text: &[u8], out: &mut [u8]) -> Written
     ensures { λ r. ⌜ (answer.answerOf r, now (out .exit)) ≡ written logMessage (level, (now (source .entry), now (text .entry))) (now (out .entry)) ⌝ }
 {

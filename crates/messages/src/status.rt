@@ -38,6 +38,7 @@ pub fn read_front(s: &[u8]) -> NodeStatus
     }
 }
 
+// Reads a status: 15 for a payload that ends too early, 16 for one that is too long.
 pub fn decode(payload: &[u8]) -> Read
     ensures { λ r. ⌜ answerOf r ≡ statusIn (now (payload .entry)) ⌝ }
 {
@@ -70,6 +71,7 @@ pub fn write_front(out: &mut [u8], x: NodeStatus)
     field::write(out, 40, 16, x.vendor);
 }
 
+// Writes a status to the front of `out`: 17 for what does not fit its field, then 8 for too little room.
 pub fn encode(x: NodeStatus, out: &mut [u8]) -> Written
     ensures { λ r. ⌜ (answer.answerOf r, now (out .exit)) ≡ written nodeStatus (statusValues x end tt) (now (out .entry)) ⌝ }
 {

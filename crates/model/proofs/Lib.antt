@@ -12,6 +12,7 @@ pub mod Lasting
 pub mod Lift
 pub mod Others
 pub mod Own
+pub mod Ranges
 pub mod Records
 pub mod Sends
 pub mod Start

@@ -6,6 +6,7 @@ pub mod Check
 pub mod Session
 pub mod Table
 pub mod Reception
+pub mod Range
 pub mod Sent
 pub mod SentLaws
 pub mod Map

@@ -1,6 +1,7 @@
 // The rules of 01 as definitions, in specs/. The functions here have no body: each one's contract is a theorem about the definitions.
 ghost use Rattle.model.specs.Condition3.{Condition3};
 ghost use Rattle.model.specs.Example.{Example};
+ghost use Rattle.model.specs.Range.{RangeLaw};
 ghost use Rattle.model.specs.Samples.{Samples};
 ghost use Rattle.model.specs.SendingLaws.{RecordLaws, SourceLaws, MapLasts, Delivered};
 ghost use Rattle.model.specs.SentLaws.{SentLaws, IdLaws};
@@ -25,6 +26,11 @@ pub fn why_premises()
 // A table of places without a fault stays one.
 pub fn table_lasts()
     ensures { λ _. ⌜ Lasting ⌝ }
+{}
+
+// What a reception answers is in its range.
+pub fn answers_in_range()
+    ensures { λ _. ⌜ RangeLaw ⌝ }
 {}
 
 // The frames of a payload: how many, what each carries, and what the first of them are.

@@ -1,19 +1,19 @@
 -- GetNodeInfo's response: what its reader goes by.
-use mathlib.Core.Path.{_≡_, refl, sym, ap, _∙_}
+use mathlib.Core.Path.{_≡_, refl, ap, _∙_}
 use mathlib.Core.Bool.{Bool, true, false}
 use mathlib.Core.List.{List, [], _∷_}
-use Prim.Native.Nat.{ℕ, _+_, _*_, _-_, _^_, _≤_, _<_}
+use Prim.Native.Nat.{ℕ, _+_, _^_, _≤_, _<_}
 use native.Mathlib.Omega.{arith}
 use borrow.Author.Tests.{ltb-true, ltb-false}
 use lib.Dec.{ltb}
-use lib.ListN.{length, take, drop, length-drop, drop-of-length-le}
+use lib.ListN.{length, drop, length-drop, drop-of-length-le}
 use lib.Seq.{drop-drop, length-take-le}
 use Rattle.bits.specs.Order.{Octets, valueFrom, unpack, number, fromBits}
 use Rattle.bits.specs.Width.{widthIn, widthOf}
 use Rattle.bits.proofs.Bytes.{length-unpack, drop-unpack}
 use Rattle.bits.proofs.Numbers.{fromBits-lt}
 use Rattle.bits.proofs.Octets.{octets-drop}
-use Rattle.shape.specs.Answer.{Answer, refused, got, mapAnswer}
+use Rattle.shape.specs.Answer.{refused, got, mapAnswer}
 use Rattle.shape.specs.Shape.{Shape, list, tail, Values, decode, decoded}
 use Rattle.shape.proofs.Reading.{Slot, value, gap, withHead, head-short, head-bytes, refused-on, got-on, never, items-short, items-read, list-none, list-short, list-read, tail-long, tail-not, tail-got}
 use Rattle.shape.proofs.Reading as reading
@@ -155,8 +155,10 @@ module _ (s : List ℕ) (o : Octets s) where
     go false false true ea eb ec = reading.only e (read (ltb-false (length s) (41 + n) ea) (ltb-false 80 (length (nameIn s)) eb) ec)
 
   -- the struct of what stands at these places
-  pub made : (m : NodeInfo) (u c a l : ℕ) → m ≡ infoAt (unpack s) → u ≡ length (uniqueIdIn s) → c ≡ length (certificateIn s) → a ≡ 41 + length (certificateIn s) → l ≡ length (nameIn s)
-      → _≡_ {A = Response} (record { info = m; «unique_id» = record { at = 24; len = u }; certificate = record { at = 41; len = c }; name = record { at = a; len = l } })
+  pub made : (m : NodeInfo) (u c a l : ℕ) → m ≡ infoAt (unpack s) → u ≡ length (uniqueIdIn s) → c ≡ length (certificateIn s) → a ≡ 41 + length (certificateIn s)
+      → l ≡ length (nameIn s)
+      → _≡_ {A = Response}
+      (record { info = m; «unique_id» = record { at = 24; len = u }; certificate = record { at = 41; len = c }; name = record { at = a; len = l } })
       (responseOf (responseFound s))
   unfolding infoAt statusAt
   made m u c a l e₁ e₂ e₃ e₄ e₅ = rw (e₁, e₂, e₃, e₄, e₅)

@@ -1,7 +1,5 @@
 -- The return trips of GetNodeInfo.
-use mathlib.Core.Path.{_≡_, refl}
-use mathlib.Core.List.{List}
-use Prim.Native.Nat.{ℕ}
+use mathlib.Core.Path.{refl}
 use lib.Dec.{lit≤}
 use Rattle.shape.proofs.Trip.{trips}
 use Rattle.messages.proofs.Trips.{cleared-status}

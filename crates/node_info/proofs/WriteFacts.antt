@@ -1,8 +1,8 @@
 -- GetNodeInfo's response: what its writer goes by.
 use mathlib.Core.Path.{_≡_, refl, sym, ap, _∙_}
 use mathlib.Core.Bool.{Bool, true, false, _&&_}
-use mathlib.Core.List.{List, [], _∷_, _++_, append-assoc, append-nil}
-use Prim.Native.Nat.{ℕ, _+_, _*_, _^_, _≤_, _<_}
+use mathlib.Core.List.{List, [], _++_, append-assoc, append-nil}
+use Prim.Native.Nat.{ℕ, _+_, _*_, _≤_, _<_}
 use native.Mathlib.Omega.{arith}
 use borrow.Author.Tests.{lt-ltb, le-leb, lt-leb, leb-true, eq-eqb, ne-eqb, eqb-true}
 use lib.Dec.{ltb, leb, eqb}
@@ -11,7 +11,7 @@ use Rattle.bits.specs.Order.{Octets, unpack, toBits, store}
 use Rattle.bits.specs.Width.{widthOf}
 use Rattle.bits.proofs.Bytes.{length-unpack}
 use Rattle.bits.proofs.Numbers.{length-toBits}
-use Rattle.shape.specs.Shape.{Shape, end, Values, itemBits, allBelow, encode, fits}
+use Rattle.shape.specs.Shape.{Shape, end, Values, allBelow, encode, fits}
 use Rattle.shape.proofs.Fields.{and-left, and-right, and-true, and-assoc, length-itemBits}
 use Rattle.shape.proofs.Writing.{more, more-from, item-bytes, all-bytes}
 use Rattle.messages.specs.Status.{nodeStatus, statusThen, statusValues}
@@ -141,7 +141,8 @@ module _ (u c n : List ℕ) where
   unfolding encode
   size-lists h = simp (length-append, length-toBits, length-itemBits) (omega (arith, eight))
 
-  lists-are : fits lists (u, (c, n)) ≡ eqb (length u) 16 && (allBelow 256 u && (leb (length c) 255 && (allBelow 256 c && (leb (length n) 80 && (allBelow 256 n && isName n)))))
+  lists-are : fits lists (u, (c, n)) ≡ eqb (length u) 16 &&
+      (allBelow 256 u && (leb (length c) 255 && (allBelow 256 c && (leb (length n) 80 && (allBelow 256 n && isName n)))))
   unfolding fits
   lists-are = refl
 
@@ -173,14 +174,16 @@ module _ (u c n : List ℕ) where
       let f₃ = and-right (allBelow 256 c) (leb (length n) 80 && (allBelow 256 n && isName n))
       (and-right (leb (length c) 255) (allBelow 256 c && (leb (length n) 80 && (allBelow 256 n && isName n))) f₂) in
       record {
-        id = eqb-true (length u) 16 (and-left (eqb (length u) 16) (allBelow 256 u && (leb (length c) 255 && (allBelow 256 c && (leb (length n) 80 && (allBelow 256 n && isName n))))) f₁);
+        id = eqb-true (length u) 16
+            (and-left (eqb (length u) 16) (allBelow 256 u && (leb (length c) 255 && (allBelow 256 c && (leb (length n) 80 && (allBelow 256 n && isName n))))) f₁);
         certificate = leb-true (length c) 255 (and-left (leb (length c) 255) (allBelow 256 c && (leb (length n) 80 && (allBelow 256 n && isName n))) f₂);
         name = leb-true (length n) 80 (and-left (leb (length n) 80) (allBelow 256 n && isName n) f₃);
       }
 
   -- w: the width that the code works out
   pub stored-lists : (w : ℕ) → w ≡ widthOf 255 → (m₀ m₁ m₂ m₃ m₄ : List ℕ) → length u ≡ 16 → 41 + length c ≤ length m₀ → m₁ ≡ store m₀ 192 (unpack u)
-      → m₂ ≡ store m₁ 320 (toBits w (length c)) → m₃ ≡ store m₂ 328 (unpack c) → m₄ ≡ store m₃ ((41 + length c) * 8) (unpack n) → m₄ ≡ store m₀ 192 (encode lists (u, (c, n)))
+      → m₂ ≡ store m₁ 320 (toBits w (length c)) → m₃ ≡ store m₂ 328 (unpack c) → m₄ ≡ store m₃ ((41 + length c) * 8) (unpack n)
+      → m₄ ≡ store m₀ 192 (encode lists (u, (c, n)))
   unfolding encode
   stored-lists w e m₀ m₁ m₂ m₃ m₄ h k e₁ e₂ e₃ e₄ =
       let a = unpack u in
@@ -197,7 +200,8 @@ module _ (u c n : List ℕ) where
 
 module _ (m : NodeInfo) (u c n : List ℕ) (h : length u ≡ 16) where
   pub size : length (encode response (infoValues m lists (u, (c, n)))) ≡ (41 + length c + length n) * 8
-  size = ap (λ (b : List Bool). length b) (whole-bits m (u, (c, n))) ∙ length-append (encode info (infoValues m end tt)) (encode lists (u, (c, n))) ∙ omega (arith, info-size m, size-lists u c n h)
+  size = ap (λ (b : List Bool). length b) (whole-bits m (u, (c, n))) ∙ length-append (encode info (infoValues m end tt)) (encode lists (u, (c, n)))
+      ∙ omega (arith, info-size m, size-lists u c n h)
 
   pub stored : (m₀ m₁ m₂ : List ℕ) → 24 ≤ length m₀ → m₁ ≡ store m₀ 0 (encode info (infoValues m end tt)) → m₂ ≡ store m₁ 192 (encode lists (u, (c, n)))
       → m₂ ≡ store m₀ 0 (encode response (infoValues m lists (u, (c, n))))

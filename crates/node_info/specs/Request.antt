@@ -1,5 +1,4 @@
 -- GetNodeInfo's request (01, Messages): it is empty.
-use Prim.Native.Nat.{ℕ}
 use Rattle.shape.specs.Answer.{Answer, refused, got}
 use Rattle.shape.specs.Shape.{Shape, end, Values}
 use Rattle.node_info.specs.declared.request.Read.{Read}

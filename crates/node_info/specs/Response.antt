@@ -9,7 +9,7 @@ use Rattle.bits.specs.Part.{span}
 use Rattle.bits.specs.Width.{widthOf}
 use Rattle.shape.specs.Answer.{Answer, refused, got, mapAnswer}
 use Rattle.shape.specs.Shape.{Shape, num, items, list, tail, Values, decoded}
-use Rattle.messages.specs.Status.{statusThen, statusValues, statusOf, statusAt}
+use Rattle.messages.specs.Status.{statusThen, statusValues, statusAt}
 use Rattle.node_info.specs.Name.{isName}
 use Rattle.node_info.specs.declared.response.NodeInfo.{NodeInfo}
 use Rattle.node_info.specs.declared.response.Response.{Response}

@@ -1,5 +1,5 @@
 // GetNodeInfo (service 1; 01, Messages): the empty request, and the response.
 pub mod laws;
-pub mod name;
+mod name;
 pub mod request;
 pub mod response;

@@ -27,7 +27,7 @@ fn is_letter(c: u8) -> bool
     c == 95
 }
 
-// Internal. Not empty, and of these letters alone.
+// Not empty, and of these letters alone.
 pub fn is_name(s: &[u8]) -> bool
     ensures { λ r. ⌜ r ≡ isName (now (s .entry)) ⌝ }
 {

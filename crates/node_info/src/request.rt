@@ -10,6 +10,7 @@ pub enum Read {
     Got,
 }
 
+// Reads a request: 16 for any byte.
 pub fn decode(payload: &[u8]) -> Read
     ensures { λ r. ⌜ answerOf r ≡ decoded request (now (payload .entry)) ⌝ }
 {

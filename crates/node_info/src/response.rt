@@ -89,6 +89,7 @@ fn read_info(s: &[u8]) -> NodeInfo
     }
 }
 
+// Reads a response: 15 for a payload that ends too early, 16 for a name that is too long, 17 for one that is none.
 pub fn decode(payload: &[u8]) -> Read
     ensures { λ r. ⌜ answerOf r ≡ responseIn (now (payload .entry)) ⌝ }
 {
@@ -180,6 +181,7 @@ fn write_lists(out: &mut [u8], unique_id: &[u8], certificate: &[u8], name: &[u8]
     field::write_bytes(out, 41 + certificate.len(), name);
 }
 
+// Writes a response to the front of `out`: 17 for what does not fit its field and for what is no name, then 8 for too little room.
 pub fn encode(
     m: NodeInfo,
     unique_id: &[u8],

@@ -12,7 +12,8 @@ use Rattle.bits.specs.Order.{Octets}
 use Rattle.model.specs.Frame.{Stream}
 use Rattle.model.specs.Table.{Place, empty, held, plus1, seek, holds, isFree, isOld, placeFor}
 use Rattle.model.specs.Tests.{pick}
-use Rattle.state.specs.Layout.{size, tabulate, keyAt, timeAt, sessionAt, placeAt, placesOf, streamOfKey}
+use Rattle.bits.specs.Tabulate.{tabulate}
+use Rattle.state.specs.Layout.{size, keyAt, timeAt, sessionAt, placeAt, placesOf, streamOfKey}
 use Rattle.state.specs.Scan.{fitsAt, lowest}
 use Rattle.state.specs.declared.scan.Want.the-variants.{Key, Old}
 use Rattle.state.proofs.Soundness.{holds-key}
@@ -34,7 +35,7 @@ lowest-from f (suc n) i = go (f i) (lowest-from f n (suc i)) where
 
 seek-from : (t : Place → Bool) (f : ℕ → Place) (g : ℕ → Bool) (n i : ℕ) → ((j : ℕ) → i ≤ j → j < i + n → t (f j) ≡ g j)
     → seek t (tabulate f i n) ≡ shifted i (lowest g i n) (i + n)
-unfolding seek lowest shifted
+unfolding seek lowest shifted tabulate
 seek-from t f g zero i e = rw (le-ltb i (i + 0) (omega arith))
 seek-from t f g (suc n) i e = go (g i) refl (lowest g (suc i) n) (lowest-from g n (suc i)) (seek-from t f g n (suc i) (λ j h k. e j (omega arith) (omega arith)))
   where

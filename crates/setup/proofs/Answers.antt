@@ -9,8 +9,9 @@ use lib.ListN.{length, drop}
 use Rattle.model.specs.Setup.{allFit, acceptable}
 use Rattle.setup.specs.Setup.{recordAt, given, accepted, stateOf, result, setUp}
 use Rattle.setup.specs.declared.Outcome.the-variants.{Done, Unacceptable, Short}
-use Rattle.state.proofs.Tabulate.{length-tabulate}
-use Rattle.state.specs.Layout.{size, tabulate}
+use Rattle.bits.proofs.Tabulate.{length-tabulate}
+use Rattle.bits.specs.Tabulate.{tabulate}
+use Rattle.state.specs.Layout.{size}
 
 pub tests : (own : ℕ) (r : List ℕ) (a b c d : Bool) → eqb (length r % 13) 0 ≡ a → ltb own 128 ≡ b → leb (length r / 13) 64 ≡ c
     → allFit (tabulate (recordAt r) 0 (length r / 13)) ≡ d → accepted own r ≡ (a && (b && (c && d)))

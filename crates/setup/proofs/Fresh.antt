@@ -22,8 +22,10 @@ use Rattle.setup.proofs.Laid.{zeros, laid, head, toKeys, toPlaces, at-s
 use Rattle.setup.specs.Laws.{Fresh}
 use Rattle.setup.specs.Setup.{recordAt, given, accepted, signatures, keys, filled, stateOf}
 use Rattle.state.proofs.Bools.{and-left, and-right}
-use Rattle.state.proofs.Tabulate.{tab-append, length-tabulate, tab-same, every-true}
-use Rattle.state.specs.Layout.{size, tabulate, subscriptionKeyAt, subscriptionAt, setupOf, keyAt, placeAt, placesOf}
+use Rattle.bits.proofs.Tabulate.{tab-append, length-tabulate, tab-same}
+use Rattle.state.proofs.Every.{every-true}
+use Rattle.bits.specs.Tabulate.{tabulate}
+use Rattle.state.specs.Layout.{size, subscriptionKeyAt, subscriptionAt, setupOf, keyAt, placeAt, placesOf}
 use Rattle.state.specs.Sound.{every, rawFits, soundState}
 
 -- ── what is accepted ──
@@ -66,6 +68,7 @@ in-filled pre a b c post n at w e h =
 
 module _ (own n : ℕ) (f : ℕ → Subscription) (past : List ℕ) (atMost : n ≤ 64) (j : ℕ) (inside : j < n) where
   around : tabulate f 0 n ≡ tabulate f 0 j ++ (f j ∷ tabulate f (suc j) (n - suc j))
+  unfolding tabulate
   around =
       let e : n ≡ j + suc (n - suc j) = omega arith in
       ap (tabulate f 0) e ∙ tab-append f 0 j (suc (n - suc j)) ∙ ap (λ (k : ℕ). tabulate f 0 j ++ tabulate f k (suc (n - suc j))) (zero-add j)
@@ -134,7 +137,7 @@ module _ (own n : ℕ) (xs : List Subscription) (past : List ℕ) (atMost : leng
   raw i h = rw (no-key i h)
 
   none-held : placesOf (laidOut own n xs past) ≡ begun
-  unfolding placesOf
+  unfolding placesOf tabulate
   none-held = tab-same (placeAt (laidOut own n xs past)) (λ l. empty) 32 0 (λ l h k. free l (omega arith))
 
   all-raw : every (rawFits (laidOut own n xs past)) 0 32 ≡ true

@@ -13,8 +13,9 @@ use Rattle.bits.specs.Part.{splice}
 use Rattle.model.specs.Setup.{Subscription, Setup}
 use Rattle.setup.specs.Setup.{recordAt, given, signatures, keys, filled, stateOf}
 use Rattle.setup.specs.Subscription.{withSubscription}
-use Rattle.state.proofs.Tabulate.{tab-append, length-tabulate}
-use Rattle.state.specs.Layout.{size, tabulate}
+use Rattle.bits.proofs.Tabulate.{tab-append, length-tabulate}
+use Rattle.bits.specs.Tabulate.{tabulate}
+use Rattle.state.specs.Layout.{size}
 
 -- ── lists that are filled up with zeros ──
 
@@ -134,6 +135,7 @@ laid-more own n xs a rest j e h =
 -- one turn of the loop
 pub laid-turn : (own n : ℕ) (f : ℕ → Subscription) (rest : List ℕ) (j : ℕ) → j < 64
     → withSubscription (laidOut own n (tabulate f 0 j) rest) j (f j) ≡ laidOut own n (tabulate f 0 (j + 1)) rest
+unfolding tabulate
 laid-turn own n f rest j h =
     laid-more own n (tabulate f 0 j) (f j) rest j (length-tabulate f 0 j) h
     ∙ ap (λ (x : List Subscription). laidOut own n x rest) (ap (λ (k : ℕ). tabulate f 0 j ++ (f k ∷ [])) (sym (zero-add j)) ∙ sym (tab-append f 0 j 1))

@@ -14,8 +14,8 @@ use Rattle.bits.specs.Part.{span}
 use Rattle.model.specs.Setup.{Subscription, typeFits, alike, unlike, allFit}
 use Rattle.setup.specs.Setup.{recordAt}
 use Rattle.setup.specs.Subscription.{Keyed}
-use Rattle.state.proofs.Tabulate.{tab-step}
-use Rattle.state.specs.Layout.{tabulate}
+use Rattle.bits.proofs.Tabulate.{tab-step}
+use Rattle.bits.specs.Tabulate.{tabulate}
 
 -- ── the first five bytes ──
 

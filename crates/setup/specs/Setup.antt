@@ -11,7 +11,8 @@ use Rattle.model.specs.Setup.{Subscription, Setup, acceptable}
 use Rattle.model.specs.Tests.{pick}
 use Rattle.setup.specs.declared.Outcome.{Outcome}
 use Rattle.setup.specs.declared.Outcome.the-variants.{Done, Unacceptable, Short}
-use Rattle.state.specs.Layout.{size, tabulate}
+use Rattle.bits.specs.Tabulate.{tabulate}
+use Rattle.state.specs.Layout.{size}
 
 -- 01, Numbers answered
 abbrev pub numberOf : Outcome → ℕ

@@ -8,7 +8,8 @@ ghost use lib.ListN.{length, drop, replicate};
 ghost use Rattle.model.specs.Setup.{typeFits, unlike, allFit};
 ghost use Rattle.setup.specs.Setup.{recordAt, given, stateOf, setUp, result};
 ghost use Rattle.setup.specs.Subscription.{Keyed, withSubscription};
-ghost use Rattle.state.specs.Layout.{size, tabulate};
+ghost use Rattle.bits.specs.Tabulate.{tabulate};
+ghost use Rattle.state.specs.Layout.{size};
 
 // What a setup answers.
 pub enum Outcome {

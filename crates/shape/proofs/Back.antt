@@ -1,11 +1,11 @@
 -- What was read fits, and is written as it came, the ignored bits zero: over every description.
 use mathlib.Core.Path.{_≡_, refl, sym, ap, _∙_}
 use mathlib.Core.Bool.{Bool, true, false, not, _&&_}
-use mathlib.Core.List.{List, [], _∷_, _++_, append-assoc, append-nil}
-use Prim.Native.Nat.{ℕ, zero, suc, _+_, _*_, _-_, _/_, _%_, _^_, _≤_, _<_}
-use native.Mathlib.Nat.{div-add-mod', mod-lt}
+use mathlib.Core.List.{List, _++_, append-assoc}
+use Prim.Native.Nat.{ℕ, _+_, _*_, _/_, _%_, _^_, _≤_, _<_}
+use native.Mathlib.Nat.{div-add-mod'}
 use native.Mathlib.Omega.{arith}
-use borrow.Author.Tests.{lt-ltb, le-leb, ltb-false, leb-false, eq-eqb, not-false}
+use borrow.Author.Tests.{lt-ltb, le-leb, ltb-false, leb-false, eq-eqb}
 use lib.Dec.{ltb, leb, eqb}
 use lib.ListN.{length, take, drop, length-append, length-drop, take-append-drop}
 use lib.Seq.{length-take-le}
@@ -58,7 +58,8 @@ good-num w d bs false e (got v) g =
       fit = and-both (ltb (fromBits w bs) (2 ^ w)) (fits d v) (lt-ltb (fromBits w bs) (2 ^ w) (fromBits-lt w bs l)) (g .fit);
     }
 
-good-void : (w : ℕ) (d : Shape) (bs : List Bool) (b : Bool) → ltb (length bs) w ≡ b → (r : Answer (Values d)) → Good d (drop w bs) r → Good (void w d) bs (refuseIf b 15 r)
+good-void : (w : ℕ) (d : Shape) (bs : List Bool) (b : Bool) → ltb (length bs) w ≡ b → (r : Answer (Values d)) → Good d (drop w bs) r
+    → Good (void w d) bs (refuseIf b 15 r)
 unfolding refuseIf encode fits clear
 good-void w d bs true e r g = tt
 good-void w d bs false e (refused n) g = tt
@@ -93,7 +94,8 @@ good-items w k d bs false e (got v) g =
 good-list : (w m : ℕ) (d : Shape) (bs : List Bool) (b₁ b₂ b₃ : Bool) → ltb (length bs) (widthOf m) ≡ b₁
     → ltb (length (drop (widthOf m) bs)) (fromBits (widthOf m) bs * w) ≡ b₂ → ltb m (fromBits (widthOf m) bs) ≡ b₃
     → (r : Answer (Values d)) → Good d (drop (fromBits (widthOf m) bs * w) (drop (widthOf m) bs)) r
-    → Good (list w m d) bs (refuseIf b₁ 15 (refuseIf b₂ 15 (refuseIf b₃ 16 (mapAnswer (λ (v : Values d). (itemsOf w (fromBits (widthOf m) bs) (drop (widthOf m) bs), v)) r))))
+    → Good (list w m d) bs
+    (refuseIf b₁ 15 (refuseIf b₂ 15 (refuseIf b₃ 16 (mapAnswer (λ (v : Values d). (itemsOf w (fromBits (widthOf m) bs) (drop (widthOf m) bs), v)) r))))
 unfolding refuseIf mapAnswer encode fits clear
 good-list w m d bs true b₂ b₃ e₁ e₂ e₃ r g = tt
 good-list w m d bs false true b₃ e₁ e₂ e₃ r g = tt
@@ -110,7 +112,8 @@ good-list w m d bs false false false e₁ e₂ e₃ (got v) g =
     let a : toBits (widthOf m) (length xs) ≡ take (widthOf m) bs = ap (λ (j : ℕ). toBits (widthOf m) j) k ∙ toBits-fromBits (widthOf m) bs l₁ in
     record {
       pad = g .pad;
-      whole = joined (take (widthOf m) bs) (toBits (widthOf m) (length xs)) (take (n * w) rest ++ clear d (drop (n * w) rest)) (itemBits w xs ++ encode d v) (g .pad) a
+      whole = joined (take (widthOf m) bs) (toBits (widthOf m) (length xs)) (take (n * w) rest ++ clear d (drop (n * w) rest)) (itemBits w xs ++ encode d v)
+          (g .pad) a
           (joined (take (n * w) rest) (itemBits w xs) (clear d (drop (n * w) rest)) (encode d v) (g .pad) (items-back w n rest l₂) (g .whole));
       long = as-long (widthOf m) bs (take (widthOf m) bs) (take (n * w) rest ++ clear d (drop (n * w) rest)) l₁ (length-take-le (widthOf m) bs l₁)
           (as-long (n * w) rest (take (n * w) rest) (clear d (drop (n * w) rest)) l₂ (length-take-le (n * w) rest l₂) (g .long));

@@ -1,16 +1,15 @@
 -- Laws of one field: tests, lists of items, padding.
 use mathlib.Core.Path.{_≡_, refl, sym, ap, _∙_}
-use mathlib.Core.Bool.{Bool, true, false, not, _&&_}
-use mathlib.Core.List.{List, [], _∷_, _++_, append-assoc, append-nil}
-use Prim.Native.Nat.{ℕ, zero, suc, _+_, _*_, _-_, _/_, _%_, _^_, _≤_, _<_}
-use native.Mathlib.Nat.{pow-suc, zero-add, zero-mul, suc-mul}
+use mathlib.Core.Bool.{Bool, true, false, _&&_}
+use mathlib.Core.List.{List, [], _∷_, _++_, append-assoc}
+use Prim.Native.Nat.{ℕ, zero, suc, _+_, _*_, _^_, _≤_, _<_}
+use native.Mathlib.Nat.{zero-mul, suc-mul}
 use native.Mathlib.Omega.{arith}
-use borrow.Author.Tests.{lt-ltb, le-ltb, ltb-true, ltb-false, eqb-true, eqb-false}
-use lib.Dec.{ltb, leb, eqb}
-use lib.Pow.{pow-pos}
-use lib.ListN.{length, take, drop, length-append, length-drop, replicate, take-append-drop}
-use lib.Seq.{take-at, drop-at, drop-drop, length-take-le, take-add}
-use Rattle.bits.specs.Order.{toBits, fromBits, unpack, pack}
+use borrow.Author.Tests.{lt-ltb, ltb-true}
+use lib.Dec.{ltb}
+use lib.ListN.{length, take, drop, length-append, length-drop, replicate}
+use lib.Seq.{drop-at, take-add}
+use Rattle.bits.specs.Order.{toBits, fromBits}
 use Rattle.bits.proofs.Numbers.{length-toBits, fromBits-toBits, fromBits-lt, toBits-fromBits}
 use Rattle.shape.specs.Shape.{itemBits, itemsOf, allZero, allBelow}
 

@@ -1,7 +1,7 @@
 -- What a reader's code goes by: a head of numbers at once, lists of bytes as parts of the payload.
 use mathlib.Core.Path.{_≡_, refl, sym, ap, _∙_}
 use mathlib.Core.Bool.{Bool, true, false}
-use mathlib.Core.List.{List, [], _∷_, _++_, append-nil}
+use mathlib.Core.List.{List, [], _∷_, _++_}
 use Prim.Native.Nat.{ℕ, zero, suc, _+_, _*_, _/_, _%_, _≤_, _<_}
 use native.Mathlib.Nat.{add-zero}
 use native.Mathlib.Omega.{arith}
@@ -9,13 +9,13 @@ use borrow.Author.Tests.{lt-ltb, le-ltb, le-leb, ltb-true, ltb-false}
 use lib.Dec.{ltb}
 use lib.ListN.{length, take, drop, length-drop, drop-of-length-le}
 use lib.Seq.{take-at, drop-at, drop-drop, take-length}
-use Rattle.bits.specs.Order.{Octets, digits, valueFrom, unpack, octets, number, toBits, fromBits}
+use Rattle.bits.specs.Order.{Octets, digits, valueFrom, unpack, number, fromBits}
 use Rattle.bits.specs.Width.{widthOf}
 use Rattle.bits.proofs.Digits.{length-digits, value-digits}
 use Rattle.bits.proofs.Bytes.{length-unpack, drop-unpack}
 use Rattle.bits.proofs.Octets.{octets-drop}
 use Rattle.shape.specs.Answer.{Answer, refused, got, refuseIf, mapAnswer}
-use Rattle.shape.specs.Shape.{Shape, end, num, void, items, list, tail, Values, anything, itemsOf, allZero, decode}
+use Rattle.shape.specs.Shape.{Shape, end, num, void, items, list, tail, Values, anything, itemsOf, decode}
 
 -- ── a head: numbers and ignored bits ──
 

@@ -1,20 +1,20 @@
 -- What was written is read: over every description.
-use mathlib.Core.Path.{_≡_, refl, sym, ap, _∙_}
-use mathlib.Core.Bool.{Bool, true, false, not, _&&_}
-use mathlib.Core.List.{List, [], _∷_, _++_, append-assoc, append-nil}
-use Prim.Native.Nat.{ℕ, zero, suc, _+_, _*_, _-_, _/_, _%_, _^_, _≤_, _<_}
+use mathlib.Core.Path.{_≡_, sym, ap, _∙_}
+use mathlib.Core.Bool.{Bool, true, false, _&&_}
+use mathlib.Core.List.{List, _++_, append-assoc}
+use Prim.Native.Nat.{ℕ, _+_, _*_, _/_, _%_, _^_, _≤_, _<_}
 use native.Mathlib.Omega.{arith}
-use borrow.Author.Tests.{lt-ltb, le-ltb, lt-leb, le-leb, ltb-true, leb-true, eqb-true}
+use borrow.Author.Tests.{le-ltb, lt-leb, ltb-true, leb-true, eqb-true}
 use lib.Dec.{ltb, leb, eqb}
 use lib.Arith.{digits-div, digits-mod}
-use lib.ListN.{length, take, drop, length-append}
-use lib.Seq.{take-at, drop-at}
+use lib.ListN.{length, drop, length-append}
+use lib.Seq.{drop-at}
 use Rattle.bits.specs.Order.{toBits, fromBits}
 use Rattle.bits.proofs.Numbers.{length-toBits, fromBits-toBits}
 use Rattle.bits.specs.Width.{widthOf}
 use Rattle.bits.proofs.Widths.{width-law}
 use Rattle.shape.specs.Answer.{Answer, got, refuseIf, mapAnswer}
-use Rattle.shape.specs.Shape.{Shape, end, num, void, items, list, tail, Values, itemBits, itemsOf, allZero, allBelow, encode, decode, fits}
+use Rattle.shape.specs.Shape.{Shape, end, num, void, items, list, tail, Values, itemBits, allZero, allBelow, encode, decode, fits}
 use Rattle.shape.specs.Laws.{Sound}
 use Rattle.shape.proofs.Fields.{and-left, and-right, length-itemBits, items-there}
 
@@ -45,10 +45,12 @@ list-there : (w m : ℕ) (d : Shape) (xs : List ℕ) (r : List Bool) → length 
     → decode (list w m d) (toBits (widthOf m) (length xs) ++ (itemBits w xs ++ r)) ≡ mapAnswer (λ (v : Values d). (xs, v)) (decode d r)
 unfolding decode refuseIf
 list-there w m d xs r l h =
-    let n : fromBits (widthOf m) (toBits (widthOf m) (length xs) ++ (itemBits w xs ++ r)) ≡ length xs = fromBits-toBits (widthOf m) (length xs) (itemBits w xs ++ r) (omega (arith, width-law m .holds)) in
+    let n : fromBits (widthOf m) (toBits (widthOf m) (length xs) ++ (itemBits w xs ++ r)) ≡ length xs = fromBits-toBits (widthOf m) (length xs) (itemBits w xs ++ r)
+    (omega (arith, width-law m .holds)) in
     rw (front (widthOf m) (length xs) (itemBits w xs ++ r), n, behind (widthOf m) (length xs) (itemBits w xs ++ r), items-front w xs r, le-ltb m (length xs) l, items-there w xs r h, items-behind w xs r)
 
-tail-there : (w m : ℕ) (ok : List ℕ → Bool) (xs : List ℕ) (pad : List Bool) → 8 ≤ w → length xs ≤ m → allBelow (2 ^ w) xs ≡ true → ok xs ≡ true → length pad < 8 → allZero pad ≡ true
+tail-there : (w m : ℕ) (ok : List ℕ → Bool) (xs : List ℕ) (pad : List Bool) → 8 ≤ w → length xs ≤ m → allBelow (2 ^ w) xs ≡ true → ok xs ≡ true → length pad < 8
+    → allZero pad ≡ true
     → decode (tail w m ok) (itemBits w xs ++ pad) ≡ got xs
 unfolding decode refuseIf
 tail-there w m ok xs pad hw l h k short z =

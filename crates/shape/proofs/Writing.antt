@@ -1,15 +1,14 @@
 -- What a writer's code goes by: what it refuses, and its fields written from the front.
 use mathlib.Core.Path.{_≡_, refl, sym, ap, _∙_}
-use mathlib.Core.Bool.{Bool, true, false, not}
+use mathlib.Core.Bool.{Bool, true, false}
 use mathlib.Core.List.{List, [], _∷_, _++_, append-nil}
-use Prim.Native.Nat.{ℕ, _+_, _*_, _-_, _/_, _≤_, _<_}
+use Prim.Native.Nat.{ℕ, _+_, _*_, _-_, _≤_, _<_}
 use native.Mathlib.Omega.{arith}
 use borrow.Author.Tests.{lt-ltb, le-ltb}
-use lib.Dec.{ltb}
 use lib.ListN.{length, drop, replicate}
 use Rattle.bits.specs.Order.{Octets, digits, unpack, bytes, bytesFor, padding, octets, toBits, store}
 use Rattle.bits.proofs.Bytes.{length-bytes, store-front, store-store}
-use Rattle.shape.specs.Answer.{refused, got, refuseIf, wrote}
+use Rattle.shape.specs.Answer.{refused, got, refuseIf}
 use Rattle.shape.specs.Shape.{Shape, Values, itemBits, allBelow, encode, message, fits, encoded, written}
 
 module _ (d : Shape) (v : Values d) (m : List ℕ) where
@@ -42,12 +41,14 @@ module _ (d : Shape) (v : Values d) (m : List ℕ) where
         rw (f, size, le-ltb (length m) n h, b, size)
 
 -- one field more behind those written from bit b on
-pub more-from : (b : ℕ) (m m' m'' : List ℕ) (xs ys : List Bool) (at : ℕ) → m' ≡ store m b xs → b + length xs ≡ at → at ≤ length m * 8 → m'' ≡ store m' at ys → m'' ≡ store m b (xs ++ ys)
+pub more-from : (b : ℕ) (m m' m'' : List ℕ) (xs ys : List Bool) (at : ℕ) → m' ≡ store m b xs → b + length xs ≡ at → at ≤ length m * 8 → m'' ≡ store m' at ys
+    → m'' ≡ store m b (xs ++ ys)
 more-from b m m' m'' xs ys at e l h f =
     f ∙ ap (λ (x : List ℕ). store x at ys) e ∙ ap (λ (n : ℕ). store (store m b xs) n ys) (sym l) ∙ store-store m b xs ys (omega arith)
 
 -- from the front
-pub more : (m m' m'' : List ℕ) (xs ys : List Bool) (at : ℕ) → m' ≡ store m 0 xs → length xs ≡ at → at ≤ length m * 8 → m'' ≡ store m' at ys → m'' ≡ store m 0 (xs ++ ys)
+pub more : (m m' m'' : List ℕ) (xs ys : List Bool) (at : ℕ) → m' ≡ store m 0 xs → length xs ≡ at → at ≤ length m * 8 → m'' ≡ store m' at ys
+    → m'' ≡ store m 0 (xs ++ ys)
 more m m' m'' xs ys at e l h f = more-from 0 m m' m'' xs ys at e (omega arith) h f
 
 -- ── lists of bytes ──

@@ -1,12 +1,12 @@
 -- A message described once, field by field (01, Messages; 004, Serialization). Its bits, its reading and its refusals follow from the description.
-use mathlib.Core.Bool.{Bool, true, false, not, _&&_}
+use mathlib.Core.Bool.{Bool, true, not, _&&_}
 use mathlib.Core.List.{List, [], _∷_, _++_}
-use Prim.Native.Nat.{ℕ, zero, suc, _+_, _*_, _/_, _%_, _^_}
+use Prim.Native.Nat.{ℕ, zero, suc, _*_, _/_, _%_, _^_}
 use lib.Dec.{ltb, leb, eqb}
 use lib.ListN.{length, take, drop}
 use Rattle.bits.specs.Order.{toBits, fromBits, unpack, bytes, pack}
 use Rattle.bits.specs.Width.{widthOf}
-use Rattle.shape.specs.Answer.{Answer, refused, got, refuseIf, mapAnswer, wrote}
+use Rattle.shape.specs.Answer.{Answer, got, refuseIf, mapAnswer, wrote}
 
 -- ── a description: each field holds what follows it, so that a list without a length field is last ──
 
@@ -66,7 +66,7 @@ encode (list w m d) v = toBits (widthOf m) (length (v .0)) ++ (itemBits w (v .0)
 encode (tail w m ok) v = itemBits w v
 
 -- ── reading, field by field: 15 the payload ends in a field, 16 too many, 25 padding not zero, 17 not allowed ──
--- What five types fill is whole bytes, and none of them can answer 25.
+-- The five types fill whole bytes: none of them answers 25.
 
 unfoldable pub decode : (d : Shape) → List Bool → Answer (Values d)
 decode end bs = refuseIf (leb 8 (length bs)) 16 (refuseIf (not (allZero bs)) 25 (got tt))

@@ -14,7 +14,7 @@ use Rattle.state.specs.Layout.{size, setupOf, keyAt, countAt, expectedAt
 use Rattle.state.specs.Sound.{every, rawFits, soundState}
 use Rattle.state.proofs.Bools.{and-left, and-right}
 use Rattle.state.proofs.Soundness.{fit-every}
-use Rattle.state.proofs.Tabulate.{every-at}
+use Rattle.state.proofs.Every.{every-at}
 
 module _ (m : List ℕ) (fine : soundState m ≡ true) where
   pub long : size ≤ length m

@@ -2,7 +2,7 @@ pub mod Bools
 pub mod Keys
 pub mod Stored
 pub mod Lowest
-pub mod Tabulate
+pub mod Every
 pub mod Subscriptions
 pub mod Fits
 pub mod Soundness

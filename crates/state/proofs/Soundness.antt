@@ -16,12 +16,14 @@ use Rattle.bits.proofs.Splice.{length-span}
 use Rattle.model.specs.Sound.{streamFits, sessionFits, placeFits, placesFit, noneHolds, notAgain, apart, sound}
 use Rattle.model.specs.Table.{Place, empty, held, holds}
 use Rattle.model.specs.Tests.{pick, isEmpty}
-use Rattle.state.specs.Layout.{size, tabulate, keyAt, countAt, expectedAt, toggleAt, gatheredAt, sessionAt, placeAt, placesOf, streamOfKey}
+use Rattle.bits.specs.Tabulate.{tabulate}
+use Rattle.state.specs.Layout.{size, keyAt, countAt, expectedAt, toggleAt, gatheredAt, sessionAt, placeAt, placesOf, streamOfKey}
 use Rattle.state.specs.Place.{one}
 use Rattle.state.specs.Sound.{every, rawFits, controlFits, times, keysOf, placeSound}
 use Rattle.state.proofs.Bools.{and-left, and-right}
 use Rattle.state.proofs.Keys.{same-key}
-use Rattle.state.proofs.Tabulate.{tab-step, tab-append, every-at, every-true}
+use Rattle.bits.proofs.Tabulate.{tab-step, tab-append}
+use Rattle.state.proofs.Every.{every-at, every-true}
 
 -- ── Booleans ──
 
@@ -50,7 +52,7 @@ times-split f k i h =
 
 -- a key that does not stand in a list, and one that is nowhere in it
 times-none : (f : ℕ → ℕ) (k n i : ℕ) → times k (tabulate f i n) ≡ 0 → (l : ℕ) → i ≤ l → l < i + n → f l ≡ k → ⊥
-unfolding times
+unfolding times tabulate
 times-none f k zero i e l a b q = absurd (omega arith)
 times-none f k (suc n) i e l a b q = go (λ h. times-none f k n (suc i) (omega arith) l h (omega arith) q) (ltb i l) refl where
   go : (suc i ≤ l → ⊥) → (c : Bool) → ltb i l ≡ c → ⊥
@@ -61,7 +63,7 @@ times-none f k (suc n) i e l a b q = go (λ h. times-none f k n (suc i) (omega a
       omega arith
 
 times-zero : (f : ℕ → ℕ) (k n i : ℕ) → ((l : ℕ) → i ≤ l → l < i + n → f l ≡ k → ⊥) → times k (tabulate f i n) ≡ 0
-unfolding times
+unfolding times tabulate
 times-zero f k zero i e = refl
 times-zero f k (suc n) i e =
     let o : one (eqb (f i) k) ≡ 0 = ap one (ne-eqb (f i) k (e i (omega arith) (omega arith))) in
@@ -75,12 +77,12 @@ abbrev pub again : (ℕ → Place) → ℕ → ℕ → Bool
 again f e l = notAgain (f l) (tabulate f (suc l) (e - suc l))
 
 pub fit-every : (f : ℕ → Place) (n i : ℕ) → placesFit (tabulate f i n) ≡ every (λ l. placeFits (f l)) i n
-unfolding every
+unfolding every tabulate
 fit-every f zero i = refl
 fit-every f (suc n) i = ap (λ (b : Bool). placeFits (f i) && b) (fit-every f n (suc i))
 
 apart-every : (f : ℕ → Place) (n i e : ℕ) → i + n ≡ e → apart (tabulate f i n) ≡ every (again f e) i n
-unfolding every
+unfolding every tabulate
 apart-every f zero i e q = refl
 apart-every f (suc n) i e q =
     let r : n ≡ e - suc i = omega arith in
@@ -104,7 +106,7 @@ module _ (m : List ℕ) (bytes : Octets m) (long : size ≤ length m) where
 
   none-behind : (k : ℕ) → (k ≡ 0 → ⊥) → k < 4294967296 → (n i : ℕ) → i + n ≤ 32
       → noneHolds (streamOfKey k) (tabulate (placeAt m) i n) ≡ eqb (times k (tabulate (keyAt m) i n)) 0
-  unfolding times
+  unfolding times tabulate
   none-behind k z hk zero i h = refl
   none-behind k z hk (suc n) i h =
       let e : holds (streamOfKey k) (placeAt m i) ≡ eqb (keyAt m i) k = holds-key k i z hk (omega arith) in
@@ -223,7 +225,7 @@ module _ (m : List ℕ) (bytes : Octets m) (long : size ≤ length m) where
         rw (and-left (streamFits (streamOfKey k)) (sessionFits (sessionAt m i)) f, c, eq-eqb (times k (keysOf m)) 1 total)
 
   pub whole : every (placeSound m) 0 32 ≡ (every (rawFits m) 0 32 && sound (placesOf m))
-  unfolding sound placesOf
+  unfolding sound placesOf tabulate
   whole = same-test (every (placeSound m) 0 32) _ forth back where
     forth : every (placeSound m) 0 32 ≡ true → (every (rawFits m) 0 32 && (placesFit (tabulate (placeAt m) 0 32) && apart (tabulate (placeAt m) 0 32))) ≡ true
     forth e =

@@ -9,10 +9,11 @@ use lib.Dec.{eqb, ltb}
 use Rattle.model.specs.Setup.{Subscription, typeFits, alike, unlike, allFit, subscribed}
 use Rattle.bits.specs.Little.{le}
 use Rattle.bits.specs.Part.{span}
-use Rattle.state.specs.Layout.{tabulate, subscriptionKeyAt, subscriptionAt}
+use Rattle.bits.specs.Tabulate.{tabulate}
+use Rattle.state.specs.Layout.{subscriptionKeyAt, subscriptionAt}
 use Rattle.state.specs.Subscription.{ofKey, asked}
 use Rattle.state.specs.declared.subscription.Subscribed.the-variants.{Under}
-use Rattle.state.proofs.Tabulate.{tab-step}
+use Rattle.bits.proofs.Tabulate.{tab-step}
 
 -- two numbers are equal exactly if their halves are
 halves : (k x y : ℕ) → y < 65536 → (eqb (k / 65536) x && eqb (k % 65536) y) ≡ eqb k (x * 65536 + y)

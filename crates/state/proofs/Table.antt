@@ -12,11 +12,12 @@ use Rattle.bits.proofs.Octets.{octets-append, octets-splice, octets-leBytes}
 use Rattle.model.specs.Session.{Session}
 use Rattle.model.specs.Frame.{Stream}
 use Rattle.model.specs.Table.{Place, empty, held, Places}
-use Rattle.state.specs.Layout.{size, tabulate, placeAt, placesOf, keyOf}
+use Rattle.bits.specs.Tabulate.{tabulate}
+use Rattle.state.specs.Layout.{size, placeAt, placesOf, keyOf}
 use Rattle.state.specs.Place.{one, controlOf, withKey, withSession, withPlace, written}
 use Rattle.state.specs.Sound.{rawFits}
 use Rattle.state.proofs.Places.{Few, length-withPlace, same-raw, same-place, place-kept, place-back, Holdable}
-use Rattle.state.proofs.Tabulate.{tab-same}
+use Rattle.bits.proofs.Tabulate.{tab-same}
 
 -- a place whose bytes are bytes
 abbrev pub Plain : Place → Type 0
@@ -42,7 +43,7 @@ octets-withPlace m i (held d s) o h =
 -- writing the table that is there
 pub written-kept : (m : List ℕ) → size ≤ length m → Octets m → (n j : ℕ) → j + n ≤ 32 → ((l : ℕ) → j ≤ l → l < 32 → rawFits m l ≡ true)
     → written m j (tabulate (placeAt m) j n) ≡ m
-unfolding written
+unfolding written tabulate
 written-kept m long o zero j h r = refl
 written-kept m long o (suc n) j h r =
     ap (λ (x : List ℕ). written x (suc j) (tabulate (placeAt m) (suc j) n)) (place-kept m j long (omega arith) o (r j (omega arith) (omega arith)))
@@ -52,7 +53,7 @@ written-kept m long o (suc n) j h r =
 pub written-set : (m : List ℕ) → size ≤ length m → Octets m → (p : Place) → Few p
     → (x n j : ℕ) → x < n → j + n ≤ 32 → Octets (withPlace m (j + x) p) → ((l : ℕ) → j ≤ l → l < 32 → rawFits m l ≡ true)
     → written m j (set (tabulate (placeAt m) j n) x p) ≡ withPlace m (j + x) p
-unfolding written
+unfolding written tabulate
 written-set m long o p f x zero j h k b r = absurd (omega arith)
 written-set m long o p f zero (suc n) j h k b r =
     let m' = withPlace m j p in
@@ -72,6 +73,7 @@ written-set m long o p f (suc x) (suc n) j h k b r =
 view-from : (m : List ℕ) → size ≤ length m → (d : Stream) (s : Session) → (i : ℕ) → i < 32 → Holdable d s
     → (x n j : ℕ) → j + x ≡ i → x < n → j + n ≤ 32 → ((l : ℕ) → l < 32 → rawFits m l ≡ true)
     → tabulate (placeAt (withPlace m i (held d s))) j n ≡ set (tabulate (placeAt m) j n) x (held d s)
+unfolding tabulate
 view-from m long d s i hi w x zero j e h k r = absurd (omega arith)
 view-from m long d s i hi w zero (suc n) j e h k r =
     let q : j ≡ i = omega arith in

@@ -14,13 +14,14 @@ use Rattle.bits.specs.Part.{span}
 use Rattle.bits.proofs.Little.{le-one}
 use Rattle.model.specs.Setup.{allFit, acceptable}
 use Rattle.model.specs.Table.{Place, empty, held, Places}
-use Rattle.state.specs.Layout.{size, tabulate, subscriptionKeyAt, subscriptionAt, setupOf, placeAt, placesOf}
+use Rattle.bits.specs.Tabulate.{tabulate}
+use Rattle.state.specs.Layout.{size, subscriptionKeyAt, subscriptionAt, setupOf, placeAt, placesOf}
 use Rattle.state.specs.Place.{withPlace, written}
 use Rattle.state.specs.Sound.{every, rawFits}
 use Rattle.state.proofs.Bools.{and-left, and-right}
 use Rattle.state.proofs.Places.{Few, Holdable, Aside, aside, length-withPlace, same-raw, same-place, place-back, raw-back, empty-back, raw-empty}
 use Rattle.state.proofs.Table.{Plain, octets-withPlace}
-use Rattle.state.proofs.Tabulate.{length-tabulate, tab-same}
+use Rattle.bits.proofs.Tabulate.{length-tabulate, tab-same}
 use Rattle.state.proofs.View.{Clear}
 
 -- a place, and a table, that the layout can hold
@@ -96,7 +97,7 @@ before (p ∷ ps) m j l w h r =
     record { place = q .place ∙ same-place m j (w .long) k p f l (omega arith) (λ x. omega arith) r; raw = q .raw }
 
 view-from : (ps : Places) (m : List ℕ) (j : ℕ) → Writes m j ps → tabulate (placeAt (written m j ps)) j (length ps) ≡ ps
-unfolding written
+unfolding written tabulate
 view-from [] m j w = refl
 view-from (p ∷ ps) m j w =
     let h : j < 32 = omega (arith, w .inTable) in

@@ -5,16 +5,12 @@ use lib.Dec.{eqb}
 use lib.ListN.{getD}
 use Rattle.bits.specs.Little.{le}
 use Rattle.bits.specs.Part.{span}
+use Rattle.bits.specs.Tabulate.{tabulate}
 use Rattle.model.specs.Frame.{Stream}
 use Rattle.model.specs.Session.{Session}
 use Rattle.model.specs.Setup.{Subscription, Setup}
 use Rattle.model.specs.Table.{Place, empty, held, Places}
 use Rattle.model.specs.Tests.{pick}
-
--- f at the n numbers from i on
-abbrev pub tabulate : {A : Type 0} → (ℕ → A) → ℕ → ℕ → List A
-tabulate f i zero = []
-tabulate f i (suc n) = f i ∷ tabulate f (suc i) n
 
 -- the bytes of the whole layout
 abbrev pub size : ℕ

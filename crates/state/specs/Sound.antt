@@ -6,7 +6,8 @@ use lib.Dec.{ltb, leb, eqb}
 use lib.ListN.{length}
 use Rattle.model.specs.Sound.{streamFits, sound}
 use Rattle.model.specs.Setup.{acceptable}
-use Rattle.state.specs.Layout.{size, tabulate, setupOf, keyAt, countAt, expectedAt, toggleAt, streamOfKey, placesOf}
+use Rattle.bits.specs.Tabulate.{tabulate}
+use Rattle.state.specs.Layout.{size, setupOf, keyAt, countAt, expectedAt, toggleAt, streamOfKey, placesOf}
 use Rattle.state.specs.Place.{one}
 
 -- what the view does not show: a count and a toggle that are out of range

@@ -1,7 +1,11 @@
 -- `tecelume_receive` meets its contract: the proved call, its answer as a word.
-use mathlib.Core.Path.{ap, _∙_}
+use mathlib.Core.Path.{sym, ap, subst, _∙_}
 use Prim.Native.Nat.{ℕ}
+use denote.Ref.{now}
 use Rattle.gateway.specs.Entry.{entry, packed}
+use Rattle.gateway.specs.Word.{Fits}
+use Rattle.gateway.proofs.Words.{received-fits}
+use Rattle.receiver.specs.Receive.{Result, frameOf}
 use borrow.Author.Needs.{needs}
 use Rattle.gateway.proofs.tecelume_receive.Statement.{statement}
 use Rattle.gateway.proofs.tecelume_receive.Tie as tie
@@ -10,7 +14,11 @@ receive-requires : tie.Need-receive-requires
 receive-requires c κs = search needs
 
 of-answer-requires : tie.Need-of-answer-requires
-of-answer-requires c κs = search needs
+of-answer-requires c κs =
+    let r = c .before .before .before .before in
+    let a = r .before .before .before .before .before .before .args in
+    let fits = received-fits (now (a .state)) (frameOf (a .id) (now (a .frame)) (a .time)) (now (a .out)) in
+    subst (λ (x : Result). Fits (x .answer)) (sym (r .receive .ensures)) fits
 
 same-length : tie.Need-same-length
 same-length c = search needs

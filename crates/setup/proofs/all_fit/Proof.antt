@@ -7,8 +7,8 @@ use native.Mathlib.Omega.{arith}
 use Rattle.model.specs.Setup.{allFit}
 use Rattle.setup.specs.Setup.{recordAt}
 use Rattle.setup.proofs.Records.{fit-turn}
-use Rattle.state.proofs.Tabulate.{tab-end}
-use Rattle.state.specs.Layout.{tabulate}
+use Rattle.bits.proofs.Tabulate.{tab-end}
+use Rattle.bits.specs.Tabulate.{tabulate}
 use Rattle.setup.proofs.all_fit.Statement.{statement}
 use Rattle.setup.proofs.all_fit.Tie as tie
 

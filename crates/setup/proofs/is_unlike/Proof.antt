@@ -7,8 +7,8 @@ use borrow.Author.Tests.{eq-eqb, ne-eqb}
 use Rattle.model.specs.Setup.{unlike}
 use Rattle.setup.specs.Setup.{recordAt}
 use Rattle.setup.proofs.Records.{unlike-turn}
-use Rattle.state.proofs.Tabulate.{tab-end}
-use Rattle.state.specs.Layout.{tabulate}
+use Rattle.bits.proofs.Tabulate.{tab-end}
+use Rattle.bits.specs.Tabulate.{tabulate}
 use Rattle.setup.proofs.is_unlike.Statement.{statement}
 use Rattle.setup.proofs.is_unlike.Tie as tie
 

@@ -7,7 +7,8 @@ use lib.ListN.{length, drop, set, replicate, length-set}
 use Rattle.setup.specs.Setup.{recordAt, given, stateOf}
 use Rattle.setup.specs.Subscription.{withSubscription}
 use Rattle.setup.proofs.Laid.{laidOut, laid-turn, laid-first, given-laid, past}
-use Rattle.state.specs.Layout.{size, tabulate}
+use Rattle.bits.specs.Tabulate.{tabulate}
+use Rattle.state.specs.Layout.{size}
 use Rattle.setup.proofs.write.Statement.{statement}
 use Rattle.setup.proofs.write.Tie as tie
 
@@ -50,6 +51,7 @@ slice-write-state-2 : tie.Need-slice-write-state-2 Inv-loop μ-loop
 slice-write-state-2 c = simp length-set (omega (arith, c .before .before .clear .kept .0))
 
 loop-holds : tie.Need-loop-holds Inv-loop μ-loop
+unfolding tabulate
 loop-holds c =
     let k = c .before .before in
     let a = k .before .before .before .before .args in

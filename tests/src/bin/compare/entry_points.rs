@@ -2,6 +2,7 @@
 
 use crate::lent::Lent;
 use reference::codec::{Decode, Encode};
+use reference::definitions;
 use reference::entry;
 use reference::map;
 use reference::messages;
@@ -13,6 +14,8 @@ use reference::state;
 type Setup = fn(&mut Lent, u32, &mut Lent) -> u32;
 pub type Receive = fn(&mut Arrival) -> u64;
 pub type Send = fn(&mut Departure) -> u64;
+/// Kind, type ID.
+pub type Signature = fn(u32, u32) -> u64;
 
 #[derive(Clone, Copy)]
 pub struct Reception {
@@ -38,7 +41,8 @@ pub struct Serialization {
 #[derive(Clone, Copy)]
 pub struct EntryPoints {
     pub reception: Reception,
-    pub sending: Option<Sending>,
+    pub sending: Sending,
+    pub signature: Signature,
     pub serialization: Option<Serialization>,
 }
 
@@ -97,11 +101,12 @@ pub const REFERENCE: EntryPoints = EntryPoints {
         setup: |state, own, list| entry::setup(state.content_mut(), own, list.content()),
         receive,
     },
-    sending: Some(Sending {
+    sending: Sending {
         size: || map::SIZE as u64,
         setup: |map| entry::map_setup(map.content_mut()),
         send,
-    }),
+    },
+    signature: definitions::signature,
     serialization: Some(Serialization {
         decode: messages::decode,
         encode: messages::encode,

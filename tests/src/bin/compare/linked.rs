@@ -1,6 +1,6 @@
 //! The archive's entry points, called as C would call them.
 
-use crate::entry_points::{Arrival, EntryPoints, Reception};
+use crate::entry_points::{Arrival, Departure, EntryPoints, Reception, Sending};
 use crate::lent::Lent;
 
 #[link(name = "gateway", kind = "static")]
@@ -23,6 +23,26 @@ extern "C" {
         out: *mut u8,
         out_length: usize,
     ) -> u64;
+    fn tecelume_map_size() -> u64;
+    fn tecelume_map_setup(map: *mut u8, map_length: usize) -> u32;
+    fn tecelume_send(
+        map: *mut u8,
+        map_length: usize,
+        own: u32,
+        transfer_type: u32,
+        type_id: u32,
+        destination: u32,
+        priority: u32,
+        payload: *const u8,
+        payload_length: usize,
+        signature: u64,
+        time: u64,
+        transfer_id: u32,
+        discriminator: u32,
+        out: *mut u8,
+        out_length: usize,
+    ) -> u64;
+    fn tecelume_signature(kind: u32, type_id: u32) -> u64;
 }
 
 pub const ARCHIVE: EntryPoints = EntryPoints {
@@ -31,10 +51,12 @@ pub const ARCHIVE: EntryPoints = EntryPoints {
         setup,
         receive,
     },
-    #[cfg(feature = "send")]
-    sending: Some(sending::SENDING),
-    #[cfg(not(feature = "send"))]
-    sending: None,
+    sending: Sending {
+        size: || unsafe { tecelume_map_size() },
+        setup: |map| unsafe { tecelume_map_setup(map.pointer(), map.length()) },
+        send,
+    },
+    signature: |kind, type_id| unsafe { tecelume_signature(kind, type_id) },
     serialization: None,
 };
 
@@ -65,58 +87,25 @@ fn receive(call: &mut Arrival) -> u64 {
     }
 }
 
-#[cfg(feature = "send")]
-mod sending {
-    use crate::entry_points::{Departure, Sending};
-
-    extern "C" {
-        fn tecelume_map_size() -> u64;
-        fn tecelume_map_setup(map: *mut u8, map_length: usize) -> u32;
-        fn tecelume_send(
-            map: *mut u8,
-            map_length: usize,
-            own: u32,
-            kind: u32,
-            type_id: u32,
-            destination: u32,
-            priority: u32,
-            payload: *const u8,
-            payload_length: usize,
-            signature: u64,
-            time: u64,
-            transfer_id: u32,
-            discriminator: u32,
-            out: *mut u8,
-            out_length: usize,
-        ) -> u64;
-    }
-
-    pub const SENDING: Sending = Sending {
-        size: || unsafe { tecelume_map_size() },
-        setup: |map| unsafe { tecelume_map_setup(map.pointer(), map.length()) },
-        send,
-    };
-
-    fn send(call: &mut Departure) -> u64 {
-        let numbers = &call.numbers;
-        unsafe {
-            tecelume_send(
-                call.map.pointer(),
-                call.map.length(),
-                numbers.own,
-                numbers.transfer_type,
-                numbers.type_id,
-                numbers.destination,
-                numbers.priority,
-                call.payload.pointer(),
-                call.payload.length(),
-                numbers.signature,
-                numbers.time,
-                numbers.transfer_id,
-                numbers.discriminator,
-                call.out.pointer(),
-                call.out.length(),
-            )
-        }
+fn send(call: &mut Departure) -> u64 {
+    let numbers = &call.numbers;
+    unsafe {
+        tecelume_send(
+            call.map.pointer(),
+            call.map.length(),
+            numbers.own,
+            numbers.transfer_type,
+            numbers.type_id,
+            numbers.destination,
+            numbers.priority,
+            call.payload.pointer(),
+            call.payload.length(),
+            numbers.signature,
+            numbers.time,
+            numbers.transfer_id,
+            numbers.discriminator,
+            call.out.pointer(),
+            call.out.length(),
+        )
     }
 }

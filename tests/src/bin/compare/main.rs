@@ -1,7 +1,7 @@
 //! Compares the archive's entry points with the reference, call by call, on random input.
 //!
-//! Without `--self`, `--mutant` or `--mutants` the other side is the archive, which the feature
-//! `link` links and the feature `send` adds sending to.
+//! Without `--self`, `--mutant`, `--mutants` or `--codec` the other side is the archive, which the
+//! feature `link` links.
 
 mod entry_points;
 mod faults;
@@ -18,6 +18,7 @@ mod receptions;
 mod requests;
 mod sends;
 mod setups;
+mod signatures;
 mod situations;
 mod states;
 mod tally;
@@ -31,7 +32,10 @@ use receptions::Receptions;
 use requests::{Answerer, Requests};
 use sends::Sends;
 use setups::Setups;
+use signatures::Signatures;
 use std::process::ExitCode;
+use std::sync::atomic::{AtomicBool, AtomicU64, Ordering::Relaxed};
+use std::time::Instant;
 use tally::{Difference, Tally};
 
 fn main() -> ExitCode {
@@ -44,16 +48,16 @@ fn main() -> ExitCode {
     };
     let passed = match &options.side {
         Side::Archive => match archive() {
-            Some(side) => compare(&side, &options),
+            Some(side) => verdict(rounds(&side, &options), &options),
             None => {
                 eprintln!("no archive: build with the feature `link`, or give --self or --mutants");
                 return ExitCode::from(2);
             }
         },
-        Side::Reference => compare(&REFERENCE, &options),
-        Side::Mutant(mutant) => compare(&mutant.side, &options),
+        Side::Reference => verdict(rounds(&REFERENCE, &options), &options),
+        Side::Mutant(mutant) => verdict(rounds(&mutant.side, &options), &options),
         Side::Mutants => all_caught(&options),
-        Side::Codec(path) => compare_codec(path, &options),
+        Side::Codec(path) => verdict(lines(path, &options), &options),
     };
     if passed {
         ExitCode::SUCCESS
@@ -72,36 +76,79 @@ fn archive() -> Option<EntryPoints> {
     None
 }
 
-/// Runs every part; true if nothing differed and everything was seen often enough.
-fn compare(side: &EntryPoints, options: &Options) -> bool {
-    match run_all(side, options) {
+/// True if nothing differed and everything was seen often enough.
+fn verdict(result: Result<Vec<Tally>, Difference>, options: &Options) -> bool {
+    match result {
         Ok(tallies) => seen_enough(&tallies, options.minimum),
         Err(difference) => {
-            println!("seed {}: {}", options.seed, difference.0);
+            println!("{}", difference.0);
             println!("DIFFERENT");
             false
         }
     }
 }
 
-fn run_all(side: &EntryPoints, options: &Options) -> Result<Vec<Tally>, Difference> {
-    let mut tallies = Vec::new();
-    let mut setups = Setups::new(side.reception, options.seed);
-    setups.run(options.setups)?;
-    tallies.push(setups.tally);
-    let mut receptions = Receptions::new(side.reception, options.seed);
-    receptions.run(options.frames)?;
-    tallies.push(receptions.tally);
-    match side.sending {
-        Some(sending) => {
-            let mut sends = Sends::new(sending, options.seed);
-            sends.run(options.sends)?;
-            tallies.extend([sends.setups, sends.tally]);
+/// Fewer do not show every case as often as wanted, however little time is given.
+const FEWEST_ROUNDS: u64 = 8;
+
+/// Runs the rounds on all cores, until they are done, the time is over or something differs.
+fn rounds(side: &EntryPoints, options: &Options) -> Result<Vec<Tally>, Difference> {
+    let (began, next, stop) = (Instant::now(), AtomicU64::new(0), AtomicBool::new(false));
+    let work = || {
+        let mut tallies = Vec::new();
+        loop {
+            let round = next.fetch_add(1, Relaxed);
+            let over = round >= FEWEST_ROUNDS && began.elapsed().as_secs() >= options.seconds;
+            if over || round >= options.rounds || stop.load(Relaxed) {
+                return Ok(tallies);
+            }
+            let seed = options.seed.wrapping_add(round);
+            let seen = one_round(side, options, seed).inspect_err(|_| stop.store(true, Relaxed))?;
+            add(&mut tallies, seen);
         }
-        None => println!("sending is not compared: build with the feature `send`"),
+    };
+    let cores = std::thread::available_parallelism().map_or(1, |cores| cores.get());
+    std::thread::scope(|scope| {
+        let workers: Vec<_> = (0..cores).map(|_| scope.spawn(work)).collect();
+        let mut tallies = Vec::new();
+        for worker in workers {
+            let seen = worker.join().expect("the comparison itself failed")?;
+            add(&mut tallies, seen);
+        }
+        Ok(tallies)
+    })
+}
+
+fn add(tallies: &mut Vec<Tally>, seen: Vec<Tally>) {
+    if tallies.is_empty() {
+        *tallies = seen;
+        return;
     }
+    for (tally, more) in tallies.iter_mut().zip(&seen) {
+        tally.add(more);
+    }
+}
+
+/// One round of every part, with what it saw.
+fn one_round(side: &EntryPoints, options: &Options, seed: u64) -> Result<Vec<Tally>, Difference> {
+    let with_seed =
+        |difference: Difference| Difference(format!("--seed {seed} --rounds 1: {}", difference.0));
+    parts(side, options, seed).map_err(with_seed)
+}
+
+fn parts(side: &EntryPoints, options: &Options, seed: u64) -> Result<Vec<Tally>, Difference> {
+    let mut setups = Setups::new(side.reception, seed);
+    setups.run(options.setups)?;
+    let mut receptions = Receptions::new(side.reception, seed);
+    receptions.run(options.frames)?;
+    let mut sends = Sends::new(side.sending, seed);
+    sends.run(options.sends)?;
+    let mut signatures = Signatures::new(side.signature, seed);
+    signatures.run(options.setups)?;
+    let mut tallies = vec![setups.tally, receptions.tally, sends.setups, sends.tally];
+    tallies.push(signatures.tally);
     if let Some(serialization) = side.serialization {
-        let mut payloads = Payloads::new(serialization, options.seed);
+        let mut payloads = Payloads::new(serialization, seed);
         payloads.run(options.messages)?;
         for (reading, writing) in payloads.tallies {
             tallies.extend([reading, writing]);
@@ -110,17 +157,11 @@ fn run_all(side: &EntryPoints, options: &Options) -> Result<Vec<Tally>, Differen
     Ok(tallies)
 }
 
-/// Runs the codec program; true if nothing differed and everything was seen often enough.
-fn compare_codec(path: &str, options: &Options) -> bool {
+/// Runs the codec program on its lines.
+fn lines(path: &str, options: &Options) -> Result<Vec<Tally>, Difference> {
     let mut requests = Requests::new(Answerer::Program(path.to_string()), options.seed);
-    match requests.run(options.lines) {
-        Ok(()) => seen_enough(&requests.into_tallies(), options.minimum),
-        Err(difference) => {
-            println!("seed {}: {}", options.seed, difference.0);
-            println!("DIFFERENT");
-            false
-        }
-    }
+    requests.run(options.lines)?;
+    Ok(requests.into_tallies())
 }
 
 fn seen_enough(tallies: &[Tally], minimum: u64) -> bool {
@@ -158,10 +199,7 @@ fn is_caught(mutant: &Mutant, options: &Options) -> bool {
     let side = &mutant.side;
     let result = match mutant.part {
         Part::Receptions => Receptions::new(side.reception, options.seed).run(options.frames),
-        Part::Sends => match side.sending {
-            Some(sending) => Sends::new(sending, options.seed).run(options.sends),
-            None => Ok(()),
-        },
+        Part::Sends => Sends::new(side.sending, options.seed).run(options.sends),
         Part::Payloads => match side.serialization {
             Some(serialization) => Payloads::new(serialization, options.seed).run(options.messages),
             None => Ok(()),

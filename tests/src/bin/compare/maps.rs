@@ -10,19 +10,20 @@ type Fault = (&'static str, fn(&mut Random, &mut [u8]));
 
 pub const TOO_SHORT: &str = "20: map shorter than its layout";
 
-pub const FAULTS: [Fault; 7] = [
+pub const FAULTS: [Fault; 8] = [
     ("20: even key", |random, map| {
         let place = settle(random, map);
         let key = get_u32(map, KEYS + 4 * place) & !1 | 1 << 8;
         put_u32(map, KEYS + 4 * place, key);
     }),
-    (
-        "20: entry for a response or of unknown type",
-        |random, map| {
-            let key = random.between(2, 255) << 24 | random.below(1 << 24) | 1;
-            put_key(random, map, key as u32);
-        },
-    ),
+    ("20: entry for a response", |random, map| {
+        let key = 2 << 24 | random.below(256) << 8 | random.between(1, 127) << 1 | 1;
+        put_key(random, map, key as u32);
+    }),
+    ("20: entry of unknown transfer type", |random, map| {
+        let key = random.between(3, 255) << 24 | random.below(1 << 24) | 1;
+        put_key(random, map, key as u32);
+    }),
     ("20: message entry to a node", |random, map| {
         let key = random.below(65536) << 8 | random.between(1, 127) << 1 | 1;
         put_key(random, map, key as u32);

@@ -75,7 +75,10 @@ fn receiving(name: &'static str, receive: Receive) -> Mutant {
 }
 
 fn sending(name: &'static str, send: Send) -> Mutant {
-    let sending = REFERENCE.sending.map(|right| Sending { send, ..right });
+    let sending = Sending {
+        send,
+        ..REFERENCE.sending
+    };
     Mutant {
         name,
         part: Part::Sends,

@@ -13,7 +13,12 @@ pub enum Side {
 
 pub struct Options {
     pub side: Side,
+    /// Of the first round; each further one has the next.
     pub seed: u64,
+    pub rounds: u64,
+    /// Few rounds begin once so many have passed.
+    pub seconds: u64,
+    /// How many calls of each kind a round makes.
     pub setups: u64,
     pub frames: u64,
     pub sends: u64,
@@ -25,18 +30,21 @@ pub struct Options {
 }
 
 const USAGE: &str =
-    "usage: compare [--self | --mutants | --mutant NAME | --codec PATH] [--seed N] [--setups N] \
-    [--frames N] [--sends N] [--messages N] [--lines N] [--minimum N]";
+    "usage: compare [--self | --mutants | --mutant NAME | --codec PATH] [--seed N] \
+    [--rounds N | --seconds N] [--setups N] [--frames N] [--sends N] [--messages N] [--lines N] \
+    [--minimum N]";
 
 impl Options {
     pub fn parse(mut words: impl Iterator<Item = String>) -> Result<Options, String> {
         let mut options = Options {
             side: Side::Archive,
             seed: 1,
-            setups: 200_000,
-            frames: 6_000_000,
-            sends: 2_000_000,
-            messages: 1_000_000,
+            rounds: 50,
+            seconds: u64::MAX,
+            setups: 20_000,
+            frames: 600_000,
+            sends: 200_000,
+            messages: 100_000,
             lines: 250_000,
             minimum: 1000,
         };
@@ -49,12 +57,17 @@ impl Options {
                 name => *options.number(name)? = number(name, words.next())?,
             }
         }
+        if options.seconds < u64::MAX {
+            options.rounds = u64::MAX;
+        }
         Ok(options)
     }
 
     fn number(&mut self, name: &str) -> Result<&mut u64, String> {
         match name {
             "--seed" => Ok(&mut self.seed),
+            "--rounds" => Ok(&mut self.rounds),
+            "--seconds" => Ok(&mut self.seconds),
             "--setups" => Ok(&mut self.setups),
             "--frames" => Ok(&mut self.frames),
             "--sends" => Ok(&mut self.sends),

@@ -152,7 +152,7 @@ impl Requests {
             if let Some(byte) = payload.get_mut(usize::from(at)) {
                 *byte = count;
             }
-            requests.extend((0..=length).map(|end| decoding(index, &payload[..end])));
+            requests.extend((0..=length).map(|end| decode_line(index, &payload[..end])));
         }
         requests
     }
@@ -160,9 +160,9 @@ impl Requests {
     fn request(&mut self) -> Request {
         let index = self.random.index(MessageType::ALL.len());
         let mut request = if self.random.coin() {
-            self.to_encode(index)
+            self.encoding(index)
         } else {
-            self.to_decode(index)
+            self.decoding(index)
         };
         if self.random.once_in(20) {
             break_form(&mut self.random, &mut request.line);
@@ -171,7 +171,7 @@ impl Requests {
     }
 
     /// Bytes of a message as they are, or spoiled.
-    fn to_decode(&mut self, index: usize) -> Request {
+    fn decoding(&mut self, index: usize) -> Request {
         let mut payload = vec![0; 600];
         loop {
             let lists = Lists::new(&mut self.random);
@@ -185,11 +185,11 @@ impl Requests {
         if self.random.coin() {
             spoil(&mut self.random, &mut payload);
         }
-        decoding(index, &payload)
+        decode_line(index, &payload)
     }
 
     /// Fields of a message in any order, some left out, some as other text for the same number or for one outside of 64 bits.
-    fn to_encode(&mut self, index: usize) -> Request {
+    fn encoding(&mut self, index: usize) -> Request {
         let lists = Lists::new(&mut self.random);
         let message = self.message(index, &lists);
         self.count_cases(&message);
@@ -274,7 +274,7 @@ impl Requests {
     }
 }
 
-fn decoding(index: usize, payload: &[u8]) -> Request {
+fn decode_line(index: usize, payload: &[u8]) -> Request {
     let name = type_name(MessageType::ALL[index]);
     Request {
         line: format!("decode {name} {}", hex(payload)).into_bytes(),

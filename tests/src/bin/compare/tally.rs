@@ -39,6 +39,17 @@ impl Tally {
         *self.cases.entry(case).or_insert(0) += 1;
     }
 
+    /// Adds what another run saw of the same call.
+    pub fn add(&mut self, other: &Tally) {
+        self.calls += other.calls;
+        for (number, count) in &other.numbers {
+            *self.numbers.entry(*number).or_insert(0) += count;
+        }
+        for (case, count) in &other.cases {
+            *self.cases.entry(case).or_insert(0) += count;
+        }
+    }
+
     pub fn print(&self) {
         println!("{}: {} calls", self.call, self.calls);
         for (number, count) in &self.numbers {

@@ -1,16 +1,16 @@
 -- `word::of_answer` meets its contract, case by case.
-use mathlib.Core.Path.{sym, ap, _∙_}
+use mathlib.Core.Path.{sym, ap, subst, _∙_}
 use Prim.Native.Nat.{ℕ, _+_, _^_, _<_}
 use native.Mathlib.Omega.{arith}
-use Rattle.gateway.specs.Word.{transferWord, wordOf}
+use Rattle.gateway.specs.Word.{transferWord, wordOf, TransferFits, Fits}
 use Rattle.session.specs.declared.Transfer.{Transfer}
 use borrow.Author.Needs.{needs}
 use Rattle.gateway.proofs.word.of_answer.Statement.{statement}
 use Rattle.gateway.proofs.word.of_answer.Tie as tie
 
-word-lt : (t : Transfer) → transferWord t < 2 ^ 60
+word-lt : (t : Transfer) → TransferFits t → transferWord t < 2 ^ 60
 unfolding transferWord
-word-lt t = omega arith
+word-lt t h = omega (arith, h)
 
 enum-told : tie.Need-enum-told
 enum-told c = search needs
@@ -19,10 +19,13 @@ enum-known-a : tie.Need-enum-known-a
 enum-known-a c = search needs
 
 of-transfer-requires : tie.Need-of-transfer-requires
-of-transfer-requires c κs = search needs
+of-transfer-requires c κs = subst Fits (c .before .a .given .1) (c .before .before .before .pre)
 
 add-result : tie.Need-add-result
-add-result c = let w = word-lt (c .before .before .a .given .0 .0) in omega (arith, c .of-transfer .ensures)
+add-result c =
+    let f = subst Fits (c .before .before .a .given .1) (c .before .before .before .before .pre) in
+    let w = word-lt (c .before .before .a .given .0 .0) f in
+    omega (arith, c .of-transfer .ensures)
 
 enum-known-a-2 : tie.Need-enum-known-a-2
 enum-known-a-2 c = search needs

@@ -1,3 +1,4 @@
+-- `allocation::decode` meets its contract: 15, 16 or an allocation.
 use mathlib.Core.List.{List}
 use mathlib.Core.Path.{sym, ap, _∙_}
 use Prim.Native.Nat.{ℕ}
@@ -10,10 +11,6 @@ use Rattle.messages.specs.declared.allocation.Allocation.{Allocation}
 use borrow.Author.Needs.{needs}
 use Rattle.messages.proofs.allocation.decode.Statement.{statement}
 use Rattle.messages.proofs.allocation.decode.Tie as tie
-use Rattle.messages.proofs.allocation.decode.Reads as reads
-use Rattle.messages.proofs.allocation.decode.Lts as lts
-use Rattle.bits.proofs.field.read.Reads as read-reads
-use Rattle.messages.proofs.allocation.unique_id.Reads as unique-id-reads
 
 returns : tie.Need-returns
 returns c =

@@ -1,3 +1,4 @@
+-- `allocation::encode` meets its contract: 17, 8 or an allocation.
 use mathlib.Core.Path.{sym, _∙_}
 use Prim.Native.Nat.{_+_}
 use native.Mathlib.Omega.{arith}
@@ -11,10 +12,6 @@ use Rattle.messages.specs.Allocation.{allocation}
 use borrow.Author.Needs.{needs}
 use Rattle.messages.proofs.allocation.encode.Statement.{statement}
 use Rattle.messages.proofs.allocation.encode.Tie as tie
-use Rattle.messages.proofs.allocation.encode.Reads as reads
-use Rattle.messages.proofs.allocation.encode.Lts as lts
-use Rattle.bits.proofs.field.write.Reads as write-reads
-use Rattle.bits.proofs.field.write_bytes.Reads as write-bytes-reads
 
 returns : tie.Need-returns
 returns c =

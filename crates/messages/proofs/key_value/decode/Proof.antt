@@ -1,3 +1,4 @@
+-- `key_value::decode` meets its contract: 15, 16 or a value and its key.
 use mathlib.Core.List.{List}
 use mathlib.Core.Path.{sym, ap, _∙_}
 use Prim.Native.Nat.{ℕ}
@@ -10,10 +11,6 @@ use Rattle.messages.specs.declared.key_value.KeyValue.{KeyValue}
 use borrow.Author.Needs.{needs}
 use Rattle.messages.proofs.key_value.decode.Statement.{statement}
 use Rattle.messages.proofs.key_value.decode.Tie as tie
-use Rattle.messages.proofs.key_value.decode.Reads as reads
-use Rattle.messages.proofs.key_value.decode.Lts as lts
-use Rattle.bits.proofs.field.read.Reads as read-reads
-use Rattle.messages.proofs.key_value.key.Reads as key-reads
 
 returns : tie.Need-returns
 returns c =
@@ -41,7 +38,8 @@ returns-3 c =
     let k = q .before .before in
     let s = k .before .args .payload .now in
     let e = ap (λ (l : List ℕ). length l) (q .key .ensures) in
-    ap (λ (x : KeyValue). got x) (made (c .read .ensures) e) ∙ sym (held s (octets-all s (λ i. omega (arith, k .shared-slice-known .given i))) (omega arith) (omega (arith, e)))
+    ap (λ (x : KeyValue). got x) (made (c .read .ensures) e)
+    ∙ sym (held s (octets-all s (λ i. omega (arith, k .shared-slice-known .given i))) (omega arith) (omega (arith, e)))
 
 pub decode-spec : {M : Type 1} → statement M
 decode-spec = tie.close (tie.spec returns key-requires returns-2 read-requires returns-3)

@@ -1,3 +1,4 @@
+-- `key_value::encode` meets its contract: 17, 8 or a value and its key.
 use mathlib.Core.Path.{sym, _∙_}
 use Prim.Native.Nat.{_+_}
 use native.Mathlib.Omega.{arith}
@@ -11,10 +12,6 @@ use Rattle.messages.specs.KeyValue.{keyValue}
 use borrow.Author.Needs.{needs}
 use Rattle.messages.proofs.key_value.encode.Statement.{statement}
 use Rattle.messages.proofs.key_value.encode.Tie as tie
-use Rattle.messages.proofs.key_value.encode.Reads as reads
-use Rattle.messages.proofs.key_value.encode.Lts as lts
-use Rattle.bits.proofs.field.write.Reads as write-reads
-use Rattle.bits.proofs.field.write_bytes.Reads as write-bytes-reads
 
 returns : tie.Need-returns
 returns c =
@@ -32,7 +29,8 @@ returns-2 c =
     let k = f .before .before in
     let a = k .before .args in
     let o : Octets (a .key .now) = octets-all (a .key .now) (λ i. omega (arith, k .shared-slice-known .given i)) in
-    refuse-8 keyValue (a .value, a .key .now) (a .out .now) (sym (fit (a .value) (a .key .now) o) ∙ not-false _ (f .if1 .left)) (4 + length (a .key .now)) (size (a .value) (a .key .now)) (c .if2 .taken)
+    refuse-8 keyValue (a .value, a .key .now) (a .out .now) (sym (fit (a .value) (a .key .now) o) ∙ not-false _ (f .if1 .left)) (4 + length (a .key .now))
+    (size (a .value) (a .key .now)) (c .if2 .taken)
 
 write-requires : tie.Need-write-requires
 write-requires c κs = search needs
@@ -53,7 +51,8 @@ returns-3 c =
     let k = m .before in
     let a = k .before .args in
     let o : Octets (a .key .now) = octets-all (a .key .now) (λ i. omega (arith, k .shared-slice-known .given i)) in
-    write-all keyValue (a .value, a .key .now) (a .out .now) (sym (fit (a .value) (a .key .now) o) ∙ not-false _ (f .if1 .left)) (4 + length (a .key .now)) (size (a .value) (a .key .now))
+    write-all keyValue (a .value, a .key .now) (a .out .now) (sym (fit (a .value) (a .key .now) o) ∙ not-false _ (f .if1 .left)) (4 + length (a .key .now))
+    (size (a .value) (a .key .now))
     (octets-all (a .out .now) (λ i. omega (arith, m .slice-known .given i))) (g .if2 .left) (w₂ .write-bytes .last .0)
     (stored (a .value) (a .key .now) (a .out .now) (w₁ .write .last .0) (w₂ .write-bytes .last .0) (omega (arith, g .if2 .left)) (w₁ .write .ensures) (w₂ .write-bytes .ensures))
 

@@ -1,3 +1,4 @@
+-- `log_message::decode` meets its contract: 15, 16 or a message.
 use mathlib.Core.List.{List}
 use mathlib.Core.Path.{sym, ap, _∙_}
 use Prim.Native.Nat.{ℕ}
@@ -10,12 +11,6 @@ use Rattle.messages.specs.declared.log_message.LogMessage.{LogMessage}
 use borrow.Author.Needs.{needs}
 use Rattle.messages.proofs.log_message.decode.Statement.{statement}
 use Rattle.messages.proofs.log_message.decode.Tie as tie
-use Rattle.messages.proofs.log_message.decode.Reads as reads
-use Rattle.messages.proofs.log_message.decode.Lts as lts
-use Rattle.bits.proofs.field.read.Reads as read-reads
-use Rattle.messages.proofs.log_message.source.Reads as source-reads
-use Rattle.messages.proofs.log_message.source_length.Reads as source-length-reads
-use Rattle.messages.proofs.log_message.text.Reads as text-reads
 
 source-length-requires : tie.Need-source-length-requires
 source-length-requires c κs = search needs
@@ -57,7 +52,8 @@ returns-3 c =
     let o = octets-all s (λ i. omega (arith, k .shared-slice-known .given i)) in
     let e = ap (λ (l : List ℕ). length l) (t .text .ensures) in
     let l = source-len s o (omega (arith, n .source-length .ensures)) in
-    ap (λ (x : LogMessage). got x) (made (c .before .read .ensures) (ap (λ (l : List ℕ). length l) (c .source .ensures)) (omega (arith, l, n .source-length .ensures)) e)
+    ap (λ (x : LogMessage). got x)
+    (made (c .before .read .ensures) (ap (λ (l : List ℕ). length l) (c .source .ensures)) (omega (arith, l, n .source-length .ensures)) e)
     ∙ sym (held s o (omega (arith, n .source-length .ensures)) (omega (arith, e)))
 
 pub decode-spec : {M : Type 1} → statement M

@@ -1,3 +1,4 @@
+-- `log_message::encode` meets its contract: 17, 8 or a message.
 use mathlib.Core.Path.{sym, _∙_}
 use Prim.Native.Nat.{_+_}
 use native.Mathlib.Omega.{arith}
@@ -11,11 +12,6 @@ use Rattle.messages.specs.LogMessage.{logMessage}
 use borrow.Author.Needs.{needs}
 use Rattle.messages.proofs.log_message.encode.Statement.{statement}
 use Rattle.messages.proofs.log_message.encode.Tie as tie
-use Rattle.messages.proofs.log_message.encode.Reads as reads
-use Rattle.messages.proofs.log_message.encode.Lts as lts
-use Rattle.bits.proofs.field.write.Reads as write-reads
-use Rattle.bits.proofs.field.write_bytes.Reads as write-bytes-reads
-use Rattle.bits.proofs.width.width.Reads as width-reads
 
 returns : tie.Need-returns
 returns c =
@@ -44,7 +40,8 @@ returns-2 c =
     let ys = a .text .now in
     let o : Octets xs = octets-all xs (λ i. omega (arith, k .shared-slice-known .given i)) in
     let q : Octets ys = octets-all ys (λ i. omega (arith, t .shared-slice-known2 .given i)) in
-    refuse-8 logMessage (a .level, (xs, ys)) (a .out .now) (sym (fit (a .level) xs ys o q) ∙ not-false _ (f .if1 .left)) (1 + length xs + length ys) (size (a .level) xs ys) (c .if2 .taken)
+    refuse-8 logMessage (a .level, (xs, ys)) (a .out .now) (sym (fit (a .level) xs ys o q) ∙ not-false _ (f .if1 .left)) (1 + length xs + length ys)
+    (size (a .level) xs ys) (c .if2 .taken)
 
 write-requires : tie.Need-write-requires
 write-requires c κs = search needs
@@ -84,7 +81,8 @@ returns-3 c =
     let ys = a .text .now in
     let o : Octets xs = octets-all xs (λ i. omega (arith, k .shared-slice-known .given i)) in
     let q : Octets ys = octets-all ys (λ i. omega (arith, t .shared-slice-known2 .given i)) in
-    write-all logMessage (a .level, (xs, ys)) (a .out .now) (sym (fit (a .level) xs ys o q) ∙ not-false _ (f .if1 .left)) (1 + length xs + length ys) (size (a .level) xs ys)
+    write-all logMessage (a .level, (xs, ys)) (a .out .now) (sym (fit (a .level) xs ys o q) ∙ not-false _ (f .if1 .left)) (1 + length xs + length ys)
+    (size (a .level) xs ys)
     (octets-all (a .out .now) (λ i. omega (arith, m .slice-known .given i))) (g .if2 .left) (w₄ .write-bytes2 .last .0)
     (stored (a .level) xs ys (w .width .result) (w .width .ensures) (a .out .now) (w₁ .write .last .0) (w₂ .write2 .last .0) (w₃ .write-bytes .last .0) (w₄ .write-bytes2 .last .0) (omega (arith, g .if2 .left))
     (w₁ .write .ensures) (w₂ .write2 .ensures) (w₃ .write-bytes .ensures) (w₄ .write-bytes2 .ensures))

@@ -1,13 +1,10 @@
+-- `log_message::source` meets its contract.
 use mathlib.Core.Path.{ap, _∙_}
 use Prim.Native.Nat.{ℕ}
 use Rattle.bits.specs.Part.{span}
 use borrow.Author.Needs.{needs}
 use Rattle.messages.proofs.log_message.source.Statement.{statement}
 use Rattle.messages.proofs.log_message.source.Tie as tie
-use Rattle.messages.proofs.log_message.source.Reads as reads
-use Rattle.messages.proofs.log_message.source.Lts as lts
-use Rattle.messages.proofs.log_message.source_length.Reads as source-length-reads
-use Rattle.shape.proofs.part.within.Reads as within-reads
 
 source-length-requires : tie.Need-source-length-requires
 source-length-requires c κs = search needs

@@ -1,3 +1,4 @@
+-- `log_message::source_length` meets its contract; its field is five bits wide.
 use mathlib.Core.Path.{ap, _∙_}
 use Prim.Native.Nat.{ℕ}
 use native.Mathlib.Omega.{arith}
@@ -8,10 +9,6 @@ use Rattle.messages.specs.LogMessage.{sourceLength}
 use borrow.Author.Needs.{needs}
 use Rattle.messages.proofs.log_message.source_length.Statement.{statement}
 use Rattle.messages.proofs.log_message.source_length.Tie as tie
-use Rattle.messages.proofs.log_message.source_length.Reads as reads
-use Rattle.messages.proofs.log_message.source_length.Lts as lts
-use Rattle.bits.proofs.field.read.Reads as read-reads
-use Rattle.bits.proofs.width.width.Reads as width-reads
 
 returns : tie.Need-returns
 returns c = none (c .before .before .args .payload .now) (omega arith)

@@ -1,3 +1,4 @@
+-- `log_message::text` meets its contract.
 use mathlib.Core.Path.{ap, _∙_}
 use Prim.Native.Nat.{ℕ, _+_}
 use native.Mathlib.Omega.{arith}
@@ -6,10 +7,6 @@ use Rattle.messages.proofs.LogMessageFacts.{below}
 use borrow.Author.Needs.{needs}
 use Rattle.messages.proofs.log_message.text.Statement.{statement}
 use Rattle.messages.proofs.log_message.text.Tie as tie
-use Rattle.messages.proofs.log_message.text.Reads as reads
-use Rattle.messages.proofs.log_message.text.Lts as lts
-use Rattle.messages.proofs.log_message.source_length.Reads as source-length-reads
-use Rattle.shape.proofs.part.behind.Reads as behind-reads
 
 source-length-requires : tie.Need-source-length-requires
 source-length-requires c κs = search needs

@@ -1,3 +1,4 @@
+-- `status::decode` meets its contract: 15, 16 or a status.
 use Rattle.shape.specs.Answer.{got}
 use Rattle.messages.specs.declared.status.NodeStatus.{NodeStatus}
 use Rattle.messages.proofs.StatusFacts.{short, long, read}
@@ -6,9 +7,6 @@ use mathlib.Core.Path.{sym, ap, _∙_}
 use borrow.Author.Needs.{needs}
 use Rattle.messages.proofs.status.decode.Statement.{statement}
 use Rattle.messages.proofs.status.decode.Tie as tie
-use Rattle.messages.proofs.status.decode.Reads as reads
-use Rattle.messages.proofs.status.decode.Lts as lts
-use Rattle.messages.proofs.status.read_front.Reads as read-front-reads
 
 returns : tie.Need-returns
 returns c = sym (short (c .before .before .args .payload .now) (omega arith))

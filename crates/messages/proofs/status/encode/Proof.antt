@@ -1,3 +1,4 @@
+-- `status::encode` meets its contract: 17, 8 or a status.
 use Rattle.messages.specs.Status.{nodeStatus, statusValues}
 use Rattle.messages.proofs.StatusFacts.{size}
 use Rattle.shape.proofs.Writing.{refuse-17, refuse-8, write-all}
@@ -9,10 +10,6 @@ use mathlib.Core.Path.{sym, _∙_}
 use borrow.Author.Needs.{needs}
 use Rattle.messages.proofs.status.encode.Statement.{statement}
 use Rattle.messages.proofs.status.encode.Tie as tie
-use Rattle.messages.proofs.status.encode.Reads as reads
-use Rattle.messages.proofs.status.encode.Lts as lts
-use Rattle.messages.proofs.status.fits.Reads as fits-reads
-use Rattle.messages.proofs.status.write_front.Reads as write-front-reads
 
 fits-requires : tie.Need-fits-requires
 fits-requires c κs = search needs
@@ -28,7 +25,8 @@ returns-2 c =
     let t = c .before in
     let f = t .before in
     let a = f .before .before .args in
-    refuse-8 nodeStatus (statusValues (a .x) end tt) (a .out .now) (sym (f .fits2 .ensures) ∙ not-false (f .fits2 .result) (t .if1 .left)) 7 (size (a .x)) (omega arith)
+    refuse-8 nodeStatus (statusValues (a .x) end tt) (a .out .now) (sym (f .fits2 .ensures) ∙ not-false (f .fits2 .result) (t .if1 .left)) 7 (size (a .x))
+    (omega arith)
 
 write-front-requires : tie.Need-write-front-requires
 write-front-requires c κs = search needs

@@ -1,8 +1,7 @@
+-- `status::fits` meets its contract.
 use Rattle.messages.proofs.StatusFacts.{fit}
 use Rattle.messages.proofs.status.fits.Statement.{statement}
 use Rattle.messages.proofs.status.fits.Tie as tie
-use Rattle.messages.proofs.status.fits.Reads as reads
-use Rattle.messages.proofs.status.fits.Lts as lts
 
 returns : tie.Need-returns
 returns c = fit (c .before .before .before .before .args .x)

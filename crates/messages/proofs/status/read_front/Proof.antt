@@ -1,11 +1,9 @@
+-- `status::read_front` meets its contract, field by field.
 use Rattle.messages.specs.Status.{statusAt}
 use Rattle.messages.proofs.StatusFacts.{made}
 use borrow.Author.Needs.{needs}
 use Rattle.messages.proofs.status.read_front.Statement.{statement}
 use Rattle.messages.proofs.status.read_front.Tie as tie
-use Rattle.messages.proofs.status.read_front.Reads as reads
-use Rattle.messages.proofs.status.read_front.Lts as lts
-use Rattle.bits.proofs.field.read.Reads as read-reads
 
 read-requires : tie.Need-read-requires
 read-requires c κs = search needs

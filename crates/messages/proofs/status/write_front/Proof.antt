@@ -1,11 +1,9 @@
+-- `status::write_front` meets its contract: the fields follow each other.
 use Rattle.messages.proofs.StatusFacts.{stored}
 use native.Mathlib.Omega.{arith}
 use borrow.Author.Needs.{needs}
 use Rattle.messages.proofs.status.write_front.Statement.{statement}
 use Rattle.messages.proofs.status.write_front.Tie as tie
-use Rattle.messages.proofs.status.write_front.Reads as reads
-use Rattle.messages.proofs.status.write_front.Lts as lts
-use Rattle.bits.proofs.field.write.Reads as write-reads
 
 write-requires : tie.Need-write-requires
 write-requires c κs = search needs

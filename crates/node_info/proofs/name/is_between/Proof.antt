@@ -1,9 +1,8 @@
+-- `name::is_between` meets its contract.
 use Rattle.node_info.specs.Name.{between}
 use borrow.Author.Tests.{le-leb, lt-leb}
 use Rattle.node_info.proofs.name.is_between.Statement.{statement}
 use Rattle.node_info.proofs.name.is_between.Tie as tie
-use Rattle.node_info.proofs.name.is_between.Reads as reads
-use Rattle.node_info.proofs.name.is_between.Lts as lts
 
 returns : tie.Need-returns
 unfolding between

@@ -1,3 +1,4 @@
+-- `name::is_letter` meets its contract, range by range.
 use mathlib.Core.Bool.{true, false}
 use mathlib.Core.Path.{_≡_, sym, _∙_}
 use Prim.Native.Nat.{ℕ}
@@ -6,9 +7,6 @@ use Rattle.node_info.specs.Name.{between, isLetter}
 use borrow.Author.Needs.{needs}
 use Rattle.node_info.proofs.name.is_letter.Statement.{statement}
 use Rattle.node_info.proofs.name.is_letter.Tie as tie
-use Rattle.node_info.proofs.name.is_letter.Reads as reads
-use Rattle.node_info.proofs.name.is_letter.Lts as lts
-use Rattle.node_info.proofs.name.is_between.Reads as is-between-reads
 
 module _ (c : ℕ) where
   small : between 97 122 c ≡ true → true ≡ isLetter c
@@ -48,13 +46,15 @@ returns-3 : tie.Need-returns-3
 returns-3 c =
     let f = c .before .before in
     let e = f .before .before in
-    mark _ (sym (e .before .is-between .ensures) ∙ e .if1 .left) (sym (f .before .is-between2 .ensures) ∙ f .if2 .left) (sym (c .before .is-between3 .ensures) ∙ c .if3 .taken)
+    mark _ (sym (e .before .is-between .ensures) ∙ e .if1 .left) (sym (f .before .is-between2 .ensures) ∙ f .if2 .left)
+    (sym (c .before .is-between3 .ensures) ∙ c .if3 .taken)
 
 returns-4 : tie.Need-returns-4
 returns-4 c =
     let f = c .before .before in
     let e = f .before .before in
-    other _ (sym (e .before .is-between .ensures) ∙ e .if1 .left) (sym (f .before .is-between2 .ensures) ∙ f .if2 .left) (sym (c .before .is-between3 .ensures) ∙ c .if3 .left)
+    other _ (sym (e .before .is-between .ensures) ∙ e .if1 .left) (sym (f .before .is-between2 .ensures) ∙ f .if2 .left)
+    (sym (c .before .is-between3 .ensures) ∙ c .if3 .left)
 
 pub is-letter-spec : {M : Type 1} → statement M
 is-letter-spec =

@@ -1,3 +1,4 @@
+-- `name::is_name` meets its contract: the letters passed do not decide.
 use mathlib.Core.Path.{_≡_, refl, sym, _∙_}
 use Prim.Native.Nat.{_-_, _≤_, _<_}
 use native.Mathlib.Omega.{arith}
@@ -7,9 +8,6 @@ use Rattle.node_info.proofs.NameFacts.{empty, bad, next, all}
 use Rattle.node_info.specs.Name.{allLetters}
 use Rattle.node_info.proofs.name.is_name.Statement.{statement}
 use Rattle.node_info.proofs.name.is_name.Tie as tie
-use Rattle.node_info.proofs.name.is_name.Reads as reads
-use Rattle.node_info.proofs.name.is_name.Lts as lts
-use Rattle.node_info.proofs.name.is_letter.Reads as is-letter-reads
 
 abbrev Inv-loop : tie.InvT-loop
 Inv-loop s i₀ i = (0 < length s) × ((i ≤ length s) × (allLetters (drop i s) ≡ allLetters s))
@@ -33,7 +31,8 @@ returns-2 : tie.Need-returns-2 Inv-loop μ-loop
 returns-2 c =
     let n = c .before in
     let l = n .before .before .before in
-    bad (l .before .before .before .args .s .now) (l .loop .i) (omega arith) (l .loop .inv .1 .1) (sym (n .is-letter .ensures) ∙ not-true (n .is-letter .result) (c .if2 .taken))
+    bad (l .before .before .before .args .s .now) (l .loop .i) (omega arith) (l .loop .inv .1 .1)
+    (sym (n .is-letter .ensures) ∙ not-true (n .is-letter .result) (c .if2 .taken))
 
 add-i : tie.Need-add-i Inv-loop μ-loop
 add-i c = omega arith

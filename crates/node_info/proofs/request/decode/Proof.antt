@@ -1,3 +1,4 @@
+-- `request::decode` meets its contract.
 use mathlib.Core.Path.{sym}
 use native.Mathlib.Omega.{arith}
 use Rattle.bits.specs.Order.{unpack}
@@ -5,8 +6,6 @@ use Rattle.bits.proofs.Bytes.{length-unpack}
 use Rattle.shape.proofs.Reading.{end-none, end-left}
 use Rattle.node_info.proofs.request.decode.Statement.{statement}
 use Rattle.node_info.proofs.request.decode.Tie as tie
-use Rattle.node_info.proofs.request.decode.Reads as reads
-use Rattle.node_info.proofs.request.decode.Lts as lts
 
 returns : tie.Need-returns
 returns c =

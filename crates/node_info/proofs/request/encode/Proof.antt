@@ -1,3 +1,4 @@
+-- `request::encode` meets its contract: no bits make no bytes.
 use native.Mathlib.Omega.{arith}
 use borrow.Author.Tests.{le-ltb}
 use lib.ListN.{length}
@@ -6,8 +7,6 @@ use Rattle.shape.specs.Answer.{refuseIf}
 use Rattle.shape.specs.Shape.{encode, fits, encoded}
 use Rattle.node_info.proofs.request.encode.Statement.{statement}
 use Rattle.node_info.proofs.request.encode.Tie as tie
-use Rattle.node_info.proofs.request.encode.Reads as reads
-use Rattle.node_info.proofs.request.encode.Lts as lts
 
 returns : tie.Need-returns
 unfolding encoded refuseIf fits encode bytes

@@ -1,13 +1,10 @@
+-- `response::certificate` meets its contract.
 use mathlib.Core.Path.{ap, _∙_}
 use Prim.Native.Nat.{ℕ}
 use Rattle.bits.specs.Part.{span}
 use borrow.Author.Needs.{needs}
 use Rattle.node_info.proofs.response.certificate.Statement.{statement}
 use Rattle.node_info.proofs.response.certificate.Tie as tie
-use Rattle.node_info.proofs.response.certificate.Reads as reads
-use Rattle.node_info.proofs.response.certificate.Lts as lts
-use Rattle.node_info.proofs.response.certificate_length.Reads as certificate-length-reads
-use Rattle.shape.proofs.part.within.Reads as within-reads
 
 certificate-length-requires : tie.Need-certificate-length-requires
 certificate-length-requires c κs = search needs

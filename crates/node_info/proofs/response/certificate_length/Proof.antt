@@ -1,3 +1,4 @@
+-- `response::certificate_length` meets its contract; its field is eight bits wide.
 use mathlib.Core.Path.{ap, _∙_}
 use Prim.Native.Nat.{ℕ}
 use native.Mathlib.Omega.{arith}
@@ -8,10 +9,6 @@ use Rattle.node_info.specs.Response.{certificateLength}
 use borrow.Author.Needs.{needs}
 use Rattle.node_info.proofs.response.certificate_length.Statement.{statement}
 use Rattle.node_info.proofs.response.certificate_length.Tie as tie
-use Rattle.node_info.proofs.response.certificate_length.Reads as reads
-use Rattle.node_info.proofs.response.certificate_length.Lts as lts
-use Rattle.bits.proofs.field.read.Reads as read-reads
-use Rattle.bits.proofs.width.width.Reads as width-reads
 
 returns : tie.Need-returns
 returns c = none (c .before .before .args .payload .now) (omega arith)

@@ -1,3 +1,4 @@
+-- `response::decode` meets its contract: 15, 16, 17 or a response.
 use mathlib.Core.List.{List}
 use mathlib.Core.Path.{sym, ap, _∙_}
 use Prim.Native.Nat.{ℕ}
@@ -12,14 +13,6 @@ use Rattle.node_info.specs.declared.response.Response.{Response}
 use borrow.Author.Needs.{needs}
 use Rattle.node_info.proofs.response.decode.Statement.{statement}
 use Rattle.node_info.proofs.response.decode.Tie as tie
-use Rattle.node_info.proofs.response.decode.Reads as reads
-use Rattle.node_info.proofs.response.decode.Lts as lts
-use Rattle.node_info.proofs.name.is_name.Reads as is-name-reads
-use Rattle.node_info.proofs.response.certificate.Reads as certificate-reads
-use Rattle.node_info.proofs.response.certificate_length.Reads as certificate-length-reads
-use Rattle.node_info.proofs.response.name.Reads as name-reads
-use Rattle.node_info.proofs.response.read_info.Reads as read-info-reads
-use Rattle.node_info.proofs.response.unique_id.Reads as unique-id-reads
 
 certificate-length-requires : tie.Need-certificate-length-requires
 certificate-length-requires c κs = search needs

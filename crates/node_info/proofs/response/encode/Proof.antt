@@ -1,3 +1,4 @@
+-- `response::encode` meets its contract: 17, 8 or a response.
 use mathlib.Core.Path.{sym, _∙_}
 use Prim.Native.Nat.{_+_}
 use native.Mathlib.Omega.{arith}
@@ -11,12 +12,6 @@ use Rattle.node_info.specs.Response.{lists, response, infoValues}
 use borrow.Author.Needs.{needs}
 use Rattle.node_info.proofs.response.encode.Statement.{statement}
 use Rattle.node_info.proofs.response.encode.Tie as tie
-use Rattle.node_info.proofs.response.encode.Reads as reads
-use Rattle.node_info.proofs.response.encode.Lts as lts
-use Rattle.node_info.proofs.response.fits.Reads as fits-reads
-use Rattle.node_info.proofs.response.lists_fit.Reads as lists-fit-reads
-use Rattle.node_info.proofs.response.write_info.Reads as write-info-reads
-use Rattle.node_info.proofs.response.write_lists.Reads as write-lists-reads
 
 fits-requires : tie.Need-fits-requires
 fits-requires c κs = search needs
@@ -97,7 +92,8 @@ returns-4 c =
     let e = sym (q .lists-fit .ensures) ∙ not-false (q .lists-fit .result) (g .if2 .left) in
     let z = sizes (a .unique-id .now) t n e in
     write-all response (infoValues (a .m) lists v) (a .out .now) (whole-fit (a .m) v (sym (s .fits2 .ensures) ∙ not-false (s .fits2 .result) (f .if1 .left)) e)
-    (41 + length t + length n) (size (a .m) (a .unique-id .now) t n (z .id)) (octets-all (a .out .now) (λ i. omega (arith, k .slice-known .given i))) (r .if3 .left) (w₂ .write-lists .last .0)
+    (41 + length t + length n) (size (a .m) (a .unique-id .now) t n (z .id)) (octets-all (a .out .now) (λ i. omega (arith, k .slice-known .given i))) (r .if3 .left)
+    (w₂ .write-lists .last .0)
     (stored (a .m) (a .unique-id .now) t n (z .id) (a .out .now) (w₁ .write-info .last .0) (w₂ .write-lists .last .0) (omega (arith, r .if3 .left)) (w₁ .write-info .ensures) (w₂ .write-lists .ensures))
 
 pub encode-spec : {M : Type 1} → statement M

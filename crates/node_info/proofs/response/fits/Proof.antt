@@ -1,11 +1,9 @@
+-- `response::fits` meets its contract.
 use native.Mathlib.Omega.{arith}
 use Rattle.node_info.proofs.WriteFacts.{fit}
 use borrow.Author.Needs.{needs}
 use Rattle.node_info.proofs.response.fits.Statement.{statement}
 use Rattle.node_info.proofs.response.fits.Tie as tie
-use Rattle.node_info.proofs.response.fits.Reads as reads
-use Rattle.node_info.proofs.response.fits.Lts as lts
-use Rattle.messages.proofs.status.fits.Reads as fits-reads
 
 fits-requires : tie.Need-fits-requires
 fits-requires c κs = search needs

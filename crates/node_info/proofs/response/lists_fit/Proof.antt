@@ -1,3 +1,4 @@
+-- `response::lists_fit` meets its contract, list by list.
 use mathlib.Core.Path.{_∙_}
 use native.Mathlib.Omega.{arith}
 use Rattle.bits.proofs.Octets.{octets-all}
@@ -5,9 +6,6 @@ use Rattle.node_info.proofs.WriteFacts.{no-id, no-certificate, no-name,
 use borrow.Author.Needs.{needs}
 use Rattle.node_info.proofs.response.lists_fit.Statement.{statement}
 use Rattle.node_info.proofs.response.lists_fit.Tie as tie
-use Rattle.node_info.proofs.response.lists_fit.Reads as reads
-use Rattle.node_info.proofs.response.lists_fit.Lts as lts
-use Rattle.node_info.proofs.name.is_name.Reads as is-name-reads
 
 returns : tie.Need-returns
 returns c =
@@ -45,7 +43,8 @@ returns-4 c =
     let n = a .name .now in
     c .is-name .ensures
     ∙ by-name u t n (octets-all u (λ i. omega (arith, k₁ .shared-slice-known .given i))) (c .before .before .before .if1 .left)
-    (octets-all t (λ i. omega (arith, k₂ .shared-slice-known2 .given i))) (c .before .before .if2 .left) (octets-all n (λ i. omega (arith, k₃ .shared-slice-known3 .given i))) (c .before .if3 .left)
+    (octets-all t (λ i. omega (arith, k₂ .shared-slice-known2 .given i))) (c .before .before .if2 .left)
+    (octets-all n (λ i. omega (arith, k₃ .shared-slice-known3 .given i))) (c .before .if3 .left)
 
 pub lists-fit-spec : {M : Type 1} → statement M
 lists-fit-spec = tie.close (tie.spec returns returns-2 returns-3 is-name-requires returns-4)

@@ -1,3 +1,4 @@
+-- `response::name` meets its contract.
 use mathlib.Core.Path.{ap, _∙_}
 use Prim.Native.Nat.{ℕ, _+_}
 use native.Mathlib.Omega.{arith}
@@ -6,10 +7,6 @@ use Rattle.node_info.proofs.ReadFacts.{below}
 use borrow.Author.Needs.{needs}
 use Rattle.node_info.proofs.response.name.Statement.{statement}
 use Rattle.node_info.proofs.response.name.Tie as tie
-use Rattle.node_info.proofs.response.name.Reads as reads
-use Rattle.node_info.proofs.response.name.Lts as lts
-use Rattle.node_info.proofs.response.certificate_length.Reads as certificate-length-reads
-use Rattle.shape.proofs.part.behind.Reads as behind-reads
 
 certificate-length-requires : tie.Need-certificate-length-requires
 certificate-length-requires c κs = search needs

@@ -1,11 +1,8 @@
+-- `response::read_info` meets its contract, field by field.
 use Rattle.node_info.specs.Response.{infoAt}
 use borrow.Author.Needs.{needs}
 use Rattle.node_info.proofs.response.read_info.Statement.{statement}
 use Rattle.node_info.proofs.response.read_info.Tie as tie
-use Rattle.node_info.proofs.response.read_info.Reads as reads
-use Rattle.node_info.proofs.response.read_info.Lts as lts
-use Rattle.bits.proofs.field.read.Reads as read-reads
-use Rattle.messages.proofs.status.read_front.Reads as read-front-reads
 
 read-front-requires : tie.Need-read-front-requires
 read-front-requires c κs = search needs
@@ -33,7 +30,15 @@ read-requires-7 c κs = search needs
 
 returns : tie.Need-returns
 unfolding infoAt
-returns c = rw (c .before .before .before .before .before .before .before .read-front .ensures, c .before .before .before .before .before .before .read .ensures, c .before .before .before .before .before .read2 .ensures, c .before .before .before .before .read3 .ensures, c .before .before .before .read4 .ensures, c .before .before .read5 .ensures, c .before .read6 .ensures, c .read7 .ensures)
+returns c =
+    let r₆ = c .before in
+    let r₅ = r₆ .before in
+    let r₄ = r₅ .before in
+    let r₃ = r₄ .before in
+    let r₂ = r₃ .before in
+    let r₁ = r₂ .before in
+    let r₀ = r₁ .before in
+    rw (r₀ .read-front .ensures, r₁ .read .ensures, r₂ .read2 .ensures, r₃ .read3 .ensures, r₄ .read4 .ensures, r₅ .read5 .ensures, r₆ .read6 .ensures, c .read7 .ensures)
 
 pub read-info-spec : {M : Type 1} → statement M
 read-info-spec =

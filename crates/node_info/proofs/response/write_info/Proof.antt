@@ -1,12 +1,8 @@
-use native.Mathlib.Omega.{arith}
+-- `response::write_info` meets its contract: the fields follow each other.
 use Rattle.node_info.proofs.WriteFacts.{stored-info}
 use borrow.Author.Needs.{needs}
 use Rattle.node_info.proofs.response.write_info.Statement.{statement}
 use Rattle.node_info.proofs.response.write_info.Tie as tie
-use Rattle.node_info.proofs.response.write_info.Reads as reads
-use Rattle.node_info.proofs.response.write_info.Lts as lts
-use Rattle.bits.proofs.field.write.Reads as write-reads
-use Rattle.messages.proofs.status.write_front.Reads as write-front-reads
 
 write-front-requires : tie.Need-write-front-requires
 write-front-requires c κs = search needs
@@ -48,7 +44,8 @@ returns c =
     let k = w₁ .before .before .before .before in
     stored-info (k .args .m) (k .args .out .now) (w₁ .write-front .last .0) (w₂ .write .last .0) (w₃ .write2 .last .0) (w₄ .write3 .last .0) (w₅ .write4 .last .0)
     (w₆ .write5 .last .0) (w₇ .write6 .last .0) (w₈ .write7 .last .0) (k .pre)
-    (w₁ .write-front .ensures) (w₂ .write .ensures) (w₃ .write2 .ensures) (w₄ .write3 .ensures) (w₅ .write4 .ensures) (w₆ .write5 .ensures) (w₇ .write6 .ensures) (w₈ .write7 .ensures)
+    (w₁ .write-front .ensures) (w₂ .write .ensures) (w₃ .write2 .ensures) (w₄ .write3 .ensures) (w₅ .write4 .ensures) (w₆ .write5 .ensures) (w₇ .write6 .ensures)
+    (w₈ .write7 .ensures)
 
 pub write-info-spec : {M : Type 1} → statement M
 write-info-spec =

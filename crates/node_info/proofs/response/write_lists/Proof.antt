@@ -1,14 +1,10 @@
+-- `response::write_lists` meets its contract: the lists follow each other.
 use native.Mathlib.Omega.{arith}
 use Rattle.node_info.proofs.ReadFacts.{eight}
 use Rattle.node_info.proofs.WriteFacts.{stored-lists}
 use borrow.Author.Needs.{needs}
 use Rattle.node_info.proofs.response.write_lists.Statement.{statement}
 use Rattle.node_info.proofs.response.write_lists.Tie as tie
-use Rattle.node_info.proofs.response.write_lists.Reads as reads
-use Rattle.node_info.proofs.response.write_lists.Lts as lts
-use Rattle.bits.proofs.field.write.Reads as write-reads
-use Rattle.bits.proofs.field.write_bytes.Reads as write-bytes-reads
-use Rattle.bits.proofs.width.width.Reads as width-reads
 
 write-bytes-requires : tie.Need-write-bytes-requires
 write-bytes-requires c κs = search needs
@@ -20,7 +16,8 @@ cast-write : tie.Need-cast-write
 cast-write c = search needs
 
 write-requires : tie.Need-write-requires
-write-requires c κs = (omega (arith, eight, c .width .ensures), (omega arith, omega (arith, eight, c .width .ensures, c .before .before .before .before .before .before .before .before .before .before .pre)))
+write-requires c κs =
+    (omega (arith, eight, c .width .ensures), (omega arith, omega (arith, eight, c .width .ensures, c .before .before .before .before .before .before .before .before .before .before .pre)))
 
 write-bytes-requires-2 : tie.Need-write-bytes-requires-2
 write-bytes-requires-2 c κs = search needs
@@ -43,8 +40,10 @@ returns c =
     let w₁ = w .before .before .before .before in
     let k = w₁ .before .before .before .before .before .before in
     let a = k .args in
-    stored-lists (a .unique-id .now) (a .certificate .now) (a .name .now) (w .width .result) (w .width .ensures) (a .out .now) (w₁ .write-bytes .last .0) (w₂ .write .last .0)
-    (w₃ .write-bytes2 .last .0) (w₄ .write-bytes3 .last .0) (k .pre .0) (omega (arith, k .pre .1)) (w₁ .write-bytes .ensures) (w₂ .write .ensures) (w₃ .write-bytes2 .ensures) (w₄ .write-bytes3 .ensures)
+    stored-lists (a .unique-id .now) (a .certificate .now) (a .name .now) (w .width .result) (w .width .ensures) (a .out .now) (w₁ .write-bytes .last .0)
+    (w₂ .write .last .0)
+    (w₃ .write-bytes2 .last .0) (w₄ .write-bytes3 .last .0) (k .pre .0) (omega (arith, k .pre .1)) (w₁ .write-bytes .ensures) (w₂ .write .ensures)
+    (w₃ .write-bytes2 .ensures) (w₄ .write-bytes3 .ensures)
 
 pub write-lists-spec : {M : Type 1} → statement M
 write-lists-spec =

@@ -17,7 +17,7 @@ use Rattle.session.specs.Session.{streamOf, parsedOf}
 use Rattle.session.specs.declared.Head.{Head}
 use Rattle.state.specs.Layout.{keyAt, keyOf, streamOfKey, sessionAt, placeAt, placesOf}
 use Rattle.state.specs.Sound.{soundState}
-use Rattle.state.proofs.Tabulate.{getD-tabulate}
+use Rattle.bits.proofs.Tabulate.{tab-at}
 use Rattle.state.proofs.Faultless.{long, place-held}
 use Rattle.receiver.proofs.Lent.{head-key, key-some, key-word, untouched}
 use Rattle.receiver.proofs.Seek.{place-of, no-place-of, key-found}
@@ -33,7 +33,7 @@ at-place m out p h e = ap (λ (x : Option ℕ). lent m out (stepSeek x (placesOf
 session-of : (m : List ℕ) → soundState m ≡ true → (i : ℕ) → i < 32 → (keyAt m i ≡ 0 → ⊥) → (v : Parsed) → sessionIn (getD (placesOf m) i empty) v ≡ sessionAt m i
 unfolding placesOf
 session-of m fine i h z v =
-    ap (λ (x : Place). sessionIn x v) (getD-tabulate (placeAt m) empty 32 0 i h ∙ ap (placeAt m) (zero-add i) ∙ place-held m fine i h z)
+    ap (λ (x : Place). sessionIn x v) (tab-at (placeAt m) empty 0 32 i h ∙ ap (placeAt m) (zero-add i) ∙ place-held m fine i h z)
 
 key-requires : tie.Need-key-requires
 key-requires c κs = search needs

@@ -1,3 +1,4 @@
+-- `part::behind` meets its contract: nothing, or all that is left.
 use lib.Seq.{take-length}
 use lib.ListN.{length, take, drop, length-drop, drop-of-length-le}
 use Prim.Native.Nat.{ℕ, _≤_}
@@ -6,8 +7,6 @@ use mathlib.Core.Path.{sym, ap, _∙_}
 use borrow.Author.Needs.{needs}
 use Rattle.shape.proofs.part.behind.Statement.{statement}
 use Rattle.shape.proofs.part.behind.Tie as tie
-use Rattle.shape.proofs.part.behind.Reads as reads
-use Rattle.shape.proofs.part.behind.Lts as lts
 
 sub-result : tie.Need-sub-result
 sub-result c = search needs

@@ -1,3 +1,4 @@
+-- `part::within` meets its contract: all that is left, or a part of it.
 use native.Mathlib.Nat.{sub-zero}
 use lib.Seq.{take-all}
 use lib.ListN.{length, take}
@@ -8,9 +9,6 @@ use mathlib.Core.List.{List}
 use borrow.Author.Needs.{needs}
 use Rattle.shape.proofs.part.within.Statement.{statement}
 use Rattle.shape.proofs.part.within.Tie as tie
-use Rattle.shape.proofs.part.within.Reads as reads
-use Rattle.shape.proofs.part.within.Lts as lts
-use Rattle.shape.proofs.part.behind.Reads as behind-reads
 
 behind-requires : tie.Need-behind-requires
 behind-requires c κs = search needs

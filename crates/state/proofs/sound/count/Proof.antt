@@ -8,10 +8,11 @@ use native.Mathlib.Numerals.{add-one}
 use native.Mathlib.Omega.{arith}
 use lib.Dec.{eqb}
 use mir.Val.{boolByte}
-use Rattle.state.specs.Layout.{tabulate, keyAt}
+use Rattle.bits.specs.Tabulate.{tabulate}
+use Rattle.state.specs.Layout.{keyAt}
 use Rattle.state.specs.Sound.{times, keysOf}
 use Rattle.state.proofs.Stored.{byte-one}
-use Rattle.state.proofs.Tabulate.{tab-step, tab-end}
+use Rattle.bits.proofs.Tabulate.{tab-step, tab-end}
 use Rattle.state.proofs.sound.count.Statement.{statement}
 use Rattle.state.proofs.sound.count.Tie as tie
 

@@ -13,7 +13,7 @@ use Rattle.bits.specs.Order.{Octets}
 use Rattle.bits.proofs.Octets.{octets-all}
 use Rattle.state.specs.Sound.{every, placeSound, soundState}
 use Rattle.state.proofs.Soundness.{whole}
-use Rattle.state.proofs.Tabulate.{length-tabulate}
+use Rattle.bits.proofs.Tabulate.{length-tabulate}
 use borrow.Author.Needs.{needs}
 use Rattle.state.proofs.sound.is_sound.Statement.{statement}
 use Rattle.state.proofs.sound.is_sound.Tie as tie

@@ -6,7 +6,7 @@ use Prim.Native.Nat.{ℕ, suc, _-_, _≤_, _<_}
 use native.Mathlib.Numerals.{add-one}
 use native.Mathlib.Omega.{arith}
 use Rattle.state.specs.Sound.{every, placeSound}
-use Rattle.state.proofs.Tabulate.{every-step}
+use Rattle.state.proofs.Every.{every-step}
 use Rattle.state.proofs.sound.places_sound.Statement.{statement}
 use Rattle.state.proofs.sound.places_sound.Tie as tie
 

@@ -9,10 +9,11 @@ use native.Mathlib.Omega.{arith}
 use borrow.Author.Tests.{lt-ltb, le-ltb}
 use lib.ListN.{getD}
 use Rattle.model.specs.Setup.{unlike, allFit}
-use Rattle.state.specs.Layout.{tabulate, subscriptionAt, setupOf}
+use Rattle.bits.specs.Tabulate.{tabulate}
+use Rattle.state.specs.Layout.{subscriptionAt, setupOf}
 use Rattle.state.specs.Subscription.{ofKey}
 use Rattle.state.proofs.Subscriptions.{fit-step}
-use Rattle.state.proofs.Tabulate.{tab-end}
+use Rattle.bits.proofs.Tabulate.{tab-end}
 use Rattle.state.proofs.subscription.all_fit.Statement.{statement}
 use Rattle.state.proofs.subscription.all_fit.Tie as tie
 

@@ -7,11 +7,12 @@ use native.Mathlib.Numerals.{add-one}
 use native.Mathlib.Omega.{arith}
 use lib.ListN.{getD}
 use Rattle.model.specs.Setup.{subscribed}
-use Rattle.state.specs.Layout.{tabulate, subscriptionAt, setupOf}
+use Rattle.bits.specs.Tabulate.{tabulate}
+use Rattle.state.specs.Layout.{subscriptionAt, setupOf}
 use Rattle.state.specs.Subscription.{asked}
 use Rattle.state.specs.declared.subscription.Subscribed.the-variants.{Under}
 use Rattle.state.proofs.Subscriptions.{found, not-this}
-use Rattle.state.proofs.Tabulate.{tab-end}
+use Rattle.bits.proofs.Tabulate.{tab-end}
 use Rattle.state.proofs.subscription.find.Statement.{statement}
 use Rattle.state.proofs.subscription.find.Tie as tie
 

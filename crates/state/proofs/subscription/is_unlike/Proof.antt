@@ -6,10 +6,11 @@ use native.Mathlib.Omega.{arith}
 use mathlib.Core.Bool.{true, false}
 use borrow.Author.Tests.{eq-eqb, ne-eqb}
 use Rattle.model.specs.Setup.{unlike}
-use Rattle.state.specs.Layout.{tabulate, subscriptionKeyAt, subscriptionAt}
+use Rattle.bits.specs.Tabulate.{tabulate}
+use Rattle.state.specs.Layout.{subscriptionKeyAt, subscriptionAt}
 use Rattle.state.specs.Subscription.{ofKey}
 use Rattle.state.proofs.Subscriptions.{unlike-step}
-use Rattle.state.proofs.Tabulate.{tab-end}
+use Rattle.bits.proofs.Tabulate.{tab-end}
 use Rattle.state.proofs.subscription.is_unlike.Statement.{statement}
 use Rattle.state.proofs.subscription.is_unlike.Tie as tie
 

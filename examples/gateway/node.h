@@ -1,0 +1,50 @@
+/* The core of the gateway, without input or output: a node that tells of every NodeStatus it receives and answers every GetNodeInfo
+ * request. What it has to say and to send it gives to its owner's two functions. */
+#ifndef NODE_H
+#define NODE_H
+
+#include <stddef.h>
+#include <stdint.h>
+
+#include "tecelume.h"
+
+/* A frame of the bus, and when it came or goes, in microseconds. */
+struct frame {
+    uint64_t time;
+    uint32_t id;
+    size_t length;
+    uint8_t data[8];
+};
+
+struct node_status {
+    uint32_t uptime; /* seconds */
+    unsigned health, mode, vendor_code;
+};
+
+struct owner {
+    void (*told)(void *self, uint32_t source, const struct node_status *status);
+    void (*sent)(void *self, const struct frame *frame);
+    void *self;
+};
+
+enum { NODE_ANSWERS = 21 };
+
+/* The whole memory of the node. */
+struct node {
+    struct owner owner;
+    uint32_t own;
+    uint64_t answers[NODE_ANSWERS]; /* how often the receiver answered each number */
+    uint64_t refused;               /* payloads that are none of the type they claim to be, and answers that could not be sent */
+    uint8_t state[TECELUME_RECEIVER_SIZE];
+    uint8_t map[TECELUME_MAP_SIZE];
+    uint8_t payload[TECELUME_OUTPUT_SIZE];
+    uint8_t records[TECELUME_FRAMES_MAX * TECELUME_RECORD_SIZE];
+};
+
+/* The number of setup: 0, or 13 if the own ID is over 127. */
+uint32_t node_set_up(struct node *n, uint32_t own, const struct owner *owner);
+
+/* Takes one frame of the bus. */
+void node_receive(struct node *n, const struct frame *f);
+
+#endif

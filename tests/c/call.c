@@ -1,0 +1,183 @@
+#include "call.h"
+
+#include <inttypes.h>
+#include <stdio.h>
+#include <stdlib.h>
+#include <string.h>
+
+/* ---- randomness ---- */
+
+static uint64_t first_seed, random_state;
+
+void random_start(uint64_t seed)
+{
+    first_seed = random_state = seed;
+}
+
+uint64_t next_random(void)
+{
+    uint64_t z = random_state += 0x9E3779B97F4A7C15;
+    z = (z ^ z >> 30) * 0xBF58476D1CE4E5B9;
+    z = (z ^ z >> 27) * 0x94D049BB133111EB;
+    return z ^ z >> 31;
+}
+
+uint32_t below(uint32_t n)
+{
+    return (uint32_t)(next_random() % n);
+}
+
+bool once_in(uint32_t n)
+{
+    return below(n) == 0;
+}
+
+void fill(uint8_t *bytes, size_t n)
+{
+    for (size_t i = 0; i < n; i++)
+        bytes[i] = (uint8_t)next_random();
+}
+
+/* ---- a call ---- */
+
+static const char *const entry_names[ENTRIES] = {"setup", "receive", "map setup", "send"};
+
+static uint64_t calls, seen[ENTRIES][256];
+
+void fail(const struct call *c, const char *what)
+{
+    printf("seed %" PRIu64 ", call %" PRIu64 ", %s with %zu, %zu and %zu bytes lent: %s\n", first_seed, calls, entry_names[c->entry],
+           c->state.length, c->input.length, c->out.length, what);
+    exit(1);
+}
+
+static uint64_t make(const struct call *c, const struct lent *state, const struct lent *input, const struct lent *out)
+{
+    switch (c->entry) {
+    case SETUP:
+        return tecelume_setup(state->bytes, state->length, c->own, input->bytes, input->length);
+    case RECEIVE:
+        return tecelume_receive(state->bytes, state->length, c->id, input->bytes, input->length, c->time, out->bytes, out->length);
+    case MAP_SETUP:
+        return tecelume_map_setup(state->bytes, state->length);
+    default:
+        return tecelume_send(state->bytes, state->length, c->own, c->transfer_type, c->type_id, c->destination, c->priority, input->bytes,
+                             input->length, c->signature, c->time, c->transfer_id, c->discriminator, out->bytes, out->length);
+    }
+}
+
+/* Makes the call on buffers placed at random, and gives its word; the buffers of `after` get what it left. */
+static uint64_t make_placed(const struct call *c, struct call *after)
+{
+    static uint8_t input_after[LENT_MAX];
+    uint64_t choice = next_random();
+    struct lent state = lend((enum placement)(choice % PLACEMENTS), c->state.bytes, c->state.length, choice >> 8 & 255);
+    struct lent input = lend((enum placement)(choice / PLACEMENTS % PLACEMENTS), c->input.bytes, c->input.length, choice >> 16 & 255);
+    struct lent out = lend((enum placement)(choice / (PLACEMENTS * PLACEMENTS) % PLACEMENTS), c->out.bytes, c->out.length,
+                           choice >> 24 & 255);
+    uint64_t word = make(c, &state, &input, &out);
+    if (!guards_stay(&state) || !guards_stay(&input) || !guards_stay(&out))
+        fail(c, "bytes beside a lent buffer were written");
+    take_back(&state, after->state.bytes);
+    take_back(&input, input_after);
+    take_back(&out, after->out.bytes);
+    if (memcmp(input_after, c->input.bytes, c->input.length) != 0)
+        fail(c, "a const input was written");
+    return word;
+}
+
+/* ---- the contract ---- */
+
+static bool stays(const struct buffer *before, const struct buffer *after, size_t from)
+{
+    return from >= before->length || memcmp(before->bytes + from, after->bytes + from, before->length - from) == 0;
+}
+
+size_t frames_of(size_t payload)
+{
+    return payload > 7 ? (payload + 8) / 7 : 1;
+}
+
+/* How much of the output a call with this word may write. */
+static size_t written(const struct call *c, uint64_t word)
+{
+    if (c->entry == RECEIVE && tecelume_number(word) == TECELUME_HANDED_OUT)
+        return tecelume_length(word);
+    if (c->entry == SEND && tecelume_number(word) == TECELUME_SUCCESS)
+        return tecelume_frames(word) * TECELUME_RECORD_SIZE;
+    return 0;
+}
+
+static bool may_change_state(enum entry entry, uint32_t number)
+{
+    return entry == RECEIVE ? number <= TECELUME_HANDED_OUT || (number >= TECELUME_PASSED_OVER && number <= TECELUME_CHECKSUM_DIFFERS)
+                            : number == TECELUME_SUCCESS;
+}
+
+/* Which numbers an entry answers, as bits. */
+static const uint32_t answers[ENTRIES] = {
+    1u << 0 | 1u << 13 | 1u << 20,
+    0x1FFFu | 1u << 20,
+    1u << 0 | 1u << 20,
+    1u << 0 | 1u << 8 | 1u << 9 | 1u << 11 | 1u << 14 | 1u << 20,
+};
+
+static void judge(const struct call *c, const struct call *after, uint64_t word)
+{
+    uint32_t number = tecelume_number(word);
+    bool detailed = (c->entry == RECEIVE && number == TECELUME_HANDED_OUT) || (c->entry == SEND && number == TECELUME_SUCCESS);
+    size_t size = c->entry == SETUP || c->entry == RECEIVE ? TECELUME_RECEIVER_SIZE : TECELUME_MAP_SIZE;
+    if (number > 31 || (answers[c->entry] >> number & 1) == 0)
+        fail(c, "a number that this call does not answer");
+    if (!detailed && word != number)
+        fail(c, "other bits of the word are not 0");
+    if (c->state.length < size && number != TECELUME_STATE_FAULT)
+        fail(c, "a state that is too short was accepted");
+    if (written(c, word) > c->out.length)
+        fail(c, "more was written than was lent");
+    if (c->entry == RECEIVE && detailed &&
+        (c->out.length < TECELUME_OUTPUT_SIZE || tecelume_length(word) > TECELUME_PAYLOAD_MAX || word >> 60 != 0))
+        fail(c, "a transfer that cannot be");
+    if (c->entry == SEND && detailed && word != (uint64_t)frames_of(c->input.length) << 8)
+        fail(c, "a number of frames that cannot be");
+    if (!stays(&c->state, &after->state, may_change_state(c->entry, number) ? size : 0))
+        fail(c, "bytes of the state that must stay were written");
+    if (!stays(&c->out, &after->out, written(c, word)))
+        fail(c, "bytes of the output that must stay were written");
+    seen[c->entry][number]++;
+}
+
+uint64_t run(struct call *c)
+{
+    static struct call once, again;
+    calls++;
+    uint64_t word = make_placed(c, &once);
+    if (make_placed(c, &again) != word || memcmp(once.state.bytes, again.state.bytes, c->state.length) != 0 ||
+        memcmp(once.out.bytes, again.out.bytes, c->out.length) != 0)
+        fail(c, "the same call twice differs");
+    judge(c, &once, word);
+    memcpy(c->state.bytes, once.state.bytes, c->state.length);
+    memcpy(c->out.bytes, once.out.bytes, c->out.length);
+    return word;
+}
+
+uint64_t calls_made(void)
+{
+    return calls;
+}
+
+bool show_answers(void)
+{
+    bool all = true;
+    for (int e = 0; e < ENTRIES; e++) {
+        printf("%-10s", entry_names[e]);
+        for (int n = 0; n < 32; n++) {
+            if (answers[e] >> n & 1) {
+                printf(" %d: %" PRIu64, n, seen[e][n]);
+                all &= seen[e][n] > 0;
+            }
+        }
+        printf("\n");
+    }
+    return all;
+}

@@ -1,0 +1,472 @@
+/* Random calls of every C entry, on buffers that show it when a call leaves them (lent.h).
+ *
+ *     fuzz [SEED [CALLS]]      the same seed gives the same calls
+ *     fuzz --selftest guard|heap|page|read
+ *
+ * Each call is made twice, on equal buffers placed differently, and must give the same word and the same bytes: so nothing but the
+ * arguments counts. Then what include/tecelume.h promises is checked (call.c): const inputs stay, a refusal leaves every buffer as it
+ * was and all other bits of the word 0, success writes only where it may. A payload sent comes out as it went in. What the answers
+ * must be otherwise is the business of the comparison with the second implementation.
+ *
+ * --selftest makes one call that says one byte too many of a buffer. Something must notice, or the runs without it show nothing. */
+#include <inttypes.h>
+#include <signal.h>
+#include <stdio.h>
+#include <stdlib.h>
+#include <string.h>
+#include <unistd.h>
+
+#include "call.h"
+
+enum { CALLS = 400000, SHORT = 100000 }; /* fewer calls than that need not show every answer, and sweep fewer lengths */
+enum { STATE_EXTRA = 40, INPUT_MAX = 1000, OUT_MAX = 1100, FRAME_LENGTH_MAX = 20, PAYLOAD_MAX = 600, SUBSCRIPTIONS = 8 };
+
+static uint64_t seed = 1;
+static uint64_t through; /* transfers sent, received and compared */
+
+/* ---- arguments ---- */
+
+/* Mostly a number up to the limit, else one near it or any. */
+static uint32_t number_to(uint32_t limit)
+{
+    uint32_t which = below(40);
+    return which > 1 ? below(limit + 1) : which == 1 ? limit + 1 + below(3) : (uint32_t)next_random();
+}
+
+/* Few types, so that traffic meets subscriptions. */
+static uint32_t a_type(void)
+{
+    return once_in(10) ? number_to(65535) : below(SUBSCRIPTIONS);
+}
+
+static uint64_t signature_of(uint32_t kind, uint32_t type_id)
+{
+    return (uint64_t)(kind * 7919 + type_id + 1) * 0x9E3779B97F4A7C15;
+}
+
+/* For setup: now and then short, or longer than it must be. */
+static size_t state_length(size_t size)
+{
+    return once_in(8) ? below((uint32_t)size) : once_in(8) ? size + below(STATE_EXTRA) : size;
+}
+
+/* Damages the numbers in front of a receiver's gathered bytes, or anything; of other buffers anything. */
+static void damage(struct buffer *b)
+{
+    uint32_t front = once_in(4) ? (uint32_t)b->length : 1288;
+    for (uint32_t n = 1 + below(4); n > 0 && b->length > 0; n--)
+        b->bytes[below(front) % b->length] = (uint8_t)(once_in(2) ? next_random() : below(40));
+}
+
+/* ---- the players: one receiver, one sender that stands for all nodes, and the frames on their way ---- */
+
+static struct call receiver, sender;
+static uint64_t now;
+
+struct frame {
+    uint32_t id;
+    size_t length;
+    uint8_t data[8];
+};
+
+enum { LANES = 12, LANE_MAX = 120, LANE_SOURCES = 2 };
+
+/* The frames of a transfer on their way. No two lanes share a source, and wild frames have others still, so each stream is one lane's. */
+static struct lane {
+    struct frame frames[LANE_MAX];
+    size_t count, next;
+    bool whole; /* correctly sent for this receiver, and all so far were taken */
+    uint8_t payload[PAYLOAD_MAX];
+    size_t length;
+} lanes[LANES];
+
+static uint32_t a_source(const struct lane *lane)
+{
+    return (uint32_t)(1 + (lane - lanes) + LANES * below(LANE_SOURCES));
+}
+
+static void none_whole(void)
+{
+    for (int i = 0; i < LANES; i++)
+        lanes[i].whole = false;
+}
+
+static bool all_subscribed; /* as the lanes' transfers are signed */
+
+static void set_up_receiver(void)
+{
+    uint8_t *next = receiver.input.bytes;
+    receiver.entry = SETUP;
+    receiver.own = number_to(127);
+    for (uint32_t i = 0; i < SUBSCRIPTIONS; i++)
+        for (uint32_t kind = 0; kind < 2; kind++)
+            next = tecelume_subscription(next, kind, i, signature_of(kind, i));
+    receiver.input.length = (size_t)(next - receiver.input.bytes);
+    all_subscribed = !once_in(4);
+    if (!all_subscribed) {
+        receiver.input.length = once_in(2) ? below(INPUT_MAX) : TECELUME_SUBSCRIPTION_SIZE * below(70);
+        damage(&receiver.input);
+    }
+    receiver.state.length = state_length(TECELUME_RECEIVER_SIZE);
+    fill(receiver.state.bytes, receiver.state.length);
+    none_whole();
+    if (run(&receiver) != TECELUME_SUCCESS)
+        receiver.state.length = 0; /* set up again at the next step */
+}
+
+static void set_up_map(void)
+{
+    sender.entry = MAP_SETUP;
+    sender.state.length = state_length(TECELUME_MAP_SIZE);
+    fill(sender.state.bytes, sender.state.length);
+    run(&sender);
+}
+
+/* Until both are set up, as other calls of it are refused. */
+static void set_up_well(void)
+{
+    do
+        set_up_receiver();
+    while (!all_subscribed || receiver.state.length < TECELUME_RECEIVER_SIZE);
+    do
+        set_up_map();
+    while (sender.state.length < TECELUME_MAP_SIZE);
+}
+
+static size_t payload_length(void)
+{
+    switch (below(4)) {
+    case 0: return below(9);
+    case 1: return below(100);
+    case 2: return 505 + below(10);
+    default: return below(PAYLOAD_MAX + 1);
+    }
+}
+
+static void choose_transfer(const struct lane *lane)
+{
+    sender.entry = SEND;
+    sender.own = once_in(8) ? 0 : once_in(40) ? 128 + below(300) : a_source(lane);
+    sender.transfer_type = number_to(2);
+    sender.type_id = a_type() % (sender.own == 0 ? 5 : 70000);
+    sender.destination = sender.transfer_type == 0 ? (once_in(20) ? below(300) : 0) : once_in(4) ? number_to(127) : receiver.own;
+    sender.priority = number_to(31);
+    sender.transfer_id = number_to(31);
+    sender.discriminator = number_to(16383);
+    sender.signature = signature_of(sender.transfer_type > 0, sender.type_id);
+    sender.time = now;
+    sender.input.length = sender.own == 0 ? below(9) : payload_length();
+    fill(sender.input.bytes, sender.input.length);
+    size_t needed = TECELUME_RECORD_SIZE * frames_of(sender.input.length);
+    sender.out.length = once_in(10) ? below((uint32_t)needed) : needed + (once_in(2) ? below(30) : 0);
+    fill(sender.out.bytes, sender.out.length);
+}
+
+static void put_on_lane(struct lane *lane, size_t count)
+{
+    lane->count = count;
+    lane->next = 0;
+    lane->whole = all_subscribed;
+    lane->length = sender.input.length;
+    memcpy(lane->payload, sender.input.bytes, lane->length);
+    for (size_t i = 0; i < count; i++) {
+        const uint8_t *record = sender.out.bytes + i * TECELUME_RECORD_SIZE;
+        struct frame *f = &lane->frames[i];
+        f->id = tecelume_record_id(record);
+        f->length = tecelume_record_length(record);
+        memcpy(f->data, tecelume_record_data(record), sizeof f->data);
+    }
+}
+
+/* Sends on an empty lane, now and then with a map that was damaged. */
+static void send_transfer(struct lane *lane)
+{
+    static struct buffer good;
+    choose_transfer(lane);
+    bool at_fault = once_in(10);
+    if (at_fault) {
+        good = sender.state;
+        damage(&sender.state);
+        if (once_in(4))
+            sender.state.length = below(TECELUME_MAP_SIZE);
+    }
+    uint64_t word = run(&sender);
+    if (tecelume_number(word) == TECELUME_SUCCESS)
+        put_on_lane(lane, tecelume_frames(word));
+    if (at_fault)
+        sender.state = good;
+}
+
+/* A transfer that no sender makes: too long, or with a wrong checksum. */
+static void forge_transfer(struct lane *lane)
+{
+    uint32_t id = below(32) << 24 | below(SUBSCRIPTIONS) << 8 | a_source(lane);
+    uint8_t transfer_id = (uint8_t)below(32);
+    lane->count = 2 + below(LANE_MAX - 2);
+    lane->next = 0;
+    lane->whole = false;
+    for (size_t i = 0; i < lane->count; i++) {
+        struct frame *f = &lane->frames[i];
+        f->id = id;
+        f->length = 8;
+        fill(f->data, 7);
+        f->data[7] = (uint8_t)((i == 0 ? 128 : 0) | (i + 1 == lane->count ? 64 : 0) | (i & 1) << 5 | transfer_id);
+    }
+}
+
+/* Any ID, but of a source that no lane has. */
+static void wild_frame(struct frame *f)
+{
+    uint32_t source = once_in(3) ? 0 : 127 - below(127 - LANES * LANE_SOURCES);
+    f->id = ((uint32_t)next_random() & (once_in(8) ? UINT32_MAX : 0x1FFFFFFF) & ~127u) | source;
+    f->length = once_in(3) ? below(sizeof f->data + 1) : sizeof f->data;
+    fill(f->data, sizeof f->data);
+}
+
+/* On every other lane frames are lost, repeated and damaged. The source stays, so that it hurts this lane only. */
+static struct frame disturb(struct lane *lane)
+{
+    struct frame f = lane->frames[lane->next++];
+    if ((lane - lanes) % 2 == 0 || !once_in(12))
+        return f;
+    lane->whole = false;
+    switch (below(5)) {
+    case 0: lane->next++; break;
+    case 1: lane->next--; break;
+    case 2: f.data[below(8)] ^= (uint8_t)(1 << below(8)); break;
+    case 3: f.id ^= 1u << (7 + below(25)); break;
+    default: wild_frame(&f);
+    }
+    return f;
+}
+
+static void lend_frame(const struct frame *f)
+{
+    receiver.entry = RECEIVE;
+    receiver.id = f->id;
+    receiver.time = once_in(300) ? next_random() : now;
+    receiver.input.length = f->length;
+    memcpy(receiver.input.bytes, f->data, f->length);
+    receiver.out.length = once_in(30) ? below(OUT_MAX) : TECELUME_OUTPUT_SIZE;
+    fill(receiver.out.bytes, receiver.out.length);
+}
+
+/* Receives the frame in a state that was damaged. Mostly the good one is back after it. */
+static void receive_damaged(void)
+{
+    static struct buffer good;
+    good = receiver.state;
+    damage(&receiver.state);
+    if (once_in(4))
+        receiver.state.length = below(TECELUME_RECEIVER_SIZE);
+    uint64_t word = run(&receiver);
+    if (tecelume_number(word) == TECELUME_STATE_FAULT || !once_in(100)) {
+        receiver.state = good;
+        return;
+    }
+    all_subscribed = false;
+    none_whole();
+}
+
+/* The last frame of a transfer of which all others were taken: it may be refused or come too late, else it hands out what was sent. */
+static void judge_last(const struct lane *lane, uint64_t word)
+{
+    uint32_t number = tecelume_number(word);
+    if (number == TECELUME_TAKEN || number == TECELUME_PAYLOAD_TOO_LONG || number == TECELUME_CHECKSUM_DIFFERS)
+        fail(&receiver, "a transfer sent correctly did not come through");
+    if (number == TECELUME_HANDED_OUT &&
+        (tecelume_length(word) != lane->length || memcmp(receiver.out.bytes, lane->payload, lane->length) != 0))
+        fail(&receiver, "the payload handed out is not the one sent");
+    through += number == TECELUME_HANDED_OUT;
+}
+
+static void receive_frame(struct lane *lane)
+{
+    struct frame f = disturb(lane);
+    lend_frame(&f);
+    if (once_in(20))
+        receive_damaged();
+    uint64_t word = run(&receiver);
+    if (word == TECELUME_OUTPUT_TOO_SMALL) { /* the same frame may be given again */
+        receiver.out.length = TECELUME_OUTPUT_SIZE;
+        word = run(&receiver);
+    }
+    if (lane->whole && lane->next == lane->count)
+        judge_last(lane, word);
+    lane->whole &= word == TECELUME_TAKEN;
+}
+
+/* A frame with more or fewer bytes than a frame has, or of no lane. */
+static void receive_wild(void)
+{
+    struct frame f;
+    wild_frame(&f);
+    lend_frame(&f);
+    if (once_in(2)) {
+        receiver.input.length = below(FRAME_LENGTH_MAX);
+        fill(receiver.input.bytes, receiver.input.length);
+    }
+    run(&receiver);
+}
+
+/* Many transfers at once, whose frames go nowhere: the map fills up. */
+static void crowd_map(void)
+{
+    for (int i = 0; i < 40; i++) {
+        choose_transfer(lanes);
+        sender.type_id = below(sender.transfer_type == 0 ? 65536 : 256);
+        run(&sender);
+    }
+}
+
+static void one_step(void)
+{
+    now += once_in(500) ? below(3000000) : below(2000);
+    if (once_in(2000) || receiver.state.length < TECELUME_RECEIVER_SIZE)
+        set_up_receiver();
+    if (once_in(300) || sender.state.length < TECELUME_MAP_SIZE)
+        set_up_map();
+    if (once_in(1000))
+        crowd_map();
+    struct lane *lane = &lanes[below(LANES)];
+    if (once_in(20))
+        receive_wild();
+    else if (lane->next < lane->count)
+        receive_frame(lane);
+    else if (once_in(6))
+        forge_transfer(lane);
+    else
+        send_transfer(lane);
+}
+
+/* ---- every length ---- */
+
+/* Makes the call with 0, 1, 2 ... bytes in one of its buffers, each time from the same content. */
+static void sweep(struct call *c, size_t *length, size_t to)
+{
+    static struct call kept;
+    kept = *c;
+    for (size_t n = 0; n <= to; n++) {
+        *length = n;
+        run(c);
+        *c = kept;
+    }
+}
+
+static void sweep_reception(size_t state_steps)
+{
+    static const struct frame single = {0x10000005, 8, {1, 2, 3, 4, 5, 6, 7, 0xC0}};
+    set_up_well();
+    sweep(&receiver, &receiver.input.length, INPUT_MAX);
+    lend_frame(&single);
+    receiver.out.length = TECELUME_OUTPUT_SIZE;
+    sweep(&receiver, &receiver.input.length, FRAME_LENGTH_MAX);
+    sweep(&receiver, &receiver.out.length, OUT_MAX);
+    sweep(&receiver, &receiver.state.length, state_steps);
+}
+
+static void sweep_sending(void)
+{
+    sweep(&sender, &sender.state.length, TECELUME_MAP_SIZE + STATE_EXTRA);
+    choose_transfer(lanes);
+    sender.own = 1;
+    sender.transfer_type = TECELUME_MESSAGE;
+    sender.type_id = sender.destination = sender.priority = 0;
+    sender.input.length = TECELUME_PAYLOAD_MAX;
+    sweep(&sender, &sender.out.length, OUT_MAX);
+    sender.out.length = OUT_MAX;
+    sweep(&sender, &sender.input.length, PAYLOAD_MAX);
+    sweep(&sender, &sender.state.length, TECELUME_MAP_SIZE + STATE_EXTRA);
+}
+
+/* ---- memory that nobody wrote before: valgrind sees it if a call decides on such a byte ---- */
+
+static bool goes_through(uint8_t *map, uint8_t *state, uint8_t *records, uint8_t *out)
+{
+    static const uint8_t payload[] = "a payload of several frames";
+    uint8_t list[TECELUME_SUBSCRIPTION_SIZE];
+    uint64_t word = 0;
+    tecelume_subscription(list, TECELUME_KIND_MESSAGE, 1, signature_of(0, 1));
+    if (tecelume_map_setup(map, TECELUME_MAP_SIZE) != 0 || tecelume_setup(state, TECELUME_RECEIVER_SIZE, 1, list, sizeof list) != 0)
+        return false;
+    uint64_t sent = tecelume_send(map, TECELUME_MAP_SIZE, 2, TECELUME_MESSAGE, 1, 0, 0, payload, sizeof payload, signature_of(0, 1), 0, 0,
+                                  0, records, TECELUME_FRAMES_MAX * TECELUME_RECORD_SIZE);
+    for (size_t i = 0; i < tecelume_frames(sent); i++) {
+        const uint8_t *record = records + i * TECELUME_RECORD_SIZE;
+        word = tecelume_receive(state, TECELUME_RECEIVER_SIZE, tecelume_record_id(record), tecelume_record_data(record),
+                                tecelume_record_length(record), 0, out, TECELUME_OUTPUT_SIZE);
+    }
+    return tecelume_length(word) == sizeof payload && memcmp(out, payload, sizeof payload) == 0;
+}
+
+static void use_fresh_memory(void)
+{
+    uint8_t *map = (uint8_t *)malloc(TECELUME_MAP_SIZE), *state = (uint8_t *)malloc(TECELUME_RECEIVER_SIZE);
+    uint8_t *records = (uint8_t *)malloc(TECELUME_FRAMES_MAX * TECELUME_RECORD_SIZE), *out = (uint8_t *)malloc(TECELUME_OUTPUT_SIZE);
+    if (map == NULL || state == NULL || records == NULL || out == NULL || !goes_through(map, state, records, out))
+        fail(&receiver, "on fresh memory nothing goes through");
+    free(map);
+    free(state);
+    free(records);
+    free(out);
+}
+
+/* ---- a lie, and all the rest ---- */
+
+/* A fault in the midst of a call. Nothing is left to save, so that what a handler may not do does no harm. */
+static void on_fault(int signal_number)
+{
+    (void)signal_number;
+    printf("seed %" PRIu64 ", call %" PRIu64 ": memory was touched that no one may touch\n", seed, calls_made());
+    fflush(stdout);
+    _exit(1);
+}
+
+/* Says that a frame has a byte more than the heap block that holds it: the call reads that byte as the tail. */
+static int lie_reading(void)
+{
+    static const uint8_t data[] = {1, 2, 3};
+    set_up_well();
+    struct lent frame = lend(ON_HEAP, data, sizeof data, 1);
+    tecelume_receive(receiver.state.bytes, TECELUME_RECEIVER_SIZE, 0x10000005, frame.bytes, sizeof data + 1, 0, receiver.out.bytes,
+                     TECELUME_OUTPUT_SIZE);
+    return 0;
+}
+
+/* Says that a map is as long as it must be, though a byte is missing: setup writes that byte. 1 if the guards show it. */
+static int lie(const char *name)
+{
+    static const uint8_t zeros[TECELUME_MAP_SIZE];
+    if (strcmp(name, "read") == 0)
+        return lie_reading();
+    enum placement placement = strcmp(name, "guard") == 0 ? BETWEEN : strcmp(name, "heap") == 0 ? ON_HEAP : AT_PAGE;
+    struct lent map = lend(placement, zeros, sizeof zeros - 1, 1);
+    tecelume_map_setup(map.bytes, TECELUME_MAP_SIZE);
+    if (guards_stay(&map))
+        return 0;
+    printf("bytes beside a lent buffer were written\n");
+    return 1;
+}
+
+int main(int count, char **words)
+{
+    signal(SIGSEGV, on_fault);
+    if (count == 3 && strcmp(words[1], "--selftest") == 0)
+        return lie(words[2]);
+    if (count > 1)
+        seed = strtoull(words[1], NULL, 10);
+    uint64_t most = count > 2 ? strtoull(words[2], NULL, 10) : CALLS;
+    random_start(seed);
+    if (tecelume_receiver_size() != TECELUME_RECEIVER_SIZE || tecelume_map_size() != TECELUME_MAP_SIZE)
+        fail(&receiver, "header and archive do not go together");
+    use_fresh_memory();
+    sweep_reception(most < SHORT ? 100 : TECELUME_RECEIVER_SIZE + STATE_EXTRA);
+    sweep_sending();
+    for (uint64_t swept = calls_made(); calls_made() - swept < most;)
+        one_step();
+    printf("seed %" PRIu64 ": %" PRIu64 " calls, each made twice; %" PRIu64 " transfers went through\n", seed, calls_made(), through);
+    if (show_answers() || most < SHORT)
+        return 0;
+    printf("an answer was never seen\n");
+    return 1;
+}
