@@ -116,7 +116,7 @@ fn numbers_in(kind: Kind, payload: &[u8]) -> Numbers {
     }
 }
 
-// The j-th list of a payload that was read.
+// The j-th list of a payload that was read; a type without lists is not asked for one.
 fn list_in(kind: Kind, payload: &[u8], j: usize) -> &[u8] {
     match kind {
         Kind::Allocation => allocation::unique_id(payload),

@@ -160,7 +160,9 @@ fn parts(side: &EntryPoints, options: &Options, seed: u64) -> Result<Vec<Tally>,
 /// Runs the codec program on its lines.
 fn lines(path: &str, options: &Options) -> Result<Vec<Tally>, Difference> {
     let mut requests = Requests::new(Answerer::Program(path.to_string()), options.seed);
-    requests.run(options.lines)?;
+    let with_seed =
+        |difference: Difference| Difference(format!("--seed {}: {}", options.seed, difference.0));
+    requests.run(options.lines).map_err(with_seed)?;
     Ok(requests.into_tallies())
 }
 

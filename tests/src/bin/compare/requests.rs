@@ -103,7 +103,7 @@ impl Requests {
             .map(|request| by_reference(&request.line))
             .collect();
         let lines: Vec<&[u8]> = block.iter().map(|request| &request.line[..]).collect();
-        // every other block ends without a line feed
+        // about every other block ends without a line feed
         let actual = self.answerer.answers(&lines, self.random.coin())?;
         for (at, request) in block.iter().enumerate() {
             let got = actual.get(at).map_or("nothing", |got| got);
