@@ -40,8 +40,19 @@ const LEVELS: [&str; 8] = [
     "level 0", "level 1", "level 2", "level 3", "level 4", "level 5", "level 6", "level 7",
 ];
 const NAN: &str = "signalling NaN";
-const EMPTY: &str = "empty list";
 const ANY_SUB_MODE: &str = "sub-mode outside of 64 bits";
+/// Lists by name, and the case that one is empty.
+const EMPTY: [(&str, &str); 6] = [
+    ("unique_id", "empty unique ID of an Allocation"),
+    ("key", "empty key"),
+    ("source", "empty source"),
+    ("text", "empty text"),
+    (
+        "hardware_version.certificate_of_authenticity",
+        "empty certificate",
+    ),
+    ("name", "empty name"),
+];
 /// Numbers that no field but the sub-mode takes.
 const OUTSIDE: [&str; 5] = [
     "-1",
@@ -62,16 +73,14 @@ impl Requests {
                 Tally::new(written, writing, &[]),
             )
         });
+        let empty = EMPTY.map(|(_, case)| case);
+        let cases = [&MODES[..], &LEVELS, &empty, &[NAN, ANY_SUB_MODE]].concat();
         Requests {
             answerer,
             random: Random::new(seed),
             tallies: tallies.collect(),
             ill_formed: Tally::new("lines not of the form", &[], &["?"]),
-            cases: Tally::new(
-                "cases of lines",
-                &[],
-                &[&MODES[..], &LEVELS, &[NAN, EMPTY, ANY_SUB_MODE]].concat(),
-            ),
+            cases: Tally::new("cases of lines", &[], &cases),
         }
     }
 
@@ -238,7 +247,10 @@ impl Requests {
                 {
                     self.cases.case(NAN);
                 }
-                Value::List(bytes) if bytes.is_empty() => self.cases.case(EMPTY),
+                Value::List(bytes) if bytes.is_empty() => {
+                    let list = EMPTY.iter().find(|(list, _)| *list == name);
+                    list.iter().for_each(|(_, case)| self.cases.case(case));
+                }
                 _ => (),
             }
         }
