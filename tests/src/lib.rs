@@ -2,6 +2,7 @@
 //! alone (01, 002, 003, 004), to be compared with the proved one.
 
 pub mod bits;
+pub mod codec;
 pub mod crc;
 pub mod definitions;
 pub mod entry;

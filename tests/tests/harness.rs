@@ -5,7 +5,8 @@ use std::process::Command;
 /// The exit status of a short run.
 fn status(options: &[&str]) -> Option<i32> {
     let short =
-        "--rounds 1 --frames 100000 --setups 3000 --sends 100000 --messages 20000 --minimum 1";
+        "--rounds 1 --frames 100000 --setups 3000 --sends 100000 --messages 20000 --lines 20000 \
+        --minimum 1";
     Command::new(env!("CARGO_BIN_EXE_compare"))
         .args(short.split(' '))
         .args(options)
@@ -33,6 +34,11 @@ fn difference_fails() {
         Some(1)
     );
     assert_eq!(status(&["--mutant", "first-letter-is-length"]), Some(1));
+}
+
+#[test]
+fn other_program_fails() {
+    assert_eq!(status(&["--codec", "/bin/cat"]), Some(1));
 }
 
 #[test]

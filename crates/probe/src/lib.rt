@@ -1,4 +1,7 @@
-// Internal functions under C names, for the benchmarks in bench/ alone. Not part of the product.
+// Internal functions and messages under C names, for the benchmarks in bench/ alone. Not part of the product.
+mod info;
+mod status;
+
 ghost use mathlib.Core.Path.{_≡_};
 ghost use Rattle.checksum.specs.Crc.{crcOver};
 ghost use Rattle.checksum.specs.Crc16.{ccitt};

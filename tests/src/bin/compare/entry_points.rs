@@ -1,11 +1,11 @@
 //! The entry points under comparison as tables of functions, and the reference's own tables.
 
 use crate::lent::Lent;
-use reference::bits::Refusal;
+use reference::codec::{Decode, Encode};
 use reference::definitions;
 use reference::entry;
 use reference::map;
-use reference::messages::{self, Message, MessageType};
+use reference::messages;
 use reference::receive::Frame;
 use reference::send::Outgoing;
 use reference::state;
@@ -16,8 +16,6 @@ pub type Receive = fn(&mut Arrival) -> u64;
 pub type Send = fn(&mut Departure) -> u64;
 /// Kind, type ID.
 pub type Signature = fn(u32, u32) -> u64;
-pub type Decode = for<'a> fn(MessageType, &'a [u8]) -> Result<Message<'a>, Refusal>;
-type Encode = fn(&Message, &mut [u8]) -> Result<usize, Refusal>;
 
 #[derive(Clone, Copy)]
 pub struct Reception {

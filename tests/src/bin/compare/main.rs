@@ -1,7 +1,7 @@
 //! Compares the archive's entry points with the reference, call by call, on random input.
 //!
-//! Without `--self`, `--mutant` or `--mutants` the other side is the archive, which the feature
-//! `link` links.
+//! Without `--self`, `--mutant`, `--mutants` or `--codec` the other side is the archive, which the
+//! feature `link` links.
 
 mod entry_points;
 mod faults;
@@ -15,6 +15,7 @@ mod outgoing;
 mod payloads;
 mod random;
 mod receptions;
+mod requests;
 mod sends;
 mod setups;
 mod signatures;
@@ -28,6 +29,7 @@ use mutants::{Mutant, Part};
 use options::{Options, Side};
 use payloads::Payloads;
 use receptions::Receptions;
+use requests::{Answerer, Requests};
 use sends::Sends;
 use setups::Setups;
 use signatures::Signatures;
@@ -46,15 +48,16 @@ fn main() -> ExitCode {
     };
     let passed = match &options.side {
         Side::Archive => match archive() {
-            Some(side) => compare(&side, &options),
+            Some(side) => verdict(rounds(&side, &options), &options),
             None => {
                 eprintln!("no archive: build with the feature `link`, or give --self or --mutants");
                 return ExitCode::from(2);
             }
         },
-        Side::Reference => compare(&REFERENCE, &options),
-        Side::Mutant(mutant) => compare(&mutant.side, &options),
+        Side::Reference => verdict(rounds(&REFERENCE, &options), &options),
+        Side::Mutant(mutant) => verdict(rounds(&mutant.side, &options), &options),
         Side::Mutants => all_caught(&options),
+        Side::Codec(path) => verdict(lines(path, &options), &options),
     };
     if passed {
         ExitCode::SUCCESS
@@ -73,9 +76,9 @@ fn archive() -> Option<EntryPoints> {
     None
 }
 
-/// Runs every round; true if nothing differed and everything was seen often enough.
-fn compare(side: &EntryPoints, options: &Options) -> bool {
-    match rounds(side, options) {
+/// True if nothing differed and everything was seen often enough.
+fn verdict(result: Result<Vec<Tally>, Difference>, options: &Options) -> bool {
+    match result {
         Ok(tallies) => seen_enough(&tallies, options.minimum),
         Err(difference) => {
             println!("{}", difference.0);
@@ -154,6 +157,15 @@ fn parts(side: &EntryPoints, options: &Options, seed: u64) -> Result<Vec<Tally>,
     Ok(tallies)
 }
 
+/// Runs the codec program on its lines.
+fn lines(path: &str, options: &Options) -> Result<Vec<Tally>, Difference> {
+    let mut requests = Requests::new(Answerer::Program(path.to_string()), options.seed);
+    let with_seed =
+        |difference: Difference| Difference(format!("--seed {}: {}", options.seed, difference.0));
+    requests.run(options.lines).map_err(with_seed)?;
+    Ok(requests.into_tallies())
+}
+
 fn seen_enough(tallies: &[Tally], minimum: u64) -> bool {
     for tally in tallies {
         tally.print();
@@ -192,6 +204,10 @@ fn is_caught(mutant: &Mutant, options: &Options) -> bool {
         Part::Sends => Sends::new(side.sending, options.seed).run(options.sends),
         Part::Payloads => match side.serialization {
             Some(serialization) => Payloads::new(serialization, options.seed).run(options.messages),
+            None => Ok(()),
+        },
+        Part::Requests => match side.serialization {
+            Some(calls) => Requests::new(Answerer::Calls(calls), options.seed).run(options.lines),
             None => Ok(()),
         },
     };

@@ -6,6 +6,7 @@ use crate::entry_points::{
     Serialization, REFERENCE,
 };
 use reference::bits::Refusal;
+use reference::codec::Decode;
 use reference::frame::{Stream, Tail};
 use reference::map::Map;
 use reference::messages::{self, Message, MessageType};
@@ -19,6 +20,7 @@ pub enum Part {
     Receptions,
     Sends,
     Payloads,
+    Requests,
 }
 
 pub struct Mutant {
@@ -44,17 +46,16 @@ pub fn all() -> Vec<Mutant> {
             checksum_sent_high_byte_first,
         ),
         sending("entry-kept-at-two-seconds", entry_kept_at_two_seconds),
-        Mutant {
-            name: "first-letter-is-length",
-            part: Part::Payloads,
-            side: EntryPoints {
-                serialization: Some(Serialization {
-                    decode: first_letter_is_length,
-                    encode: messages::encode,
-                }),
-                ..REFERENCE
-            },
-        },
+        reading(
+            "first-letter-is-length",
+            Part::Payloads,
+            first_letter_is_length,
+        ),
+        reading(
+            "codec-first-letter-is-length",
+            Part::Requests,
+            first_letter_is_length,
+        ),
     ]
 }
 
@@ -83,6 +84,21 @@ fn sending(name: &'static str, send: Send) -> Mutant {
         part: Part::Sends,
         side: EntryPoints {
             sending,
+            ..REFERENCE
+        },
+    }
+}
+
+fn reading(name: &'static str, part: Part, decode: Decode) -> Mutant {
+    let serialization = Some(Serialization {
+        decode,
+        encode: messages::encode,
+    });
+    Mutant {
+        name,
+        part,
+        side: EntryPoints {
+            serialization,
             ..REFERENCE
         },
     }

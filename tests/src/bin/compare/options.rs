@@ -7,6 +7,8 @@ pub enum Side {
     Reference,
     Mutant(Box<Mutant>),
     Mutants,
+    /// The codec program, by its path.
+    Codec(String),
 }
 
 pub struct Options {
@@ -21,12 +23,16 @@ pub struct Options {
     pub frames: u64,
     pub sends: u64,
     pub messages: u64,
+    /// How many lines the codec program gets.
+    pub lines: u64,
     /// How often every answer and case must be seen.
     pub minimum: u64,
 }
 
-const USAGE: &str = "usage: compare [--self | --mutants | --mutant NAME] [--seed N] \
-    [--rounds N | --seconds N] [--setups N] [--frames N] [--sends N] [--messages N] [--minimum N]";
+const USAGE: &str =
+    "usage: compare [--self | --mutants | --mutant NAME | --codec PATH] [--seed N] \
+    [--rounds N | --seconds N] [--setups N] [--frames N] [--sends N] [--messages N] [--lines N] \
+    [--minimum N]";
 
 impl Options {
     pub fn parse(mut words: impl Iterator<Item = String>) -> Result<Options, String> {
@@ -39,6 +45,7 @@ impl Options {
             frames: 600_000,
             sends: 200_000,
             messages: 100_000,
+            lines: 250_000,
             minimum: 1000,
         };
         while let Some(word) = words.next() {
@@ -46,6 +53,7 @@ impl Options {
                 "--self" => options.side = Side::Reference,
                 "--mutants" => options.side = Side::Mutants,
                 "--mutant" => options.side = Side::Mutant(mutant(words.next())?),
+                "--codec" => options.side = Side::Codec(words.next().ok_or(USAGE)?),
                 name => *options.number(name)? = number(name, words.next())?,
             }
         }
@@ -64,6 +72,7 @@ impl Options {
             "--frames" => Ok(&mut self.frames),
             "--sends" => Ok(&mut self.sends),
             "--messages" => Ok(&mut self.messages),
+            "--lines" => Ok(&mut self.lines),
             "--minimum" => Ok(&mut self.minimum),
             _ => Err(USAGE.to_string()),
         }

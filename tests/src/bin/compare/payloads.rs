@@ -21,7 +21,7 @@ pub struct Payloads {
 }
 
 /// Bytes for the lists of one message.
-struct Lists([Vec<u8>; 3]);
+pub struct Lists([Vec<u8>; 3]);
 
 impl Payloads {
     pub fn new(side: Serialization, seed: u64) -> Payloads {
@@ -114,10 +114,10 @@ fn word(result: Result<usize, Refusal>) -> u64 {
     }
 }
 
-type Expected = (&'static str, &'static [u32]);
+pub type Expected = (&'static str, &'static [u32]);
 
 /// The calls of a type, and the numbers that they can answer.
-fn numbers(message_type: MessageType) -> (Expected, Expected) {
+pub fn numbers(message_type: MessageType) -> (Expected, Expected) {
     const READING: &[u32] = &[0, 15, 16];
     const WRITING: &[u32] = &[0, 8, 17];
     match message_type {
@@ -146,7 +146,7 @@ fn numbers(message_type: MessageType) -> (Expected, Expected) {
 }
 
 impl Lists {
-    fn new(random: &mut Random) -> Lists {
+    pub fn new(random: &mut Random) -> Lists {
         let mut list = || {
             let length = random.pick(&[0, 1, 6, 16, 31, 58, 80, 90, 255, 256]);
             random.bytes(length)
@@ -162,7 +162,11 @@ impl Lists {
     }
 }
 
-fn message<'a>(random: &mut Random, message_type: MessageType, lists: &'a Lists) -> Message<'a> {
+pub fn message<'a>(
+    random: &mut Random,
+    message_type: MessageType,
+    lists: &'a Lists,
+) -> Message<'a> {
     match message_type {
         MessageType::NodeStatus => Message::NodeStatus(status(random)),
         MessageType::Allocation => Message::Allocation(Allocation {

@@ -1,0 +1,202 @@
+//! A plain codec, byte by byte, as one writes it by hand for one message: the opponent of messages.rs. It answers as the proved one
+//! does, by the same rules, and gives the same numbers through C.
+
+/// The five numbers of a status. The sub-mode is zero both ways.
+struct Status {
+    uptime: u32,
+    health: u8,
+    mode: u8,
+    vendor: u16,
+}
+
+impl Status {
+    fn read(b: &[u8; 7]) -> Status {
+        Status {
+            uptime: u32::from_le_bytes([b[0], b[1], b[2], b[3]]),
+            health: b[4] >> 6,
+            mode: b[4] >> 3 & 7,
+            vendor: u16::from_le_bytes([b[5], b[6]]),
+        }
+    }
+
+    /// None for a number that is too large.
+    fn of(v: &[u64; 5]) -> Option<Status> {
+        if v[1] > 3 || v[2] > 7 {
+            return None;
+        }
+        Some(Status {
+            uptime: v[0].try_into().ok()?,
+            health: v[1] as u8,
+            mode: v[2] as u8,
+            vendor: v[4].try_into().ok()?,
+        })
+    }
+
+    fn write(&self, out: &mut [u8; 7]) {
+        out[..4].copy_from_slice(&self.uptime.to_le_bytes());
+        out[4] = self.health << 6 | self.mode << 3;
+        out[5..].copy_from_slice(&self.vendor.to_le_bytes());
+    }
+
+    fn number(&self) -> u64 {
+        let (health, mode) = (u64::from(self.health), u64::from(self.mode));
+        u64::from(self.uptime) ^ health << 32 ^ mode << 34 ^ u64::from(self.vendor) << 40
+    }
+}
+
+struct Info<'a> {
+    status: Status,
+    software: [u8; 3],
+    commit: u32,
+    image_crc: u64,
+    hardware: [u8; 2],
+    unique_id: &'a [u8; 16],
+    certificate: &'a [u8],
+    name: &'a [u8],
+}
+
+fn part<const N: usize>(b: &[u8], at: usize) -> &[u8; N] {
+    b[at..at + N].try_into().expect("N bytes")
+}
+
+fn is_name(name: &[u8]) -> bool {
+    let allowed = |b: &u8| matches!(b, b'a'..=b'z' | b'0'..=b'9' | b'.' | b'-' | b'_');
+    !name.is_empty() && name.iter().all(allowed)
+}
+
+impl<'a> Info<'a> {
+    fn read(b: &'a [u8]) -> Result<Info<'a>, u64> {
+        let count = usize::from(*b.get(40).ok_or(15u64)?);
+        let name = b.get(41 + count..).ok_or(15u64)?;
+        if name.len() > 80 {
+            return Err(16);
+        }
+        if !is_name(name) {
+            return Err(17);
+        }
+        Ok(Info {
+            status: Status::read(part(b, 0)),
+            software: *part(b, 7),
+            commit: u32::from_le_bytes(*part(b, 10)),
+            image_crc: u64::from_le_bytes(*part(b, 14)),
+            hardware: *part(b, 22),
+            unique_id: part(b, 24),
+            certificate: &b[41..41 + count],
+            name,
+        })
+    }
+
+    fn of(
+        v: &[u64; 12],
+        unique_id: &'a [u8],
+        certificate: &'a [u8],
+        name: &'a [u8],
+    ) -> Option<Info<'a>> {
+        if certificate.len() > 255 || name.len() > 80 || !is_name(name) {
+            return None;
+        }
+        let byte = |number: u64| u8::try_from(number).ok();
+        Some(Info {
+            status: Status::of(v.first_chunk()?)?,
+            software: [byte(v[5])?, byte(v[6])?, byte(v[7])?],
+            commit: v[8].try_into().ok()?,
+            image_crc: v[9],
+            hardware: [byte(v[10])?, byte(v[11])?],
+            unique_id: unique_id.try_into().ok()?,
+            certificate,
+            name,
+        })
+    }
+
+    fn write(&self, out: &mut [u8]) -> Result<u64, u64> {
+        let name_at = 41 + self.certificate.len();
+        let length = name_at + self.name.len();
+        let out = out.get_mut(..length).ok_or(8u64)?;
+        self.status.write(out.first_chunk_mut().expect("41 bytes"));
+        out[7..10].copy_from_slice(&self.software);
+        out[10..14].copy_from_slice(&self.commit.to_le_bytes());
+        out[14..22].copy_from_slice(&self.image_crc.to_le_bytes());
+        out[22..24].copy_from_slice(&self.hardware);
+        out[24..40].copy_from_slice(self.unique_id);
+        out[40] = self.certificate.len() as u8;
+        out[41..name_at].copy_from_slice(self.certificate);
+        out[name_at..].copy_from_slice(self.name);
+        Ok(length as u64)
+    }
+
+    fn number(&self) -> u64 {
+        let [major, minor, flags] = self.software.map(u64::from);
+        let [hardware_major, hardware_minor] = self.hardware.map(u64::from);
+        let (certificate, name) = (self.certificate.len() as u64, self.name.len() as u64);
+        let places = 24
+            ^ (self.unique_id.len() as u64) << 9
+            ^ 41 << 18
+            ^ certificate << 27
+            ^ (41 + certificate) << 36
+            ^ name << 45;
+        let software = major << 8 ^ minor << 16 ^ flags << 24 ^ u64::from(self.commit) << 32;
+        self.status.number()
+            ^ software
+            ^ self.image_crc
+            ^ hardware_major << 48
+            ^ hardware_minor << 56
+            ^ places
+    }
+}
+
+fn word(result: Result<u64, u64>) -> u64 {
+    result.unwrap_or_else(|refusal| u64::MAX - refusal)
+}
+
+unsafe fn bytes<'a>(at: *const u8, length: usize) -> &'a [u8] {
+    std::slice::from_raw_parts(at, length)
+}
+
+#[inline(never)]
+pub unsafe extern "C" fn status_decode(payload: *const u8, length: usize) -> u64 {
+    let payload = bytes(payload, length);
+    word(match payload.try_into() {
+        Ok(seven) => Ok(Status::read(seven).number()),
+        Err(_) if length < 7 => Err(15),
+        Err(_) => Err(16),
+    })
+}
+
+#[inline(never)]
+pub unsafe extern "C" fn status_encode(v: &[u64; 5], out: *mut u8, room: usize) -> u64 {
+    let out = std::slice::from_raw_parts_mut(out, room);
+    word(match (Status::of(v), out.first_chunk_mut()) {
+        (None, _) => Err(17),
+        (_, None) => Err(8),
+        (Some(status), Some(seven)) => {
+            status.write(seven);
+            Ok(7)
+        }
+    })
+}
+
+#[inline(never)]
+pub unsafe extern "C" fn info_decode(payload: *const u8, length: usize) -> u64 {
+    word(Info::read(bytes(payload, length)).map(|info| info.number()))
+}
+
+#[inline(never)]
+pub unsafe extern "C" fn info_encode(
+    v: &[u64; 12],
+    unique_id: *const u8,
+    unique_id_length: usize,
+    certificate: *const u8,
+    certificate_length: usize,
+    name: *const u8,
+    name_length: usize,
+    out: *mut u8,
+    room: usize,
+) -> u64 {
+    let unique_id = bytes(unique_id, unique_id_length);
+    let (certificate, name) = (
+        bytes(certificate, certificate_length),
+        bytes(name, name_length),
+    );
+    let info = Info::of(v, unique_id, certificate, name).ok_or(17);
+    word(info.and_then(|info| info.write(std::slice::from_raw_parts_mut(out, room))))
+}

@@ -1,0 +1,264 @@
+//! Messages, ns per call: the proved codec beside a plain one in Rust (bytewise.rs), both through C calls that are not inlined.
+//!
+//! First both must answer alike and write the same bytes over many messages, whole and cut, with numbers in and out of range. Then they
+//! take turns in one process, over 64 messages each that go through, and the best of ROUNDS rounds counts. Decoding ends in one number
+//! made of all fields and the lists' places; no list is copied. Encoding writes into one warm buffer. Read the figures as ratios.
+
+mod bytewise;
+
+use std::hint::black_box;
+use std::time::Instant;
+
+type Decode = unsafe extern "C" fn(*const u8, usize) -> u64;
+type EncodeStatus = unsafe extern "C" fn(&[u64; 5], *mut u8, usize) -> u64;
+type EncodeInfo = unsafe extern "C" fn(
+    &[u64; 12],
+    *const u8,
+    usize,
+    *const u8,
+    usize,
+    *const u8,
+    usize,
+    *mut u8,
+    usize,
+) -> u64;
+
+extern "C" {
+    fn probe_status_decode(payload: *const u8, length: usize) -> u64;
+    fn probe_status_encode(v: &[u64; 5], out: *mut u8, room: usize) -> u64;
+    fn probe_info_decode(payload: *const u8, length: usize) -> u64;
+    fn probe_info_encode(
+        v: &[u64; 12],
+        unique_id: *const u8,
+        unique_id_length: usize,
+        certificate: *const u8,
+        certificate_length: usize,
+        name: *const u8,
+        name_length: usize,
+        out: *mut u8,
+        room: usize,
+    ) -> u64;
+}
+
+const ROUNDS: usize = 101;
+const MESSAGES: usize = 64;
+const TURNS: usize = 2000;
+const ROOM: usize = 512;
+
+/// What a response is made of.
+struct Info {
+    numbers: [u64; 12],
+    unique_id: Vec<u8>,
+    certificate: Vec<u8>,
+    name: Vec<u8>,
+}
+
+/// Repeatable numbers: a linear congruential generator's high half.
+struct Numbers(u64);
+
+impl Numbers {
+    fn below(&mut self, end: u64) -> u64 {
+        self.0 = self
+            .0
+            .wrapping_mul(6364136223846793005)
+            .wrapping_add(1442695040888963407);
+        (self.0 >> 33) % end
+    }
+
+    fn bits(&mut self, bits: u32) -> u64 {
+        (self.below(1 << 31) << 33 ^ self.below(1 << 31) << 2) >> (64 - bits)
+    }
+
+    fn status(&mut self) -> [u64; 5] {
+        [self.bits(32), self.bits(2), self.bits(3), 0, self.bits(16)]
+    }
+
+    /// A response as nodes send it: with a certificate or without, and a name like org.example.node.
+    fn info(&mut self, certificate: usize) -> Info {
+        let mut numbers = [0; 12];
+        numbers[..5].copy_from_slice(&self.status());
+        for (at, bits) in [(5, 8), (6, 8), (7, 8), (8, 32), (9, 64), (10, 8), (11, 8)] {
+            numbers[at] = self.bits(bits);
+        }
+        let mut list = |length: usize| (0..length).map(|_| self.below(256) as u8).collect();
+        Info {
+            numbers,
+            unique_id: list(16),
+            certificate: list(certificate),
+            name: b"org.example.flight-controller_7"[..16 + numbers[0] as usize % 15].to_vec(),
+        }
+    }
+}
+
+fn encode_info(call: EncodeInfo, info: &Info, out: &mut [u8]) -> u64 {
+    let (u, c, n) = (&info.unique_id, &info.certificate, &info.name);
+    unsafe {
+        call(
+            &info.numbers,
+            u.as_ptr(),
+            u.len(),
+            c.as_ptr(),
+            c.len(),
+            n.as_ptr(),
+            n.len(),
+            out.as_mut_ptr(),
+            out.len(),
+        )
+    }
+}
+
+fn encode_status(call: EncodeStatus, numbers: &[u64; 5], out: &mut [u8]) -> u64 {
+    unsafe { call(numbers, out.as_mut_ptr(), out.len()) }
+}
+
+fn decode(call: Decode, payload: &[u8]) -> u64 {
+    unsafe { call(payload.as_ptr(), payload.len()) }
+}
+
+/// Both answer alike to the payload, each of its cuts and one byte more.
+fn same_readings(ours: Decode, plain: Decode, payload: &[u8]) {
+    let longer = [payload, b"a"].concat();
+    for end in 0..=longer.len() {
+        assert_eq!(
+            decode(ours, &longer[..end]),
+            decode(plain, &longer[..end]),
+            "{:x?}",
+            &longer[..end]
+        );
+    }
+}
+
+fn same_writings(ours: impl Fn(&mut [u8]) -> u64, plain: impl Fn(&mut [u8]) -> u64, room: usize) {
+    let (mut first, mut second) = ([0xA5; ROOM], [0xA5; ROOM]);
+    assert_eq!(ours(&mut first[..room]), plain(&mut second[..room]));
+    assert_eq!(first, second);
+}
+
+fn check(statuses: &[[u64; 5]], infos: &[Info]) {
+    for numbers in statuses {
+        for at in [0, 1, 2, 3, 4, 5] {
+            let mut strange = *numbers;
+            if let Some(number) = strange.get_mut(at) {
+                *number += 1 << 32;
+            }
+            for room in 0..9 {
+                let by = |call| move |out: &mut [u8]| encode_status(call, &strange, out);
+                same_writings(by(probe_status_encode), by(bytewise::status_encode), room);
+            }
+        }
+        let mut out = [0; 7];
+        encode_status(probe_status_encode, numbers, &mut out);
+        same_readings(probe_status_decode, bytewise::status_decode, &out);
+    }
+    for info in infos {
+        for room in [0, 40, 41, 60, 300, ROOM] {
+            let by = |call| move |out: &mut [u8]| encode_info(call, info, out);
+            same_writings(by(probe_info_encode), by(bytewise::info_encode), room);
+        }
+        let mut out = [0; ROOM];
+        let length = encode_info(probe_info_encode, info, &mut out) as usize;
+        same_readings(probe_info_decode, bytewise::info_decode, &out[..length]);
+    }
+}
+
+/// The best of the rounds of each, in ns per call; they take turns.
+fn measure(mut ours: impl FnMut(usize) -> u64, mut plain: impl FnMut(usize) -> u64) -> (f64, f64) {
+    let mut best = (f64::MAX, f64::MAX);
+    for _ in 0..ROUNDS {
+        best.0 = best.0.min(round(&mut ours));
+        best.1 = best.1.min(round(&mut plain));
+    }
+    best
+}
+
+fn round(call: &mut impl FnMut(usize) -> u64) -> f64 {
+    let mut sum = 0u64;
+    let began = Instant::now();
+    for turn in 0..TURNS {
+        for message in 0..MESSAGES {
+            sum = sum.wrapping_add(call(message)) ^ turn as u64;
+        }
+    }
+    let took = began.elapsed().as_nanos() as f64;
+    black_box(sum);
+    took / (TURNS * MESSAGES) as f64
+}
+
+fn row(name: &str, goal: f64, (ours, plain): (f64, f64)) {
+    println!(
+        "{name:<46}{ours:>8.1}{plain:>8.1}{:>8.2}{goal:>8.1}",
+        ours / plain
+    );
+}
+
+fn status_rows(statuses: &[[u64; 5]]) {
+    let mut out = [0; ROOM];
+    let mut payloads = vec![[0; 7]; statuses.len()];
+    for (numbers, payload) in statuses.iter().zip(&mut payloads) {
+        encode_status(bytewise::status_encode, numbers, payload);
+    }
+    let reading = |call: Decode| {
+        let payloads = &payloads;
+        move |message: usize| decode(call, &payloads[message])
+    };
+    row(
+        "NodeStatus, decode",
+        1.5,
+        measure(
+            reading(probe_status_decode),
+            reading(bytewise::status_decode),
+        ),
+    );
+    let mut other = out;
+    let writing = measure(
+        |message| encode_status(probe_status_encode, &statuses[message], &mut out),
+        |message| encode_status(bytewise::status_encode, &statuses[message], &mut other),
+    );
+    row("NodeStatus, encode", 1.5, writing);
+}
+
+fn info_rows(what: &str, infos: &[Info]) {
+    let mut payloads = Vec::new();
+    for info in infos {
+        let mut payload = vec![0; ROOM];
+        let length = encode_info(bytewise::info_encode, info, &mut payload) as usize;
+        payload.truncate(length);
+        payloads.push(payload);
+    }
+    let reading = |call: Decode| {
+        let payloads = &payloads;
+        move |message: usize| decode(call, &payloads[message])
+    };
+    let figures = measure(reading(probe_info_decode), reading(bytewise::info_decode));
+    row(
+        &format!("GetNodeInfo response, {what}, decode"),
+        2.0,
+        figures,
+    );
+    let (mut out, mut other) = ([0; ROOM], [0; ROOM]);
+    let figures = measure(
+        |message| encode_info(probe_info_encode, &infos[message], &mut out),
+        |message| encode_info(bytewise::info_encode, &infos[message], &mut other),
+    );
+    row(
+        &format!("GetNodeInfo response, {what}, encode"),
+        2.0,
+        figures,
+    );
+}
+
+fn main() {
+    let mut numbers = Numbers(1);
+    let statuses: Vec<_> = (0..MESSAGES).map(|_| numbers.status()).collect();
+    let plain: Vec<_> = (0..MESSAGES).map(|_| numbers.info(0)).collect();
+    let signed: Vec<_> = (0..MESSAGES).map(|_| numbers.info(255)).collect();
+    check(&statuses, &plain);
+    check(&statuses, &signed);
+    println!(
+        "{:<46}{:>8}{:>8}{:>8}{:>8}",
+        "messages, ns per call", "proved", "plain", "ratio", "at most"
+    );
+    status_rows(&statuses);
+    info_rows("no certificate", &plain);
+    info_rows("255 bytes", &signed);
+}

@@ -1,0 +1,382 @@
+//! The codec program compared: requests as lines through a pipe, and its answers line by line.
+
+use crate::entry_points::{Serialization, REFERENCE};
+use crate::payloads::{message, numbers, Lists};
+use crate::random::Random;
+use crate::tally::{Difference, Tally};
+use reference::codec::{answer, fields, hex, type_name, Value, LONGEST_LINE};
+use reference::messages::{encode, Message, MessageType};
+use std::io::{Read, Write};
+use std::process::{Command, Stdio};
+
+/// Who answers the lines.
+pub enum Answerer {
+    Program(String),
+    Calls(Serialization),
+}
+
+pub struct Requests {
+    answerer: Answerer,
+    random: Random,
+    /// What was read, and what was written, of each type.
+    tallies: Vec<(Tally, Tally)>,
+    ill_formed: Tally,
+    cases: Tally,
+}
+
+/// A line, and what it asks: the type's index, and whether it encodes.
+struct Request {
+    line: Vec<u8>,
+    index: usize,
+    encodes: bool,
+}
+
+/// The lines of one run of the program.
+const BLOCK: u64 = 20_000;
+const MODES: [&str; 8] = [
+    "mode 0", "mode 1", "mode 2", "mode 3", "mode 4", "mode 5", "mode 6", "mode 7",
+];
+const LEVELS: [&str; 8] = [
+    "level 0", "level 1", "level 2", "level 3", "level 4", "level 5", "level 6", "level 7",
+];
+const NAN: &str = "signalling NaN";
+const ANY_SUB_MODE: &str = "sub-mode outside of 64 bits";
+/// Lists by name, and the case that one is empty.
+const EMPTY: [(&str, &str); 6] = [
+    ("unique_id", "empty unique ID of an Allocation"),
+    ("key", "empty key"),
+    ("source", "empty source"),
+    ("text", "empty text"),
+    (
+        "hardware_version.certificate_of_authenticity",
+        "empty certificate",
+    ),
+    ("name", "empty name"),
+];
+/// Numbers that no field but the sub-mode takes.
+const OUTSIDE: [&str; 5] = [
+    "-1",
+    "-18446744073709551615",
+    "18446744073709551616",
+    "36893488147419103233",
+    "99999999999999999999999999999",
+];
+/// A signalling NaN is all ones in the exponent, and below it a zero and then some one.
+const SIGNALLING: u32 = 0x7F80_0001;
+
+impl Requests {
+    pub fn new(answerer: Answerer, seed: u64) -> Requests {
+        let tallies = MessageType::ALL.into_iter().map(|message_type| {
+            let ((read, reading), (written, writing)) = numbers(message_type);
+            (
+                Tally::new(read, reading, &[]),
+                Tally::new(written, writing, &[]),
+            )
+        });
+        let empty = EMPTY.map(|(_, case)| case);
+        let cases = [&MODES[..], &LEVELS, &empty, &[NAN, ANY_SUB_MODE]].concat();
+        Requests {
+            answerer,
+            random: Random::new(seed),
+            tallies: tallies.collect(),
+            ill_formed: Tally::new("lines not of the form", &[], &["?"]),
+            cases: Tally::new("cases of lines", &[], &cases),
+        }
+    }
+
+    pub fn into_tallies(self) -> Vec<Tally> {
+        let pairs = self
+            .tallies
+            .into_iter()
+            .flat_map(|(read, written)| [read, written]);
+        pairs.chain([self.ill_formed, self.cases]).collect()
+    }
+
+    /// Compares about so many lines, and every cut of one message of each type.
+    pub fn run(&mut self, lines: u64) -> Result<(), Difference> {
+        let mut block = self.every_cut();
+        for line in 0..lines {
+            let request = self.request();
+            block.push(request);
+            if block.len() as u64 >= BLOCK || line + 1 == lines {
+                self.compare(&block)?;
+                block.clear();
+            }
+        }
+        Ok(())
+    }
+
+    fn compare(&mut self, block: &[Request]) -> Result<(), Difference> {
+        let expected: Vec<String> = block
+            .iter()
+            .map(|request| by_reference(&request.line))
+            .collect();
+        let lines: Vec<&[u8]> = block.iter().map(|request| &request.line[..]).collect();
+        // about every other block ends without a line feed
+        let actual = self.answerer.answers(&lines, self.random.coin())?;
+        for (at, request) in block.iter().enumerate() {
+            let got = actual.get(at).map_or("nothing", |got| got);
+            if got != expected[at] {
+                let line = String::from_utf8_lossy(&request.line);
+                return Err(Difference(format!(
+                    "line {line:?}: expected {:?}, got {got:?}",
+                    expected[at]
+                )));
+            }
+            self.count(request, &expected[at]);
+        }
+        if actual.len() == block.len() {
+            return Ok(());
+        }
+        Err(Difference(format!(
+            "{} lines, {} answers",
+            block.len(),
+            actual.len()
+        )))
+    }
+
+    fn count(&mut self, request: &Request, answer: &str) {
+        let number = answer.split(' ').next().and_then(|word| word.parse().ok());
+        let tallies = &mut self.tallies[request.index];
+        match number {
+            None => self.ill_formed.case("?"),
+            Some(number) if request.encodes => tallies.1.number(number),
+            Some(number) => tallies.0.number(number),
+        }
+    }
+
+    /// A message of each type with every list as long as it may be, cut at every length.
+    fn every_cut(&mut self) -> Vec<Request> {
+        const LENGTHS: [(usize, [u8; 2]); 6] = [
+            (7, [0, 0]),
+            (17, [0, 0]),
+            (62, [0, 0]),
+            (122, [0, 31]),
+            (0, [0, 0]),
+            (376, [40, 255]),
+        ];
+        let mut requests = Vec::new();
+        for (index, (length, [at, count])) in LENGTHS.into_iter().enumerate() {
+            let mut payload = vec![b'a'; length];
+            if let Some(byte) = payload.get_mut(usize::from(at)) {
+                *byte = count;
+            }
+            requests.extend((0..=length).map(|end| decode_line(index, &payload[..end])));
+        }
+        requests
+    }
+
+    fn request(&mut self) -> Request {
+        let index = self.random.index(MessageType::ALL.len());
+        let mut request = if self.random.coin() {
+            self.encoding(index)
+        } else {
+            self.decoding(index)
+        };
+        if self.random.once_in(20) {
+            break_form(&mut self.random, &mut request.line);
+        }
+        request
+    }
+
+    /// Bytes of a message as they are, or spoiled.
+    fn decoding(&mut self, index: usize) -> Request {
+        let mut payload = vec![0; 600];
+        loop {
+            let lists = Lists::new(&mut self.random);
+            let message = self.message(index, &lists);
+            if let Ok(length) = encode(&message, &mut payload) {
+                payload.truncate(length);
+                self.count_cases(&message);
+                break;
+            }
+        }
+        if self.random.coin() {
+            spoil(&mut self.random, &mut payload);
+        }
+        decode_line(index, &payload)
+    }
+
+    /// Fields of a message in any order, some left out, some as other text for the same number or for one outside of 64 bits.
+    fn encoding(&mut self, index: usize) -> Request {
+        let lists = Lists::new(&mut self.random);
+        let message = self.message(index, &lists);
+        self.count_cases(&message);
+        let mut words: Vec<String> = Vec::new();
+        for (name, value) in fields(&message) {
+            if !self.random.once_in(20) {
+                let text = self.text(&name, &value);
+                words.insert(self.random.index(words.len() + 1), format!("{name}={text}"));
+            }
+        }
+        let room = self.room(&message);
+        words.insert(
+            0,
+            format!("encode {} {room}", type_name(MessageType::ALL[index])),
+        );
+        Request {
+            line: words.join(" ").into_bytes(),
+            index,
+            encodes: true,
+        }
+    }
+
+    /// Any message of the type; of a KeyValue often one with a signalling NaN.
+    fn message<'a>(&mut self, index: usize, lists: &'a Lists) -> Message<'a> {
+        let mut message = message(&mut self.random, MessageType::ALL[index], lists);
+        if let Message::KeyValue(one) = &mut message {
+            if self.random.once_in(4) {
+                one.value = SIGNALLING | one.value & 0x803F_FFFF;
+            }
+        }
+        message
+    }
+
+    fn count_cases(&mut self, message: &Message) {
+        for (name, value) in fields(message) {
+            let name = name.rsplit("status.").next().unwrap_or("");
+            match value {
+                Value::Number(Some(mode @ 0..=7)) if name == "mode" => {
+                    self.cases.case(MODES[mode as usize])
+                }
+                Value::Number(Some(level @ 0..=7)) if name == "level.value" => {
+                    self.cases.case(LEVELS[level as usize])
+                }
+                Value::Number(Some(bits))
+                    if name == "value" && bits & 0x7FC0_0001 == SIGNALLING.into() =>
+                {
+                    self.cases.case(NAN);
+                }
+                Value::List(bytes) if bytes.is_empty() => {
+                    let list = EMPTY.iter().find(|(list, _)| *list == name);
+                    list.iter().for_each(|(_, case)| self.cases.case(case));
+                }
+                _ => (),
+            }
+        }
+    }
+
+    /// Near the message's length, or as much as can be.
+    fn room(&mut self, message: &Message) -> String {
+        let mut bytes = [0; 600];
+        let length = encode(message, &mut bytes).unwrap_or(bytes.len());
+        match self.random.below(6) {
+            0 => length.saturating_sub(1).to_string(),
+            1 => self.random.index(length + 1).to_string(),
+            2 => length.to_string(),
+            3 => format!("{length:021}"),
+            4 => "18446744073709551616".to_string(),
+            _ => "512".to_string(),
+        }
+    }
+
+    fn text(&mut self, name: &str, value: &Value) -> String {
+        let sub_mode = name.ends_with("sub_mode");
+        let often = if sub_mode { 4 } else { 100 };
+        if matches!(value, Value::Number(_)) && self.random.once_in(often) {
+            if sub_mode {
+                self.cases.case(ANY_SUB_MODE);
+            }
+            return self.random.pick(&OUTSIDE).to_string();
+        }
+        match value.text().as_str() {
+            "0" => self.random.pick(&["0", "-0", "000"]).to_string(),
+            plain => plain.to_string(),
+        }
+    }
+}
+
+fn decode_line(index: usize, payload: &[u8]) -> Request {
+    let name = type_name(MessageType::ALL[index]);
+    Request {
+        line: format!("decode {name} {}", hex(payload)).into_bytes(),
+        index,
+        encodes: false,
+    }
+}
+
+fn by_reference(line: &[u8]) -> String {
+    Answerer::calls(
+        &REFERENCE.serialization.expect("the reference has messages"),
+        line,
+    )
+}
+
+fn spoil(random: &mut Random, payload: &mut Vec<u8>) {
+    match random.below(8) {
+        0 => payload.clear(),
+        1 => payload.truncate(random.index(payload.len() + 1)),
+        2 => payload.truncate(random.index(payload.len().min(4) + 1)),
+        3 => payload.push(random.byte()),
+        4 => payload.extend(std::iter::repeat_n(b'a', 100)),
+        5 if !payload.is_empty() => *payload.last_mut().expect("not empty") = b'A',
+        6 if !payload.is_empty() => {
+            let at = random.index(payload.len());
+            payload[at] = random.byte();
+        }
+        _ => {
+            let length = random.index(120);
+            *payload = random.bytes(length);
+        }
+    }
+}
+
+/// Makes a line that is most likely not of the form.
+fn break_form(random: &mut Random, line: &mut Vec<u8>) {
+    let at = random.index(line.len());
+    let byte = random.pick(b" \r=-f09?\0\xFF");
+    match random.below(8) {
+        0 => line[at] = byte,
+        1 => line.insert(at, byte),
+        2 => line.truncate(at),
+        3 => line.push(byte),
+        4 => line.make_ascii_lowercase(),
+        5 => line.extend(b" mode=1 mode=1"),
+        6 => line.extend(std::iter::repeat_n(b'A', LONGEST_LINE - line.len())),
+        _ => line.extend(std::iter::repeat_n(b'A', LONGEST_LINE + 2 - line.len())),
+    }
+}
+
+impl Answerer {
+    fn calls(calls: &Serialization, line: &[u8]) -> String {
+        answer(calls.decode, calls.encode, line)
+    }
+
+    fn answers(&self, lines: &[&[u8]], closed: bool) -> Result<Vec<String>, Difference> {
+        match self {
+            Answerer::Calls(calls) => Ok(lines
+                .iter()
+                .map(|line| Answerer::calls(calls, line))
+                .collect()),
+            Answerer::Program(path) => {
+                let mut input = lines.join(&b'\n');
+                if closed || input.ends_with(b"\n") {
+                    input.push(b'\n');
+                }
+                let failed = |error| Difference(format!("{path}: {error}"));
+                let output = through(path, input).map_err(failed)?;
+                let text = String::from_utf8_lossy(&output);
+                Ok(text.lines().map(str::to_string).collect())
+            }
+        }
+    }
+}
+
+/// What the program writes for that input.
+fn through(path: &str, input: Vec<u8>) -> std::io::Result<Vec<u8>> {
+    let mut child = Command::new(path)
+        .stdin(Stdio::piped())
+        .stdout(Stdio::piped())
+        .spawn()?;
+    let mut stdin = child.stdin.take().expect("piped");
+    let writer = std::thread::spawn(move || stdin.write_all(&input));
+    let mut output = Vec::new();
+    child
+        .stdout
+        .take()
+        .expect("piped")
+        .read_to_end(&mut output)?;
+    child.wait()?;
+    writer.join().expect("the writer ends")?;
+    Ok(output)
+}

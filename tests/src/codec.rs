@@ -1,0 +1,282 @@
+//! The codec program: a request a line, an answer a line, by the form that README.md gives.
+
+use crate::bits::Refusal;
+use crate::messages::{
+    Allocation, HardwareVersion, KeyValue, LogMessage, Message, MessageType, NodeInfo, NodeStatus,
+    SoftwareVersion,
+};
+use std::collections::BTreeMap;
+use std::fmt::Write;
+
+pub type Decode = for<'a> fn(MessageType, &'a [u8]) -> Result<Message<'a>, Refusal>;
+pub type Encode = fn(&Message, &mut [u8]) -> Result<usize, Refusal>;
+
+/// The bytes of a line, without its line feed.
+pub const LONGEST_LINE: usize = 8192;
+/// The length of the output buffer, whatever a line asks for.
+const MOST_ROOM: usize = 512;
+
+/// What a field is given as, or comes out as. A number outside of 64 bits is none.
+#[derive(Clone, Debug, PartialEq, Eq)]
+pub enum Value {
+    Number(Option<u64>),
+    List(Vec<u8>),
+}
+
+pub type Fields = Vec<(String, Value)>;
+
+/// The answer to a line, with messages read and written by these calls.
+pub fn answer(decode: Decode, encode: Encode, line: &[u8]) -> String {
+    request(decode, encode, line).unwrap_or_else(|| "?".to_string())
+}
+
+/// None for a line that is not of the form.
+fn request(decode: Decode, encode: Encode, line: &[u8]) -> Option<String> {
+    if line.len() > LONGEST_LINE {
+        return None;
+    }
+    let mut words = std::str::from_utf8(line).ok()?.split(' ');
+    let verb = words.next()?;
+    let message_type = type_named(words.next()?)?;
+    let third = words.next()?;
+    match verb {
+        "decode" => {
+            let payload = list(third)?;
+            words
+                .next()
+                .is_none()
+                .then(|| decoded(decode(message_type, &payload)))
+        }
+        "encode" => {
+            let room = digits(third)?.map_or(MOST_ROOM, |room| room.min(MOST_ROOM as u64) as usize);
+            let given = Given::read(message_type, words)?;
+            let mut out = [0; MOST_ROOM];
+            let result = match given.message(message_type) {
+                Some(message) => encode(&message, &mut out[..room]),
+                None => Err(Refusal::NotAllowed),
+            };
+            Some(match result {
+                Ok(length) => format!("0 {}", hex(&out[..length])),
+                Err(refusal) => refusal.number().to_string(),
+            })
+        }
+        _ => None,
+    }
+}
+
+pub fn type_name(message_type: MessageType) -> &'static str {
+    match message_type {
+        MessageType::NodeStatus => "NodeStatus",
+        MessageType::Allocation => "Allocation",
+        MessageType::KeyValue => "KeyValue",
+        MessageType::LogMessage => "LogMessage",
+        MessageType::NodeInfoRequest => "GetNodeInfo.Request",
+        MessageType::NodeInfoResponse => "GetNodeInfo.Response",
+    }
+}
+
+fn type_named(name: &str) -> Option<MessageType> {
+    let mut all = MessageType::ALL.into_iter();
+    all.find(|&message_type| type_name(message_type) == name)
+}
+
+fn decoded(result: Result<Message, Refusal>) -> String {
+    let message = match result {
+        Ok(message) => message,
+        Err(refusal) => return refusal.number().to_string(),
+    };
+    let mut text = "0".to_string();
+    for (name, value) in fields(&message) {
+        write!(text, " {name}={}", value.text()).expect("a String takes all");
+    }
+    text
+}
+
+impl Value {
+    fn number(number: u64) -> Value {
+        Value::Number(Some(number))
+    }
+
+    /// As a line has it; what is outside of 64 bits is no message's.
+    pub fn text(&self) -> String {
+        match self {
+            Value::Number(number) => number.expect("a message's number").to_string(),
+            Value::List(bytes) => hex(bytes),
+        }
+    }
+}
+
+pub fn hex(bytes: &[u8]) -> String {
+    if bytes.is_empty() {
+        return "-".to_string();
+    }
+    bytes.iter().map(|byte| format!("{byte:02X}")).collect()
+}
+
+/// The fields of a message in order.
+pub fn fields(message: &Message) -> Fields {
+    let named = |name: &str, value: Value| (name.to_string(), value);
+    let number = |name: &str, value: u64| named(name, Value::number(value));
+    let list = |name: &str, bytes: &[u8]| named(name, Value::List(bytes.to_vec()));
+    match message {
+        Message::NodeStatus(one) => status_fields(one, ""),
+        Message::Allocation(one) => vec![
+            number("node_id", one.node_id),
+            number("first_part_of_unique_id", one.first_part),
+            list("unique_id", one.unique_id),
+        ],
+        Message::KeyValue(one) => vec![number("value", one.value.into()), list("key", one.key)],
+        Message::LogMessage(one) => vec![
+            number("level.value", one.level),
+            list("source", one.source),
+            list("text", one.text),
+        ],
+        Message::NodeInfoRequest => vec![],
+        Message::NodeInfoResponse(one) => {
+            let (software, hardware) = (&one.software, &one.hardware);
+            let mut all = status_fields(&one.status, "status.");
+            all.extend([
+                number("software_version.major", software.major),
+                number("software_version.minor", software.minor),
+                number("software_version.optional_field_flags", software.flags),
+                number("software_version.vcs_commit", software.commit),
+                number("software_version.image_crc", software.image_crc),
+                number("hardware_version.major", hardware.major),
+                number("hardware_version.minor", hardware.minor),
+                list("hardware_version.unique_id", hardware.unique_id),
+                list(
+                    "hardware_version.certificate_of_authenticity",
+                    hardware.certificate,
+                ),
+                list("name", one.name),
+            ]);
+            all
+        }
+    }
+}
+
+fn status_fields(status: &NodeStatus, prefix: &str) -> Fields {
+    let number = |name: &str, value| (format!("{prefix}{name}"), Value::number(value));
+    vec![
+        number("uptime_sec", status.uptime),
+        number("health", status.health),
+        number("mode", status.mode),
+        number("sub_mode", status.sub_mode),
+        number("vendor_specific_status_code", status.vendor_code),
+    ]
+}
+
+/// The fields that a line gives, by name.
+struct Given(BTreeMap<String, Value>);
+
+impl Given {
+    fn read<'a>(message_type: MessageType, words: impl Iterator<Item = &'a str>) -> Option<Given> {
+        let all = fields(&Given(BTreeMap::new()).message(message_type)?);
+        let mut given = BTreeMap::new();
+        for word in words {
+            let (name, text) = word.split_once('=')?;
+            let (_, kind) = all.iter().find(|(known, _)| known == name)?;
+            let value = match kind {
+                Value::Number(_) => Value::Number(number(text)?),
+                Value::List(_) => Value::List(list(text)?),
+            };
+            if given.insert(name.to_string(), value).is_some() {
+                return None;
+            }
+        }
+        Some(Given(given))
+    }
+
+    fn number(&self, name: &str) -> Option<u64> {
+        match self.0.get(name) {
+            Some(Value::Number(number)) => *number,
+            _ => Some(0),
+        }
+    }
+
+    fn list(&self, name: &str) -> &[u8] {
+        match self.0.get(name) {
+            Some(Value::List(bytes)) => bytes,
+            _ => &[],
+        }
+    }
+
+    /// None if a number is outside of what any message can hold.
+    fn message(&self, message_type: MessageType) -> Option<Message<'_>> {
+        Some(match message_type {
+            MessageType::NodeStatus => Message::NodeStatus(self.status("")?),
+            MessageType::Allocation => Message::Allocation(Allocation {
+                node_id: self.number("node_id")?,
+                first_part: self.number("first_part_of_unique_id")?,
+                unique_id: self.list("unique_id"),
+            }),
+            MessageType::KeyValue => Message::KeyValue(KeyValue {
+                value: self.number("value")?.try_into().ok()?,
+                key: self.list("key"),
+            }),
+            MessageType::LogMessage => Message::LogMessage(LogMessage {
+                level: self.number("level.value")?,
+                source: self.list("source"),
+                text: self.list("text"),
+            }),
+            MessageType::NodeInfoRequest => Message::NodeInfoRequest,
+            MessageType::NodeInfoResponse => Message::NodeInfoResponse(NodeInfo {
+                status: self.status("status.")?,
+                software: SoftwareVersion {
+                    major: self.number("software_version.major")?,
+                    minor: self.number("software_version.minor")?,
+                    flags: self.number("software_version.optional_field_flags")?,
+                    commit: self.number("software_version.vcs_commit")?,
+                    image_crc: self.number("software_version.image_crc")?,
+                },
+                hardware: HardwareVersion {
+                    major: self.number("hardware_version.major")?,
+                    minor: self.number("hardware_version.minor")?,
+                    unique_id: self.list("hardware_version.unique_id"),
+                    certificate: self.list("hardware_version.certificate_of_authenticity"),
+                },
+                name: self.list("name"),
+            }),
+        })
+    }
+
+    /// Sub-mode takes any number.
+    fn status(&self, prefix: &str) -> Option<NodeStatus> {
+        let number = |name: &str| self.number(&format!("{prefix}{name}"));
+        Some(NodeStatus {
+            uptime: number("uptime_sec")?,
+            health: number("health")?,
+            mode: number("mode")?,
+            sub_mode: number("sub_mode").unwrap_or(0),
+            vendor_code: number("vendor_specific_status_code")?,
+        })
+    }
+}
+
+/// Decimal digits; the inner None for 2^64 and above, the outer for other text.
+fn digits(text: &str) -> Option<Option<u64>> {
+    let well_formed = !text.is_empty() && text.bytes().all(|byte| byte.is_ascii_digit());
+    well_formed.then(|| text.parse().ok())
+}
+
+/// Decimal digits, perhaps behind a minus sign.
+fn number(text: &str) -> Option<Option<u64>> {
+    match text.strip_prefix('-') {
+        Some(below) => digits(below).map(|number| number.filter(|&number| number == 0)),
+        None => digits(text),
+    }
+}
+
+fn list(text: &str) -> Option<Vec<u8>> {
+    if text == "-" {
+        return Some(Vec::new());
+    }
+    let digit = |byte: &u8| matches!(byte, b'0'..=b'9' | b'A'..=b'F');
+    if text.is_empty() || text.len() % 2 == 1 || !text.as_bytes().iter().all(digit) {
+        return None;
+    }
+    let pairs = (0..text.len()).step_by(2);
+    pairs
+        .map(|at| u8::from_str_radix(&text[at..at + 2], 16).ok())
+        .collect()
+}
