@@ -5,7 +5,7 @@ use mathlib.Core.List.{List, [], _∷_, _++_}
 use mathlib.Core.Logic.{_⊎_, inl, inr, ⊎-elim}
 use mathlib.Core.Option.{none, some}
 use Prim.Native.Nat.{ℕ, zero, suc, _+_, _*_, _-_, _/_, _%_, _^_, _≤_, _<_}
-use native.Mathlib.Nat.{pow-zero, pow-suc, pow-succ', pow-le-pow-right, mul-le-mul-left, div-one, div-div-eq-div-mul, div-add-mod', mod-lt, mul-add-mod-self-right, mod-eq-of-lt, mul-add-div-right, div-eq-of-lt, add-zero}
+use native.Mathlib.Nat.{one-le-pow, lt-div-mul-add, zero-mul, pow-zero, pow-suc, pow-succ', pow-le-pow-right, mul-le-mul-left, div-one, div-div-eq-div-mul, div-add-mod', mod-lt, mul-add-mod-self-right, mod-eq-of-lt, mul-add-div-right, div-eq-of-lt, add-zero}
 use native.Mathlib.Omega.{arith}
 use borrow.Author.Tests.{lt-ltb, le-ltb, ltb-true, ltb-false}
 use lib.Dec.{ltb, lit<}
@@ -187,3 +187,11 @@ fits-in (suc d) n h = ⊎-elim small (large (fits-in d (n / 10))) (decided (ltb 
 
 pub count-fits : (n : ℕ) → n < 10 ^ countOf n
 count-fits n = fits-in n n (omega arith)
+
+-- digits stand for a number below as many powers of the base
+pub number-lt : (b : ℕ) → b ≤ 16 → 0 < b → (cs : List ℕ) (n : ℕ) → number b cs ≡ some n → n < b ^ length cs
+number-lt b few pos cs n e =
+    let w = digits-read b few pos 0 cs n e in
+    let l : n < n / b ^ length cs * b ^ length cs + b ^ length cs = lt-div-mul-add (one-le-pow (length cs) b pos) in
+    let z : n / b ^ length cs * b ^ length cs ≡ 0 = ap (λ (k : ℕ). k * b ^ length cs) (w .above) ∙ zero-mul (b ^ length cs) in
+    omega arith
