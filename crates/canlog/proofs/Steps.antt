@@ -1,24 +1,25 @@
 -- The steps of reading a line, on plain variables.
-use mathlib.Core.Path.{_≡_, refl, sym, ap, ap₂, _∙_}
-use mathlib.Core.Bool.{Bool, true, false}
+use mathlib.Core.Path.{_≡_, refl, sym, ap, _∙_}
+use mathlib.Core.Bool.{Bool, true, false, false≢true, _&&_}
 use mathlib.Core.List.{List, [], _∷_, _++_, append-nil}
 use mathlib.Core.Option.{Option, none, some}
-use Prim.Native.Nat.{ℕ, zero, suc, _+_, _*_, _-_, _/_, _%_, _^_, _≤_, _<_}
-use native.Mathlib.Nat.{add-zero, sub-zero}
-use native.Mathlib.Numerals.{add-one}
+use Prim.Native.Nat.{ℕ, suc, _+_, _*_, _-_, _/_, _%_, _^_, _≤_, _<_}
+use native.Mathlib.Nat.{add-zero, sub-zero, pow-le-pow-right}
 use native.Mathlib.Omega.{arith}
-use borrow.Author.Tests.{eq-eqb, ne-eqb}
-use lib.Dec.{lit<, eqb}
-use lib.ListN.{length, getD, take, drop, set, length-take, length-drop}
+use borrow.Author.Tests.{lt-ltb, le-leb, eq-eqb, ne-eqb, ltb-true, leb-true, eqb-true}
+use lib.Dec.{lit<, ltb, leb, eqb}
+use lib.ListN.{length, getD, take, drop, set, length-drop}
 use lib.Seq.{drop-drop, getD-drop, append-snoc, take-suc-set}
 use Rattle.bits.specs.Part.{span}
 use Rattle.bits.proofs.Splice.{length-span}
 use Rattle.model.specs.Tests.{pick}
-use Rattle.text.specs.Digits.{number, asNumber}
+use Rattle.text.specs.Digits.{countOf, number, asNumber}
 use Rattle.text.specs.declared.Parsed.{Parsed}
 use Rattle.text.specs.declared.Parsed.the-variants.{Is, Not}
 use Rattle.text.proofs.Digits.{number-lt}
-use Rattle.canlog.specs.Reading.{pairOf, paired, pairs, orBad}
+use Rattle.canlog.specs.Reading.{pairOf, paired, pairs, shaped, framed, fieldsOf, orBad, Reads}
+use Rattle.canlog.specs.declared.read.Line.{Line}
+use Rattle.model.specs.Frame.{Frame}
 
 -- ── numbers ──
 
@@ -113,3 +114,102 @@ begun l at k = rw (sub-zero k, add-zero at) (none-ahead (pairs k (drop at l))) w
   none-ahead : (o : Option (List ℕ)) → o ≡ ahead [] o
   none-ahead none = refl
   none-ahead (some bs) = refl
+
+-- ── the shape ──
+
+and-both : (a b : Bool) → (a && b) ≡ true → (a ≡ true) × (b ≡ true)
+and-both true b e = (refl, e)
+and-both false b e = absurd (false≢true e)
+
+pub record Shape (s : ℕ) (l : List ℕ) : Type 0 where
+  pub some : 0 < s
+  pub few : s ≤ 9
+  pub long : s + 14 ≤ length l
+  pub short : length l ≤ s + 38
+  pub whole : (length l - (s + 14)) % 3 ≡ 0
+  pub space : getD l (s + 4) 0 ≡ 32
+  pub end : getD l (length l - 1) 0 ≡ 10
+
+pub shape : (s : ℕ) (l : List ℕ) → shaped s l ≡ true → Shape s l
+unfolding shaped
+shape s l e =
+    let a = and-both (ltb 0 s) _ e in
+    let b = and-both (leb s 9) _ (a .1) in
+    let c = and-both (leb (s + 14) (length l)) _ (b .1) in
+    let d = and-both (leb (length l) (s + 38)) _ (c .1) in
+    let f = and-both (eqb ((length l - (s + 14)) % 3) 0) _ (d .1) in
+    let g = and-both (eqb (getD l (s + 4) 0) 32) _ (f .1) in
+    record {
+      some = ltb-true 0 s (a .0);
+      few = leb-true s 9 (b .0);
+      long = leb-true (s + 14) (length l) (c .0);
+      short = leb-true (length l) (s + 38) (d .0);
+      whole = eqb-true ((length l - (s + 14)) % 3) 0 (f .0);
+      space = eqb-true (getD l (s + 4) 0) 32 (g .0);
+      end = eqb-true (getD l (length l - 1) 0) 10 (g .1);
+    }
+
+pub reshape : (s : ℕ) (l : List ℕ) → Shape s l → shaped s l ≡ true
+unfolding shaped
+reshape s l h =
+    rw (
+      lt-ltb 0 s (h .some),
+      le-leb s 9 (h .few),
+      le-leb (s + 14) (length l) (h .long),
+      le-leb (length l) (s + 38) (h .short),
+      eq-eqb ((length l - (s + 14)) % 3) 0 (h .whole),
+      eq-eqb (getD l (s + 4) 0) 32 (h .space),
+      eq-eqb (getD l (length l - 1) 0) 10 (h .end),
+    )
+
+-- ── the numbers ──
+
+pub unread : (s : ℕ) (says : Option Frame) (r : Line) → r .ok ≡ false → says ≡ none → Reads s says r
+unread s says r e n = record { frame = rw (e, n); head = λ q. absurd (false≢true (sym e ∙ q)) }
+
+module _ (s : ℕ) (l : List ℕ) where
+  pub no-seconds : number 10 (span l 0 s) ≡ none → fieldsOf s l ≡ none
+  unfolding fieldsOf framed
+  no-seconds e = rw e
+
+  module _ (sec : ℕ) (e₁ : number 10 (span l 0 s) ≡ some sec) where
+    needless : (o p : Option ℕ) (q : Option (List ℕ)) → (countOf sec ≡ s → ⊥) → framed s (some sec) o p q ≡ none
+    unfolding framed
+    needless none p q h = refl
+    needless (some x) none q h = refl
+    needless (some x) (some y) none h = refl
+    needless (some x) (some y) (some z) h = rw (ne-eqb (countOf sec) s h)
+
+    pub needless-zero : (countOf sec ≡ s → ⊥) → fieldsOf s l ≡ none
+    unfolding fieldsOf
+    needless-zero h = rw e₁ (needless (number 10 (span l (s + 1) 3)) (number 16 (span l (s + 5) 8)) (pairs ((length l - (s + 14)) / 3) (drop (s + 13) l)) h)
+
+    pub no-milliseconds : number 10 (span l (s + 1) 3) ≡ none → fieldsOf s l ≡ none
+    unfolding fieldsOf framed
+    no-milliseconds e = rw (e₁, e)
+
+    module _ (ms : ℕ) (e₂ : number 10 (span l (s + 1) 3) ≡ some ms) where
+      pub no-id : number 16 (span l (s + 5) 8) ≡ none → fieldsOf s l ≡ none
+      unfolding fieldsOf framed
+      no-id e = rw (e₁, e₂, e)
+
+      module _ (id : ℕ) (e₃ : number 16 (span l (s + 5) 8) ≡ some id) where
+        kept : countOf sec ≡ s → (ok : Bool) (bs : List ℕ)
+            → pick ok (some (record { id = id; bytes = bs; time = sec * 1000000 + ms * 1000 })) none ≡ framed s (some sec) (some ms) (some id) (pick ok (some bs) none)
+        unfolding framed
+        kept h true bs = rw (eq-eqb (countOf sec) s h)
+        kept h false bs = refl
+
+        pub read-all : countOf sec ≡ s → (ok : Bool) (bs : List ℕ) → pick ok (some bs) none ≡ pairs ((length l - (s + 14)) / 3) (drop (s + 13) l)
+            → pick ok (some (record { id = id; bytes = bs; time = sec * 1000000 + ms * 1000 })) none ≡ fieldsOf s l
+        unfolding fieldsOf
+        read-all h ok bs e = rw (e₁, e₂, e₃) (kept h ok bs ∙ ap (framed s (some sec) (some ms) (some id)) e)
+
+-- a field of n digits in base b
+pub field-lt : (b : ℕ) → b ≤ 16 → 0 < b → (l : List ℕ) (at n v : ℕ) → at + n ≤ length l → number b (span l at n) ≡ some v → v < b ^ n
+field-lt b few pos l at n v h e = rw (length-span l at n h) at (number-lt b few pos (span l at n) v e)
+
+pub sec-lt : (s : ℕ) (l : List ℕ) (v : ℕ) → s ≤ 9 → s ≤ length l → number 10 (span l 0 s) ≡ some v → v < 10 ^ 9
+sec-lt s l v few h e =
+    let p : 10 ^ s ≤ 10 ^ 9 = pow-le-pow-right (lit< tt) few in
+    omega (arith, field-lt 10 (omega arith) (omega arith) l 0 s v (omega arith) e)

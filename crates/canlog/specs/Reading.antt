@@ -69,6 +69,6 @@ abbrev pub frameIn : Line → Option Frame
 frameIn r = pick (r .ok) (some (record { id = r .id; bytes = take (r .len) (r .bytes); time = r .time })) none
 
 -- the frame, and how many characters its time takes
-pub record Reads (l : List ℕ) (s : ℕ) (says : Option Frame) (r : Line) : Type 0 where
+pub record Reads (s : ℕ) (says : Option Frame) (r : Line) : Type 0 where
   pub frame : frameIn r ≡ says
   pub head : r .ok ≡ true → r .head ≡ s + 4

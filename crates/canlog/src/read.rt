@@ -114,7 +114,7 @@ fn is_shaped(line: &[u8], s: usize) -> bool
 // The numbers of a line of that shape.
 fn fields(line: &[u8], s: usize) -> Line
     requires { ⌜ shaped s (now line) ≡ true ⌝ }
-    ensures { λ r. ⌜ Reads (now (line .entry)) s (fieldsOf s (now (line .entry))) r ⌝ }
+    ensures { λ r. ⌜ Reads s (fieldsOf s (now (line .entry))) r ⌝ }
 {
     let Parsed::Is(sec) = number(line, 0, s, 10) else {
         return ill_formed();
@@ -143,7 +143,7 @@ fn fields(line: &[u8], s: usize) -> Line
 
 // Reads a line, its line feed included.
 pub fn read(line: &[u8]) -> Line
-    ensures { λ r. ⌜ Reads (now (line .entry)) (before 46 (now (line .entry))) (said (now (line .entry))) r ⌝ }
+    ensures { λ r. ⌜ Reads (before 46 (now (line .entry))) (said (now (line .entry))) r ⌝ }
 {
     let s = text::find(line, 0, 46);
     if is_shaped(line, s) {

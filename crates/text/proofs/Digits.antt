@@ -7,11 +7,12 @@ use mathlib.Core.Option.{none, some}
 use Prim.Native.Nat.{ℕ, zero, suc, _+_, _*_, _-_, _/_, _%_, _^_, _≤_, _<_}
 use native.Mathlib.Nat.{one-le-pow, lt-div-mul-add, zero-mul, pow-zero, pow-suc, pow-succ', pow-le-pow-right, mul-le-mul-left, div-one, div-div-eq-div-mul, div-add-mod', mod-lt, mul-add-mod-self-right, mod-eq-of-lt, mul-add-div-right, div-eq-of-lt, add-zero}
 use native.Mathlib.Omega.{arith}
-use borrow.Author.Tests.{lt-ltb, le-ltb, ltb-true, ltb-false}
+use borrow.Author.Tests.{ne-eqb, lt-ltb, le-ltb, ltb-true, ltb-false}
 use lib.Dec.{ltb, lit<}
 use lib.ListN.{length}
 use Rattle.model.specs.Tests.{pick}
 use Rattle.text.specs.Digits.{glyph, digits, countIn, countOf, digitOf, numberFrom, number}
+use Rattle.text.specs.Find.{before}
 
 -- a test has one of two answers
 decided : (b : Bool) → (b ≡ true) ⊎ (b ≡ false)
@@ -195,3 +196,14 @@ number-lt b few pos cs n e =
     let l : n < n / b ^ length cs * b ^ length cs + b ^ length cs = lt-div-mul-add (one-le-pow (length cs) b pos) in
     let z : n / b ^ length cs * b ^ length cs ≡ 0 = ap (λ (k : ℕ). k * b ^ length cs) (w .above) ∙ zero-mul (b ^ length cs) in
     omega arith
+
+-- no digit is a dot
+glyph-ge : (d : ℕ) → 48 ≤ glyph d
+glyph-ge d = ⊎-elim (λ q. omega (arith, glyph-low d (ltb-true d 10 q))) (λ q. omega (arith, glyph-high d (ltb-false d 10 q))) (decided (ltb d 10))
+
+pub before-dot : (b w n : ℕ) (ys : List ℕ) → before 46 (digits b w n ++ (46 ∷ ys)) ≡ w
+unfolding before digits
+before-dot b zero n ys = refl
+before-dot b (suc w) n ys =
+    let g = glyph-ge (n / b ^ w % b) in
+    rw (ne-eqb (glyph (n / b ^ w % b)) 46 (λ q. omega arith)) (ap suc (before-dot b w n ys))

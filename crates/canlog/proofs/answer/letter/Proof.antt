@@ -1,10 +1,9 @@
+-- `answer::letter` meets its contract.
 use Rattle.canlog.specs.Answer.{letterOf}
 use borrow.Author.Tests.{ne-eqb}
-use mathlib.Core.Path.{_≡_, sym, ap}
+use mathlib.Core.Path.{sym, ap}
 use Rattle.canlog.proofs.answer.letter.Statement.{statement}
 use Rattle.canlog.proofs.answer.letter.Tie as tie
-use Rattle.canlog.proofs.answer.letter.Reads as reads
-use Rattle.canlog.proofs.answer.letter.Lts as lts
 
 returns : tie.Need-returns
 returns c = ap letterOf (sym (c .match .keys1))

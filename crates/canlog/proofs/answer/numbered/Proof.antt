@@ -1,15 +1,12 @@
+-- `answer::numbered` meets its contract.
 use Rattle.canlog.specs.Answer.{numbered}
 use Rattle.text.proofs.Puts.{puts-next}
-use Rattle.text.specs.Digits.{words, Puts}
+use Rattle.text.specs.Digits.{words}
 use native.Mathlib.Omega.{arith}
 use mathlib.Core.List.{[], _∷_, _++_}
 use borrow.Author.Needs.{needs}
 use Rattle.canlog.proofs.answer.numbered.Statement.{statement}
 use Rattle.canlog.proofs.answer.numbered.Tie as tie
-use Rattle.canlog.proofs.answer.numbered.Reads as reads
-use Rattle.canlog.proofs.answer.numbered.Lts as lts
-use Rattle.canlog.proofs.answer.put.Reads as put-reads
-use Rattle.text.proofs.put_words.Reads as put-words-reads
 
 put-requires : tie.Need-put-requires
 put-requires c κs = search needs
@@ -46,13 +43,12 @@ returns c =
     let k3 = w .kept .0 in
     let e = r-put .put .ensures .end in
     let e2 = r-put2 .put2 .ensures .end in
-    let e3 = w .ensures .1 in
-    (
+    let e3 = w .ensures .1 in (
       puts-next m (r-put .put .last .0) (r-put3 .put3 .last .0) (a .at) (r-put .put .result) (r-put3 .put3 .result) (32 ∷ []) (a .sign ∷ (words vs ++ (10 ∷ []))) (r-put .put .ensures)
-      (puts-next (r-put .put .last .0) (r-put2 .put2 .last .0) (r-put3 .put3 .last .0) (r-put .put .result) (r-put2 .put2 .result) (r-put3 .put3 .result) (a .sign ∷ []) (words vs ++ (10 ∷ [])) (r-put2 .put2 .ensures)
-      (puts-next (r-put2 .put2 .last .0) (w .last .0) (r-put3 .put3 .last .0) (r-put2 .put2 .result) (w .result) (r-put3 .put3 .result) (words vs) (10 ∷ []) (w .ensures .0) (r-put3 .put3 .ensures) (omega (arith, s .pre, w .ensures .0 .end)))
-      (omega (arith, s .pre)))
-      (omega (arith, s .pre)),
+          (puts-next (r-put .put .last .0) (r-put2 .put2 .last .0) (r-put3 .put3 .last .0) (r-put .put .result) (r-put2 .put2 .result) (r-put3 .put3 .result) (a .sign ∷ []) (words vs ++ (10 ∷ [])) (r-put2 .put2 .ensures)
+          (puts-next (r-put2 .put2 .last .0) (w .last .0) (r-put3 .put3 .last .0) (r-put2 .put2 .result) (w .result) (r-put3 .put3 .result) (words vs) (10 ∷ []) (w .ensures .0) (r-put3 .put3 .ensures) (omega (arith, s .pre, w .ensures .0 .end)))
+          (omega (arith, s .pre)))
+          (omega (arith, s .pre)),
       omega (arith, s .pre, r-put3 .put3 .ensures .end),
     )
 

@@ -1,23 +1,18 @@
+-- `answer::put_answer` meets its contract.
 use Rattle.canlog.specs.Answer.{numbered, transferText, answerText}
 use Rattle.text.specs.Digits.{Puts}
 use Rattle.session.specs.declared.Transfer.{Transfer}
 use Rattle.session.specs.declared.Answer.the-variants.{Handed}
 use Rattle.session.specs.declared.Answer.{Answer}
-use Rattle.session.specs.Answer.{numberOf}
 use lib.Seq.{take-all}
-use lib.ListN.{length, take, drop}
-use native.Mathlib.Omega.{arith}
+use lib.ListN.{length, take}
 use native.Mathlib.Nat.{sub-zero}
-use Prim.Native.Nat.{ℕ, _-_, _≤_, _<_}
+use Prim.Native.Nat.{ℕ, _-_, _≤_}
 use mathlib.Core.List.{List}
-use mathlib.Core.Path.{_≡_, refl, sym, ap, _∙_}
+use mathlib.Core.Path.{_≡_}
 use borrow.Author.Needs.{needs}
 use Rattle.canlog.proofs.answer.put_answer.Statement.{statement}
 use Rattle.canlog.proofs.answer.put_answer.Tie as tie
-use Rattle.canlog.proofs.answer.put_answer.Reads as reads
-use Rattle.canlog.proofs.answer.put_answer.Lts as lts
-use Rattle.canlog.proofs.answer.numbered.Reads as numbered-reads
-use Rattle.canlog.proofs.answer.put_transfer.Reads as put-transfer-reads
 
 -- the text of the answer that was matched
 abbrev Put : Answer → List ℕ → List ℕ → List ℕ → ℕ → ℕ → Type 0

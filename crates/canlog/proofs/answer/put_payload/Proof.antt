@@ -1,18 +1,15 @@
+-- `answer::put_payload` meets its contract.
 use Rattle.canlog.specs.Answer.{payloadText}
 use Rattle.text.proofs.Puts.{length-hexes}
-use Rattle.text.specs.Digits.{hexes, Puts}
+use Rattle.text.specs.Digits.{hexes}
 use lib.ListN.{length}
 use native.Mathlib.Omega.{arith}
-use Prim.Native.Nat.{ℕ, _+_, _≤_}
+use Prim.Native.Nat.{ℕ}
 use mathlib.Core.List.{List, [], _∷_}
-use mathlib.Core.Path.{_≡_, refl, sym, ap}
+use mathlib.Core.Path.{_≡_, refl}
 use borrow.Author.Needs.{needs}
 use Rattle.canlog.proofs.answer.put_payload.Statement.{statement}
 use Rattle.canlog.proofs.answer.put_payload.Tie as tie
-use Rattle.canlog.proofs.answer.put_payload.Reads as reads
-use Rattle.canlog.proofs.answer.put_payload.Lts as lts
-use Rattle.canlog.proofs.answer.put.Reads as put-reads
-use Rattle.text.proofs.put_hexes.Reads as put-hexes-reads
 
 empty : (p : List ℕ) → length p ≡ 0 → payloadText p ≡ 45 ∷ []
 empty [] e = refl

@@ -1,17 +1,16 @@
+-- `read::is_shaped` meets its contract.
 use Rattle.canlog.specs.Reading.{shaped}
 use lib.ListN.{length, getD}
-use lib.Dec.{ltb, leb, eqb}
+use lib.Dec.{eqb}
 use borrow.Author.Tests.{lt-ltb, le-ltb, le-leb, lt-leb, eq-eqb, ne-eqb}
 use native.Mathlib.Omega.{arith}
 use Prim.Native.Nat.{ℕ, _+_, _-_, _%_, _≤_, _<_}
 use mathlib.Core.List.{List}
-use mathlib.Core.Bool.{true, false}
-use mathlib.Core.Path.{_≡_, refl, sym, ap, _∙_}
+use mathlib.Core.Bool.{false}
+use mathlib.Core.Path.{_≡_}
 use borrow.Author.Needs.{needs}
 use Rattle.canlog.proofs.read.is_shaped.Statement.{statement}
 use Rattle.canlog.proofs.read.is_shaped.Tie as tie
-use Rattle.canlog.proofs.read.is_shaped.Reads as reads
-use Rattle.canlog.proofs.read.is_shaped.Lts as lts
 
 module _ (l : List ℕ) (s : ℕ) where
   none : s ≡ 0 → false ≡ shaped s l
@@ -37,21 +36,38 @@ module _ (l : List ℕ) (s : ℕ) where
           part : 0 < (length l - (s + 14)) % 3 → false ≡ shaped s l
           unfolding shaped
           part h =
-              rw (lt-ltb 0 s (omega (arith, h₁)), le-leb s 9 h₂, le-leb (s + 14) (length l) h₃, le-leb (length l) (s + 38) h₄,
-                ne-eqb ((length l - (s + 14)) % 3) 0 (λ q. omega arith))
+              rw (
+                lt-ltb 0 s (omega (arith, h₁)),
+                le-leb s 9 h₂,
+                le-leb (s + 14) (length l) h₃,
+                le-leb (length l) (s + 38) h₄,
+                ne-eqb ((length l - (s + 14)) % 3) 0 (λ q. omega arith),
+              )
 
           module _ (h₅ : (length l - (s + 14)) % 3 ≤ 0) where
             off : (getD l (s + 4) 0 ≡ 32 → ⊥) → false ≡ shaped s l
             unfolding shaped
             off h =
-                rw (lt-ltb 0 s (omega (arith, h₁)), le-leb s 9 h₂, le-leb (s + 14) (length l) h₃, le-leb (length l) (s + 38) h₄,
-                  eq-eqb ((length l - (s + 14)) % 3) 0 (omega arith), ne-eqb (getD l (s + 4) 0) 32 h)
+                rw (
+                  lt-ltb 0 s (omega (arith, h₁)),
+                  le-leb s 9 h₂,
+                  le-leb (s + 14) (length l) h₃,
+                  le-leb (length l) (s + 38) h₄,
+                  eq-eqb ((length l - (s + 14)) % 3) 0 (omega arith),
+                  ne-eqb (getD l (s + 4) 0) 32 h,
+                )
 
             last : getD l (s + 4) 0 ≡ 32 → eqb (getD l (length l - 1) 0) 10 ≡ shaped s l
             unfolding shaped
             last h =
-                rw (lt-ltb 0 s (omega (arith, h₁)), le-leb s 9 h₂, le-leb (s + 14) (length l) h₃, le-leb (length l) (s + 38) h₄,
-                  eq-eqb ((length l - (s + 14)) % 3) 0 (omega arith), eq-eqb (getD l (s + 4) 0) 32 h)
+                rw (
+                  lt-ltb 0 s (omega (arith, h₁)),
+                  le-leb s 9 h₂,
+                  le-leb (s + 14) (length l) h₃,
+                  le-leb (length l) (s + 38) h₄,
+                  eq-eqb ((length l - (s + 14)) % 3) 0 (omega arith),
+                  eq-eqb (getD l (s + 4) 0) 32 h,
+                )
 
 returns : tie.Need-returns
 returns c =

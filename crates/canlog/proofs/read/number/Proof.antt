@@ -1,3 +1,4 @@
+-- `read::number` meets its contract.
 use Rattle.text.specs.Digits.{number, asNumber}
 use Rattle.bits.specs.Part.{span}
 use native.Mathlib.Nat.{add-sub-cancel-left}
@@ -6,9 +7,6 @@ use mathlib.Core.Path.{ap, _∙_}
 use borrow.Author.Needs.{needs}
 use Rattle.canlog.proofs.read.number.Statement.{statement}
 use Rattle.canlog.proofs.read.number.Tie as tie
-use Rattle.canlog.proofs.read.number.Reads as reads
-use Rattle.canlog.proofs.read.number.Lts as lts
-use Rattle.text.proofs.number.Reads as number-reads
 
 add-number : tie.Need-add-number
 add-number c = search needs

@@ -1,11 +1,8 @@
+-- `read::pair` meets its contract.
 use Rattle.canlog.proofs.Steps.{is, not, byte, no-byte, no-space}
-use native.Mathlib.Omega.{arith}
 use borrow.Author.Needs.{needs}
 use Rattle.canlog.proofs.read.pair.Statement.{statement}
 use Rattle.canlog.proofs.read.pair.Tie as tie
-use Rattle.canlog.proofs.read.pair.Reads as reads
-use Rattle.canlog.proofs.read.pair.Lts as lts
-use Rattle.canlog.proofs.read.number.Reads as number-reads
 
 shared-slice-read-if1 : tie.Need-shared-slice-read-if1
 shared-slice-read-if1 c = search needs

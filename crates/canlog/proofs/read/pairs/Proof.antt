@@ -1,17 +1,13 @@
+-- `read::pairs` meets its contract.
 use Rattle.canlog.proofs.Steps.{ahead, begun, on, off, done}
 use Rattle.canlog.specs.Reading.{pairs}
 use lib.ListN.{length, take, drop, length-set}
 use native.Mathlib.Omega.{arith}
 use native.Mathlib.Numerals.{add-one}
-use native.Mathlib.Nat.{sub-zero, add-zero}
-use Prim.Native.Nat.{ℕ, _+_, _*_, _-_, _≤_}
-use mathlib.Core.List.{List}
-use mathlib.Core.Path.{_≡_, refl, sym, ap, _∙_}
+use Prim.Native.Nat.{_+_, _*_, _-_, _≤_}
+use mathlib.Core.Path.{_≡_, refl}
 use Rattle.canlog.proofs.read.pairs.Statement.{statement}
 use Rattle.canlog.proofs.read.pairs.Tie as tie
-use Rattle.canlog.proofs.read.pairs.Reads as reads
-use Rattle.canlog.proofs.read.pairs.Lts as lts
-use Rattle.canlog.proofs.read.pair.Reads as pair-reads
 
 abbrev Inv-loop : tie.InvT-loop
 Inv-loop line at k bytes₀ j₀ bytes j = (j ≤ k) × ((length bytes ≡ 8) × (pairs k (drop at line) ≡ ahead (take j bytes) (pairs (k - j) (drop (at + j * 3) line))))
@@ -66,8 +62,7 @@ loop-again c =
     let r-loop = r-loop-test .before in
     let s = r-loop .before .before in
     let a = s .args in
-    let v = r-loop .loop .inv .1 in
-    (
+    let v = r-loop .loop .inv .1 in (
       omega arith,
       (
         simp length-set (v .0),
