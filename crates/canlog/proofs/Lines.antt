@@ -310,3 +310,26 @@ module _ (f : Frame) (fine : Carried f) where
   unfolding said fieldsOf framed s sec
   line-back =
       rw (dot-at, reshape s (lineOf f) line-shape, seconds-back, milliseconds-back, id-back, bytes-back, eq-eqb (countOf (f .time / 1000000)) s refl, time-back)
+
+-- ── the time in front ──
+
+pub record Timed (l : List ℕ) (f : Frame) : Type 0 where
+  pub text : take (before 46 l + 4) l ≡ timeText (f .time)
+  pub long : before 46 l + 4 ≤ length l
+  pub few : before 46 l ≤ 9
+
+pub timed : (l : List ℕ) (f : Frame) → said l ≡ some f → Timed l f
+unfolding lineOf timeText decimal s
+timed l f e =
+    let r = read l f e in
+    let fine = r .carried in
+    let w = countOf (f .time / 1000000) in
+    let d : before 46 l ≡ w = ap (before 46) (sym (r .line)) ∙ dot-at f fine in
+    let t = timeText (f .time) in
+    let n : length t ≡ w + 4 =
+    omega (arith, length-append (decimal (f .time / 1000000)) (46 ∷ digits 10 3 (f .time / 1000 % 1000)), length-digits 10 w (f .time / 1000000), length-digits 10 3 (f .time / 1000 % 1000)) in
+    record {
+      text = ap (λ (k : ℕ). take (k + 4) l) d ∙ ap (λ (x : List ℕ). take (w + 4) x) (sym (r .line)) ∙ take-at t (32 ∷ (digits 16 8 (f .id) ++ (dataText (f .bytes) ++ (10 ∷ [])))) (w + 4) n;
+      long = omega (arith, d, ap length (r .line), long f fine);
+      few = omega (arith, d, s-few f fine);
+    }

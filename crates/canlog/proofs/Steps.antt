@@ -8,7 +8,7 @@ use native.Mathlib.Nat.{add-zero, sub-zero, pow-le-pow-right}
 use native.Mathlib.Omega.{arith}
 use borrow.Author.Tests.{lt-ltb, le-leb, eq-eqb, ne-eqb, ltb-true, leb-true, eqb-true}
 use lib.Dec.{lit<, ltb, leb, eqb}
-use lib.ListN.{length, getD, take, drop, set, length-drop}
+use lib.ListN.{replicate, length, getD, take, drop, set, length-drop}
 use lib.Seq.{drop-drop, getD-drop, append-snoc, take-suc-set}
 use Rattle.bits.specs.Part.{span}
 use Rattle.bits.proofs.Splice.{length-span}
@@ -164,8 +164,8 @@ reshape s l h =
 
 -- ── the numbers ──
 
-pub unread : (s : ℕ) (says : Option Frame) (r : Line) → r .ok ≡ false → says ≡ none → Reads s says r
-unread s says r e n = record { frame = rw (e, n); head = λ q. absurd (false≢true (sym e ∙ q)) }
+pub unread : (s : ℕ) (says : Option Frame) (r : Line) → r ≡ record { ok = false; head = 0; id = 0; time = 0; len = 0; bytes = replicate 8 0 } → says ≡ none → Reads s says r
+unread s says r e n = rw (e, n) (record { frame = refl; head = λ q. absurd (false≢true q); few = omega arith })
 
 module _ (s : ℕ) (l : List ℕ) where
   pub no-seconds : number 10 (span l 0 s) ≡ none → fieldsOf s l ≡ none

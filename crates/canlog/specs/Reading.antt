@@ -3,7 +3,7 @@ use mathlib.Core.Path.{_≡_}
 use mathlib.Core.Bool.{Bool, true, _&&_}
 use mathlib.Core.List.{List, [], _∷_}
 use mathlib.Core.Option.{Option, none, some}
-use Prim.Native.Nat.{ℕ, zero, suc, _+_, _*_, _-_, _/_, _%_}
+use Prim.Native.Nat.{ℕ, zero, suc, _+_, _*_, _-_, _/_, _%_, _≤_}
 use lib.Dec.{ltb, leb, eqb}
 use lib.ListN.{length, getD, take, drop}
 use Rattle.bits.specs.Part.{span}
@@ -68,7 +68,8 @@ bytesIn r k = pick (r .ok) (some (take k (r .bytes))) none
 abbrev pub frameIn : Line → Option Frame
 frameIn r = pick (r .ok) (some (record { id = r .id; bytes = take (r .len) (r .bytes); time = r .time })) none
 
--- the frame, and how many characters its time takes
+-- the frame, and how many characters its time takes; the bytes lie in the array
 pub record Reads (s : ℕ) (says : Option Frame) (r : Line) : Type 0 where
   pub frame : frameIn r ≡ says
   pub head : r .ok ≡ true → r .head ≡ s + 4
+  pub few : r .len ≤ 8

@@ -60,7 +60,7 @@ returns-2 c =
     let r-find = r-is-shaped .before in
     let s = r-find .before .before in
     let l = s .args .line .now in
-    unread (before 46 l) (said l) (r-ill-formed .ill-formed .result) (ap (λ (x : Line). x .ok) (r-ill-formed .ill-formed .ensures))
+    unread (before 46 l) (said l) (r-ill-formed .ill-formed .result) (r-ill-formed .ill-formed .ensures)
     (misfits l (r-find .find .result) (dot l (r-find .find .result) (r-find .find .ensures .0)) (sym (r-if1 .if1 .left) ∙ r-is-shaped .is-shaped .ensures))
 
 pub read-spec : {M : Type 1} → statement M
