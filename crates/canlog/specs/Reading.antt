@@ -72,4 +72,4 @@ frameIn r = pick (r .ok) (some (record { id = r .id; bytes = take (r .len) (r .b
 pub record Reads (s : ℕ) (says : Option Frame) (r : Line) : Type 0 where
   pub frame : frameIn r ≡ says
   pub head : r .ok ≡ true → r .head ≡ s + 4
-  pub few : r .len ≤ 8
+  pub few : r .len ≤ length (r .bytes)

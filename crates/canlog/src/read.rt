@@ -63,7 +63,7 @@ fn pair(line: &[u8], at: usize) -> u64
 
 fn pairs(line: &[u8], at: usize, k: usize) -> Bytes
     requires { ⌜ (k ≤ 8) × (at + k * 3 ≤ length (now line)) ⌝ }
-    ensures { λ r. ⌜ bytesIn r k ≡ pairsOf k (drop at (now (line .entry))) ⌝ }
+    ensures { λ r. ⌜ (bytesIn r k ≡ pairsOf k (drop at (now (line .entry)))) × (length (r .bytes) ≡ 8) ⌝ }
 {
     let mut bytes = [0u8; 8];
     let mut j = 0;

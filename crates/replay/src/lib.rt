@@ -69,16 +69,22 @@ fn counted(c: Counts, handed: bool) -> Counts
 fn is_handed(a: Answer) -> bool
     ensures { λ r. ⌜ r ≡ isHanded a ⌝ }
 {
-    if let Answer::Handed(_) = a {
-        return true;
+    match a {
+        Answer::Taken => false,
+        Answer::Handed(_) => true,
+        Answer::Refused(_) => false,
+        Answer::Full => false,
+        Answer::Passed => false,
+        Answer::TooLong => false,
+        Answer::BadChecksum => false,
+        Answer::Faulty => false,
     }
-    false
 }
 
 // A line that is not well formed: "? - 18".
 fn refuse(out: &mut [u8], c: Counts) -> Told
     requires { ⌜ room ≤ length (now out) ⌝ }
-    ensures { λ r. ⌜ result r [] (now (out .exit)) ≡ given c (now (out .entry)) (reply [] none) ⌝ }
+    ensures { λ r. ⌜ (r ≡ given c (now (out .entry)) (reply [] none) .answer) × (now (out .exit) ≡ given c (now (out .entry)) (reply [] none) .out) ⌝ }
 {
     out[0] = b'?';
     let p = canlog::answer::numbered(out, 1, b'-', 18);

@@ -1,13 +1,17 @@
+-- `receive` meets its contract.
+use Rattle.replay.proofs.Replies.{head-in, head-few, replied}
+use Rattle.replay.specs.Replay.{counted}
+use Rattle.receiver.specs.Receive.{frameOf, received}
+use Rattle.bits.specs.Part.{splice}
+use lib.Seq.{length-take-le}
+use lib.ListN.{length, take, replicate}
+use native.Mathlib.Nat.{sub-zero}
+use Prim.Native.Nat.{ℕ, _-_}
+use mathlib.Core.Path.{_≡_, ap, _∙_}
+use native.Mathlib.Omega.{arith}
 use borrow.Author.Needs.{needs}
 use Rattle.replay.proofs.receive.Statement.{statement}
 use Rattle.replay.proofs.receive.Tie as tie
-use Rattle.replay.proofs.receive.Reads as reads
-use Rattle.replay.proofs.receive.Lts as lts
-use Rattle.bits.proofs.part.copy_at.Reads as copy-at-reads
-use Rattle.canlog.proofs.answer.put_answer.Reads as put-answer-reads
-use Rattle.receiver.proofs.receive.Reads as receive-reads
-use Rattle.replay.proofs.counted.Reads as counted-reads
-use Rattle.replay.proofs.is_handed.Reads as is-handed-reads
 
 sub-receive : tie.Need-sub-receive
 sub-receive c = search needs
@@ -16,7 +20,9 @@ part-receive-start : tie.Need-part-receive-start
 part-receive-start c = search needs
 
 part-receive-end : tie.Need-part-receive-end
-part-receive-end c = ?
+part-receive-end c =
+    let s = c .before .before .before .before .before .before in
+    omega (arith, s .pre .0 .few)
 
 slice-aggregate-receive : tie.Need-slice-aggregate-receive
 slice-aggregate-receive c = search needs
@@ -31,16 +37,30 @@ part-copy-at-start : tie.Need-part-copy-at-start
 part-copy-at-start c = search needs
 
 part-copy-at-end : tie.Need-part-copy-at-end
-part-copy-at-end c = ?
+part-copy-at-end c =
+    let s = c .before .before .before .before .before .before .before .before .before .before .before .before .before in
+    let p = s .pre in
+    head-in (s .args .line .now) (s .args .l) (p .0) (p .1 .0)
 
 copy-at-requires : tie.Need-copy-at-requires
-copy-at-requires c κs = ?
+copy-at-requires c κs =
+    let s = c .before .before .before .before .before .before .before .before .before .before .before .before .before .before in
+    let p = s .pre in
+    let l = s .args .line .now in
+    let k = s .args .l .head in
+    let n : length (take (k - 0) l) ≡ k = ap (λ (x : ℕ). length (take x l)) (sub-zero k) ∙ length-take-le k l (head-in l (s .args .l) (p .0) (p .1 .0)) in
+    omega (arith, n, head-few l (s .args .l) (p .0) (p .1 .0), p .1 .1)
 
 slice-aggregate-put-answer : tie.Need-slice-aggregate-put-answer
 slice-aggregate-put-answer c = search needs
 
 put-answer-requires : tie.Need-put-answer-requires
-put-answer-requires c κs = ?
+put-answer-requires c κs =
+    let r-copy-at = c .before .before .before .before in
+    let r-receive = r-copy-at .before .before .before .before .before .before in
+    let s = r-receive .before .before .before .before .before .before .before .before .before in
+    let p = s .pre in
+    omega (arith, r-copy-at .copy-at .kept .0, r-receive .receive .kept .1 .1 .1 .1 .0, head-few (s .args .line .now) (s .args .l) (p .0) (p .1 .0), p .1 .1)
 
 is-handed-requires : tie.Need-is-handed-requires
 is-handed-requires c κs = search needs
@@ -55,7 +75,22 @@ same-length-2 : tie.Need-same-length-2
 same-length-2 c = search needs
 
 returns : tie.Need-returns
-returns c = ?
+returns c =
+    let r-counted = c in
+    let r-is-handed = r-counted .before in
+    let r-put-answer = r-is-handed .before .before .before in
+    let r-copy-at = r-put-answer .before .before .before .before .before in
+    let r-receive = r-copy-at .before .before .before .before .before .before in
+    let s = r-receive .before .before .before .before .before .before .before .before .before in
+    let a = s .args in
+    let p = s .pre in
+    let l = a .line .now in
+    replied l (a .l) (p .0) (p .1 .0) (a .state .now) (r-receive .receive .last .0) (r-receive .receive .last .1 .1 .1 .1 .0) (a .out .now) (r-copy-at .copy-at .last .0) (r-put-answer .put-answer .last .0) (a .c) (r-counted .counted .result) (r-receive .receive .result) (r-put-answer .put-answer .result)
+    (omega (arith, head-few l (a .l) (p .0) (p .1 .0), p .1 .1))
+    (r-receive .receive .ensures ∙ ap (λ (k : ℕ). received (a .state .now) (frameOf (a .l .id) (take k (a .l .bytes)) (a .l .time)) (replicate 512 0)) (sub-zero (a .l .len)))
+    (r-copy-at .copy-at .ensures ∙ ap (λ (k : ℕ). splice (a .out .now) 0 (take k l)) (sub-zero (a .l .head)))
+    (r-put-answer .put-answer .ensures .0)
+    (r-counted .counted .ensures ∙ ap (counted (a .c)) (r-is-handed .is-handed .ensures))
 
 pub receive-spec : {M : Type 1} → statement M
 receive-spec =

@@ -1,10 +1,9 @@
+-- `set_up` meets its contract.
+use Rattle.setup.specs.Setup.{setUp}
+use mathlib.Core.Path.{ap, _∙_}
 use borrow.Author.Needs.{needs}
 use Rattle.replay.proofs.set_up.Statement.{statement}
 use Rattle.replay.proofs.set_up.Tie as tie
-use Rattle.replay.proofs.set_up.Reads as reads
-use Rattle.replay.proofs.set_up.Lts as lts
-use Rattle.setup.proofs.setup.Reads as setup-reads
-use Rattle.types.proofs.subscriptions.Reads as subscriptions-reads
 
 subscriptions-requires : tie.Need-subscriptions-requires
 subscriptions-requires c κs = search needs
@@ -19,7 +18,11 @@ same-length : tie.Need-same-length
 same-length c = search needs
 
 returns : tie.Need-returns
-returns c = ?
+returns c =
+    let r-setup = c .before .before in
+    let r-subscriptions = r-setup .before .before .before in
+    let s = r-subscriptions .before .before in
+    r-setup .setup .ensures ∙ ap (setUp (s .args .state .now) 1) (r-subscriptions .subscriptions .ensures)
 
 pub set-up-spec : {M : Type 1} → statement M
 set-up-spec =

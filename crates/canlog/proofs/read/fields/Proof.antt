@@ -1,8 +1,7 @@
 -- `read::fields` meets its contract.
 use Rattle.canlog.proofs.Steps.{is, not, shape, unread, no-seconds, needless-zero, no-milliseconds, no-id, read-all, field-lt, sec-lt}
-use Rattle.canlog.specs.declared.read.Line.{Line}
 use native.Mathlib.Omega.{arith}
-use mathlib.Core.Path.{refl, sym, ap, _∙_}
+use mathlib.Core.Path.{refl, sym, _∙_}
 use Prim.Native.Nat.{_+_}
 use borrow.Author.Needs.{needs}
 use Rattle.canlog.proofs.read.fields.Statement.{statement}
@@ -176,7 +175,7 @@ returns-4 c =
     let sec = is _ (r-number .number .result) _ (r-number .number .ensures) (r-sec .sec .given .1) in
     let ms = is _ (r-number2 .number2 .result) _ (r-number2 .number2 .ensures) (r-ms .ms .given .1) in
     let id = is _ (r-number3 .number3 .result) _ (r-number3 .number3 .ensures) (r-id .id .given .1) in
-    record { frame = read-all (a .s) (a .line .now) _ sec _ ms _ id (sym (r-count .count .ensures .0) ∙ r-if1 .if1 .taken) (r-pairs .pairs .result .ok) _ (r-pairs .pairs .ensures); head = λ q. refl; few = omega (arith, shape (a .s) (a .line .now) (s .pre) .short) }
+    record { frame = read-all (a .s) (a .line .now) _ sec _ ms _ id (sym (r-count .count .ensures .0) ∙ r-if1 .if1 .taken) (r-pairs .pairs .result .ok) _ (r-pairs .pairs .ensures .0); head = λ q. refl; few = omega (arith, shape (a .s) (a .line .now) (s .pre) .short, r-pairs .pairs .ensures .1) }
 
 ill-formed-requires-4 : tie.Need-ill-formed-requires-4
 ill-formed-requires-4 c κs = search needs

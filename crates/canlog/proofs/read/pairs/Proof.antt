@@ -39,8 +39,10 @@ returns c =
     let r-loop-test = r-pair .before in
     let r-loop = r-loop-test .before in
     let s = r-loop .before .before in
-    let a = s .args in
-    off (a .line .now) (r-loop .loop .bytes) (a .at) (a .k) (r-loop .loop .j) (r-loop-test .loop-test .taken) (s .pre .1) (r-loop .loop .inv .1 .1) (r-pair .pair .result) (r-pair .pair .ensures) (r-if1 .if1 .taken)
+    let a = s .args in (
+      off (a .line .now) (r-loop .loop .bytes) (a .at) (a .k) (r-loop .loop .j) (r-loop-test .loop-test .taken) (s .pre .1) (r-loop .loop .inv .1 .1) (r-pair .pair .result) (r-pair .pair .ensures) (r-if1 .if1 .taken),
+      r-loop .loop .inv .1 .0,
+    )
 
 cast-bytes : tie.Need-cast-bytes Inv-loop μ-loop
 cast-bytes c = omega arith
@@ -74,8 +76,10 @@ returns-2 : tie.Need-returns-2 Inv-loop μ-loop
 returns-2 c =
     let r-loop = c .before in
     let s = r-loop .before .before in
-    let a = s .args in
-    done (a .line .now) (r-loop .loop .bytes) (a .at) (a .k) (r-loop .loop .j) (omega arith) (r-loop .loop .inv .1 .1)
+    let a = s .args in (
+      done (a .line .now) (r-loop .loop .bytes) (a .at) (a .k) (r-loop .loop .j) (omega arith) (r-loop .loop .inv .1 .1),
+      r-loop .loop .inv .1 .0,
+    )
 
 pub pairs-spec : {M : Type 1} → statement M
 pairs-spec =
