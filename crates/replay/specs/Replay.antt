@@ -67,6 +67,11 @@ abbrev pub numberOf : Told → ℕ
 numberOf Small = 8
 numberOf (Line s) = 0
 
+-- how many bytes of text there are
+abbrev pub lenOf : Told → ℕ
+lenOf Small = 0
+lenOf (Line s) = s .len
+
 -- room for the longest text, with some to spare
 abbrev pub room : ℕ
 room = 1200

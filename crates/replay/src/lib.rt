@@ -9,7 +9,7 @@ ghost use mathlib.Core.Option.{none};
 ghost use Prim.Native.Nat.{_≤_};
 ghost use lib.ListN.{length};
 ghost use Rattle.canlog.specs.Reading.{said, Reads};
-ghost use Rattle.replay.specs.Replay.{up as upOf, counted as countedOf, isHanded, endText, reply, room, result, given, replayed};
+ghost use Rattle.replay.specs.Replay.{up as upOf, counted as countedOf, isHanded, endText, reply, lenOf, room, result, given, replayed};
 ghost use Rattle.setup.specs.Setup.{setUp, result as setupResult};
 ghost use Rattle.text.specs.Digits.{Puts};
 ghost use Rattle.text.specs.Find.{before};
@@ -84,7 +84,7 @@ fn is_handed(a: Answer) -> bool
 // A line that is not well formed: "? - 18".
 fn refuse(out: &mut [u8], c: Counts) -> Told
     requires { ⌜ room ≤ length (now out) ⌝ }
-    ensures { λ r. ⌜ (r ≡ given c (now (out .entry)) (reply [] none) .answer) × (now (out .exit) ≡ given c (now (out .entry)) (reply [] none) .out) ⌝ }
+    ensures { λ r. ⌜ (r ≡ given c (now (out .entry)) (reply [] none) .answer) × ((now (out .exit) ≡ given c (now (out .entry)) (reply [] none) .out) × (lenOf r ≤ length (now (out .entry)))) ⌝ }
 {
     out[0] = b'?';
     let p = canlog::answer::numbered(out, 1, b'-', 18);
@@ -97,7 +97,7 @@ fn refuse(out: &mut [u8], c: Counts) -> Told
 // A well-formed line.
 fn receive(state: &mut [u8], l: Line, line: &[u8], c: Counts, out: &mut [u8]) -> Told
     requires { ⌜ (Reads (before 46 (now line)) (said (now line)) l) × ((l .ok ≡ true) × (room ≤ length (now out))) ⌝ }
-    ensures { λ r. ⌜ result r (now (state .exit)) (now (out .exit)) ≡ given c (now (out .entry)) (reply (now (state .entry)) (said (now (line .entry)))) ⌝ }
+    ensures { λ r. ⌜ (result r (now (state .exit)) (now (out .exit)) ≡ given c (now (out .entry)) (reply (now (state .entry)) (said (now (line .entry))))) × (lenOf r ≤ length (now (out .entry))) ⌝ }
 {
     let bytes = l.bytes;
     let n = l.len;
@@ -116,6 +116,7 @@ fn receive(state: &mut [u8], l: Line, line: &[u8], c: Counts, out: &mut [u8]) ->
 // counts. A line that is not well formed is answered in the text (18) and leaves the receiver as it was.
 pub fn line(state: &mut [u8], line: &[u8], c: Counts, out: &mut [u8]) -> Told
     ensures { λ r. ⌜ result r (now (state .exit)) (now (out .exit)) ≡ replayed (now (state .entry)) (now (line .entry)) c (now (out .entry)) ⌝ }
+    ensures { λ r. ⌜ lenOf r ≤ length (now (out .entry)) ⌝ }
 {
     if out.len() < 1200 {
         return Told::Small;

@@ -7,6 +7,7 @@ use Rattle.text.specs.Find.{before}
 use Rattle.canlog.specs.declared.read.Line as line
 use Rattle.canlog.specs.Reading.{said, Reads}
 use lib.ListN.{length}
+use native.Mathlib.Omega.{arith}
 use borrow.Author.Tests.{lt-ltb, le-ltb}
 use Prim.Native.Nat.{ℕ, _≤_, _<_}
 use mathlib.Core.Option.{none}
@@ -37,8 +38,10 @@ module _ (m l out : List ℕ) (c : Counts) where
 returns : tie.Need-returns
 returns c =
     let r-if1 = c in
-    let s = r-if1 .before .before .before .before in
-    small (s .args .state .now) (s .args .line .now) (s .args .out .now) (s .args .c) (r-if1 .if1 .taken)
+    let s = r-if1 .before .before .before .before in (
+      small (s .args .state .now) (s .args .line .now) (s .args .out .now) (s .args .c) (r-if1 .if1 .taken),
+      omega arith,
+    )
 
 read-requires : tie.Need-read-requires
 read-requires c κs = search needs
@@ -57,7 +60,7 @@ returns-2 c =
     let r-receive = c .before .before .before .before in
     let r-if1 = r-receive .before .before .before .before .before in
     let s = r-if1 .before .before .before .before in
-    r-receive .receive .ensures ∙ large (s .args .state .now) (s .args .line .now) (s .args .out .now) (s .args .c) (r-if1 .if1 .left)
+    (r-receive .receive .ensures .0 ∙ large (s .args .state .now) (s .args .line .now) (s .args .out .now) (s .args .c) (r-if1 .if1 .left), r-receive .receive .ensures .1)
 
 refuse-requires : tie.Need-refuse-requires
 refuse-requires c κs = search needs
@@ -71,8 +74,10 @@ returns-3 c =
     let r-if2 = r-refuse .before .before in
     let r-read = r-if2 .before in
     let r-if1 = r-read .before in
-    let s = r-if1 .before .before .before .before in
-    ill (s .args .state .now) (s .args .line .now) (s .args .out .now) (s .args .c) (r-read .read .result) (r-refuse .refuse .result) (r-refuse .refuse .last .0) (r-if1 .if1 .left) (r-read .read .ensures) (r-if2 .if2 .left) (r-refuse .refuse .ensures .0) (r-refuse .refuse .ensures .1)
+    let s = r-if1 .before .before .before .before in (
+      ill (s .args .state .now) (s .args .line .now) (s .args .out .now) (s .args .c) (r-read .read .result) (r-refuse .refuse .result) (r-refuse .refuse .last .0) (r-if1 .if1 .left) (r-read .read .ensures) (r-if2 .if2 .left) (r-refuse .refuse .ensures .0) (r-refuse .refuse .ensures .1 .0),
+      r-refuse .refuse .ensures .1 .1,
+    )
 
 pub line-spec : {M : Type 1} → statement M
 line-spec =

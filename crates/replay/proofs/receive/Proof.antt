@@ -84,13 +84,15 @@ returns c =
     let s = r-receive .before .before .before .before .before .before .before .before .before in
     let a = s .args in
     let p = s .pre in
-    let l = a .line .now in
-    replied l (a .l) (p .0) (p .1 .0) (a .state .now) (r-receive .receive .last .0) (r-receive .receive .last .1 .1 .1 .1 .0) (a .out .now) (r-copy-at .copy-at .last .0) (r-put-answer .put-answer .last .0) (a .c) (r-counted .counted .result) (r-receive .receive .result) (r-put-answer .put-answer .result)
-    (omega (arith, head-few l (a .l) (p .0) (p .1 .0), p .1 .1))
-    (r-receive .receive .ensures ∙ ap (λ (k : ℕ). received (a .state .now) (frameOf (a .l .id) (take k (a .l .bytes)) (a .l .time)) (replicate 512 0)) (sub-zero (a .l .len)))
-    (r-copy-at .copy-at .ensures ∙ ap (λ (k : ℕ). splice (a .out .now) 0 (take k l)) (sub-zero (a .l .head)))
-    (r-put-answer .put-answer .ensures .0)
-    (r-counted .counted .ensures ∙ ap (counted (a .c)) (r-is-handed .is-handed .ensures))
+    let l = a .line .now in (
+      replied l (a .l) (p .0) (p .1 .0) (a .state .now) (r-receive .receive .last .0) (r-receive .receive .last .1 .1 .1 .1 .0) (a .out .now) (r-copy-at .copy-at .last .0) (r-put-answer .put-answer .last .0) (a .c) (r-counted .counted .result) (r-receive .receive .result) (r-put-answer .put-answer .result)
+          (omega (arith, head-few l (a .l) (p .0) (p .1 .0), p .1 .1))
+          (r-receive .receive .ensures ∙ ap (λ (k : ℕ). received (a .state .now) (frameOf (a .l .id) (take k (a .l .bytes)) (a .l .time)) (replicate 512 0)) (sub-zero (a .l .len)))
+          (r-copy-at .copy-at .ensures ∙ ap (λ (k : ℕ). splice (a .out .now) 0 (take k l)) (sub-zero (a .l .head)))
+          (r-put-answer .put-answer .ensures .0)
+          (r-counted .counted .ensures ∙ ap (counted (a .c)) (r-is-handed .is-handed .ensures)),
+      omega (arith, r-put-answer .put-answer .ensures .1, r-copy-at .copy-at .kept .0),
+    )
 
 pub receive-spec : {M : Type 1} → statement M
 receive-spec =

@@ -18,13 +18,13 @@ use borrow.Author.Needs.{needs}
 use Rattle.replay.proofs.refuse.Statement.{statement}
 use Rattle.replay.proofs.refuse.Tie as tie
 
-refused : (m m' : List ℕ) (c c' : Counts) (p : ℕ) → 1200 ≤ length m → Puts (set m 0 63) m' 1 p (numbered 45 18) → c' ≡ counted c false
-    → (Line (record { len = p; counts = c' }) ≡ given c m (reply [] none) .answer) × (m' ≡ given c m (reply [] none) .out)
+refused : (m m' : List ℕ) (c c' : Counts) (p : ℕ) → 1200 ≤ length m → Puts (set m 0 63) m' 1 p (numbered 45 18) → p ≤ length (set m 0 63) → c' ≡ counted c false
+    → (Line (record { len = p; counts = c' }) ≡ given c m (reply [] none) .answer) × ((m' ≡ given c m (reply [] none) .out) × (p ≤ length m))
 unfolding reply
-refused m m' c c' p h f e =
+refused m m' c c' p h f l e =
     let f₀ : Puts m (set m 0 63) 0 1 (63 ∷ []) = record { out = set-splice m 0 63 (omega arith); end = refl } in
     let g = char-next m (set m 0 63) m' 0 1 p 63 (numbered 45 18) f₀ f (omega arith) in
-    (ap₂ (λ (n : ℕ) (k : Counts). Line (record { len = n; counts = k })) (g .end ∙ zero-add _) e, g .out)
+    (ap₂ (λ (n : ℕ) (k : Counts). Line (record { len = n; counts = k })) (g .end ∙ zero-add _) e, (g .out, omega (arith, length-set m 0 63)))
 
 slice-write-out : tie.Need-slice-write-out
 slice-write-out c = search needs
@@ -48,7 +48,7 @@ returns c =
     let r-counted = c in
     let r-numbered = r-counted .before .before .before in
     let s = r-numbered .before .before .before in
-    refused (s .args .out .now) (r-numbered .numbered .last .0) (s .args .c) (r-counted .counted .result) (r-numbered .numbered .result) (s .pre) (r-numbered .numbered .ensures .0) (r-counted .counted .ensures)
+    refused (s .args .out .now) (r-numbered .numbered .last .0) (s .args .c) (r-counted .counted .result) (r-numbered .numbered .result) (s .pre) (r-numbered .numbered .ensures .0) (r-numbered .numbered .ensures .1) (r-counted .counted .ensures)
 
 pub refuse-spec : {M : Type 1} → statement M
 refuse-spec =
