@@ -23,13 +23,14 @@ fn show(out: &[u8; 39], at: usize)
 
 fn answer(map: &mut [u8; 416], time: u64, payload: &[u8]) {
     let mut out = [0u8; 39];
+    let signature = types::signature(0, 1);
     let c = Outgoing {
         own: 1,
         kind: 0,
         type_id: 1,
         destination: 0,
         priority: 30,
-        signature: 0x0B2A812620A11D40,
+        signature: signature,
         time: time,
         transfer_id: 0,
         discriminator: 0,
