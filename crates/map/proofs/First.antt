@@ -63,53 +63,61 @@ module _ (m : List ℕ) where
       let other = ap flag (eq-eqb (keyAt m a) k q) in
       omega (arith, around i k h, early, own, other, e)
 
-  -- ── one place, of the answer for the keys that the code has ──
+  -- ── one place ──
 
-  answer : (all : List ℕ) → all ≡ keys → (i : ℕ) (first r b : Bool) → r ≡ placeFits m i all first → r ≡ b → placeFits m i keys first ≡ b
-  answer all e i first r b q t = ap (λ x. placeFits m i x first) (sym e) ∙ sym q ∙ t
-
-  pub place-good : (all : List ℕ) → all ≡ keys → (i : ℕ) → i < 32 → (first r : Bool) → r ≡ placeFits m i all first → r ≡ true → (first ≡ true → First i) → (keyAt m i ≡ 0 → ⊥) → Good i
-  unfolding placeFits
-  place-good all k i h first r q t f z =
-      let e = answer all k i first r true q t in
-      let rest = sym (ap (λ b. b || (topicFits (topicOfKey (keyAt m i)) && (ltb (nextAt m i) 32 && (first || eqb (count (keyAt m i) keys) 1)))) (ne-eqb (keyAt m i) 0 z)) ∙ e in
-      let more = and-elim-right (topicFits (topicOfKey (keyAt m i))) _ rest in
-      record {
-        topic = and-elim-left _ _ rest;
-        next = ltb-true (nextAt m i) 32 (and-elim-left _ _ more);
-        first = by first f (and-elim-right (ltb (nextAt m i) 32) _ more);
-      }
-    where
-      by : (b : Bool) → (b ≡ true → First i) → (b || eqb (count (keyAt m i) keys) 1) ≡ true → First i
-      by true g q = g refl
-      by false g q = counted-first i h (eqb-true (count (keyAt m i) keys) 1 q)
-
-  pub place-faulty : (all : List ℕ) → all ≡ keys → (i : ℕ) → i < 32 → (first r : Bool) → r ≡ placeFits m i all first → r ≡ false → soundMap m ≡ false
-  unfolding placeFits
-  place-faulty all k i h first r q t = go (soundMap m) refl where
-    more : (a b c d s : Bool) → (a || (b && (c && d))) ≡ true → (a || (b && (c && (s || d)))) ≡ true
-    more true b c d s q = refl
-    more false true true true true q = refl
-    more false true true true false q = refl
-    more false true true false s q = absurd (false≢true q)
-    more false true false d s q = q
-    more false false c d s q = q
-
-    go : (b : Bool) → soundMap m ≡ b → b ≡ false
-    go false w = refl
-    go true w = absurd (false≢true (sym (answer all k i first r false q t) ∙ more (eqb (keyAt m i) 0) (topicFits (topicOfKey (keyAt m i))) (ltb (nextAt m i) 32) (eqb (count (keyAt m i) keys) 1) first (sym (slot-fits m i) ∙ slot-fit m w i h)))
-
-  -- ── all places ──
+  -- what is tested of an entry
+  abbrev fit : ℕ → Bool → Bool
+  fit i first = topicFits (topicOfKey (keyAt m i)) && (ltb (nextAt m i) 32 && (first || eqb (count (keyAt m i) keys) 1))
 
   good-fits : GoodTo 32 → (i : ℕ) → i < 32 → placeFits m i keys false ≡ true
   unfolding placeFits
   good-fits g i h = go (eqb (keyAt m i) 0) refl where
-    go : (b : Bool) → eqb (keyAt m i) 0 ≡ b → (b || (topicFits (topicOfKey (keyAt m i)) && (ltb (nextAt m i) 32 && eqb (count (keyAt m i) keys) 1))) ≡ true
+    go : (b : Bool) → eqb (keyAt m i) 0 ≡ b → (b || fit i false) ≡ true
     go true e = refl
     go false e =
         let z = eqb-false (keyAt m i) 0 e in
         let t = g i h z in
         rw (t .topic, lt-ltb (nextAt m i) 32 (t .next), eq-eqb (count (keyAt m i) keys) 1 (once g i h z))
+
+  -- by the answer r for the keys that the code has
+  module _ (all : List ℕ) (is : all ≡ keys) (i : ℕ) (h : i < 32) (first r : Bool) (e : r ≡ placeFits m i all first) where
+    answer : placeFits m i keys first ≡ r
+    answer = ap (λ x. placeFits m i x first) (sym is) ∙ sym e
+
+    pub place-good : r ≡ true → (first ≡ true → First i) → (keyAt m i ≡ 0 → ⊥) → Good i
+    unfolding placeFits
+    place-good t f z =
+        let rest = sym (ap (λ b. b || fit i first) (ne-eqb (keyAt m i) 0 z)) ∙ answer ∙ t in
+        let more = and-elim-right (topicFits (topicOfKey (keyAt m i))) _ rest in
+        record {
+          topic = and-elim-left _ _ rest;
+          next = ltb-true (nextAt m i) 32 (and-elim-left _ _ more);
+          first = by first f (and-elim-right (ltb (nextAt m i) 32) _ more);
+        }
+      where
+        by : (b : Bool) → (b ≡ true → First i) → (b || eqb (count (keyAt m i) keys) 1) ≡ true → First i
+        by true g q = g refl
+        by false g q = counted-first i h (eqb-true (count (keyAt m i) keys) 1 q)
+
+    pub place-faulty : r ≡ false → soundMap m ≡ false
+    unfolding placeFits
+    place-faulty t = go (soundMap m) refl where
+      more : (a b c d s : Bool) → (a || (b && (c && d))) ≡ true → (a || (b && (c && (s || d)))) ≡ true
+      more true b c d s q = refl
+      more false true true true true q = refl
+      more false true true true false q = refl
+      more false true true false s q = absurd (false≢true q)
+      more false true false d s q = q
+      more false false c d s q = q
+
+      go : (b : Bool) → soundMap m ≡ b → b ≡ false
+      go false w = refl
+      go true w =
+          let fits = sym (slot-fits m i) ∙ slot-fit m w i h in
+          let k = keyAt m i in
+          absurd (false≢true (sym (answer ∙ t) ∙ more (eqb k 0) (topicFits (topicOfKey k)) (ltb (nextAt m i) 32) (eqb (count k keys) 1) first fits))
+
+  -- ── all places ──
 
   -- the places from n on are empty
   pub good-sound : size ≤ length m → (n : ℕ) → GoodTo n → ((i : ℕ) → n ≤ i → i < 32 → keyAt m i ≡ 0) → soundMap m ≡ true

@@ -4,7 +4,7 @@ use mathlib.Core.Bool.{Bool, true, false, not}
 use Prim.Native.Nat.{ℕ, zero, suc, _+_, _-_, _≤_, _<_}
 use native.Mathlib.Nat.{zero-add}
 use native.Mathlib.Omega.{arith}
-use borrow.Author.Tests.{eq-eqb, ne-eqb, eqb-true}
+use borrow.Author.Tests.{ne-eqb, eqb-true}
 use lib.Dec.{eqb}
 use mir.Val.{boolByte}
 use Rattle.bits.specs.Tabulate.{tabulate}
@@ -43,7 +43,9 @@ module _ (f : ℕ → ℕ) (k : ℕ) where
   pub hits-none : (n i : ℕ) → ((l : ℕ) → i ≤ l → l < i + n → f l ≡ k → ⊥) → hits i n ≡ 0
   unfolding count tabulate
   hits-none zero i h = refl
-  hits-none (suc n) i h = ap₂ (λ b c. flag b + c) (ne-eqb (f i) k (h i (omega arith) (omega arith))) (hits-none n (suc i) (λ l a b. h l (omega arith) (omega arith)))
+  hits-none (suc n) i h =
+      let own = ne-eqb (f i) k (h i (omega arith) (omega arith)) in
+      ap₂ (λ b c. flag b + c) own (hits-none n (suc i) (λ l a b. h l (omega arith) (omega arith)))
 
   pub hits-all : (n i : ℕ) → hits i n ≡ n → (l : ℕ) → i ≤ l → l < i + n → f l ≡ k
   hits-all n i e l a b =
@@ -61,6 +63,9 @@ pub left-step : (f : ℕ → ℕ) (i n left : ℕ) → i < n → 0 < left → le
     → left - boolByte (not (eqb (f i) 0)) + hits f 0 (suc i) (n - suc i) ≡ n - suc i
 unfolding count
 left-step f i n left l h e = go (eqb (f i) 0) (ap (λ x. left + count 0 x) (sym (tab-step f i n l)) ∙ e) where
-  go : (b : Bool) → left + (flag b + hits f 0 (suc i) (n - suc i)) ≡ n - i → left - boolByte (not b) + hits f 0 (suc i) (n - suc i) ≡ n - suc i
+  later : ℕ
+  later = hits f 0 (suc i) (n - suc i)
+
+  go : (b : Bool) → left + (flag b + later) ≡ n - i → left - boolByte (not b) + later ≡ n - suc i
   go true q = omega arith
   go false q = omega arith

@@ -18,11 +18,11 @@ unfoldable pub count : ℕ → List ℕ → ℕ
 count k [] = 0
 count k (x ∷ xs) = flag (eqb x k) + count k xs
 
--- place i of a map with these keys; a place known to be the first of its key needs no count, since a later one of that key has it counted
+-- place i of a map with these keys; the first place of a key need not be counted, since the second one is
 unfoldable pub placeFits : List ℕ → ℕ → List ℕ → Bool → Bool
 placeFits m i keys first =
     eqb (keyAt m i) 0 || (topicFits (topicOfKey (keyAt m i)) && (ltb (nextAt m i) 32 && (first || eqb (count (keyAt m i) keys) 1)))
 
--- where a key leaves its mark, out of 64: the type and the destination of a topic, added
+-- which of 64 marks a key sets: that of its topic's type and destination, added
 abbrev pub markAt : ℕ → ℕ
 markAt k = (k / 2 + k / 256) % 64

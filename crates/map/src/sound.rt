@@ -1,4 +1,4 @@
-// The faults of a lent map that answer 20. Every send runs this first: it ends with the last entry, and counts only keys whose mark was set before.
+// The faults of a lent map that answer 20. Every send runs this first, so it stops behind the last entry and seldom counts a key.
 use super::entry;
 ghost use mathlib.Core.Path.{_≡_};
 ghost use Prim.Native.Nat.{_≤_, _<_};
@@ -52,7 +52,7 @@ fn key_fits(k: u32) -> bool
     false
 }
 
-// Where a key leaves its mark: like keys at one place, others mostly at different ones.
+// Where a key sets its mark: like keys the same one, unlike keys mostly different ones.
 fn mark_at(k: u32) -> usize
     ensures { λ r. ⌜ r ≡ markAt k ⌝ }
 {
@@ -79,7 +79,7 @@ fn place_fits(map: &[u8], i: usize, keys: &[u32; 32], first: bool) -> bool
     false
 }
 
-// All places, up to the last entry. A key without a mark is new; one with a mark may be, and is counted.
+// Place by place, up to the last entry. A key whose mark is not set stands at no earlier place; where it is set, the key is counted.
 fn places_fit(map: &[u8], keys: &[u32; 32]) -> bool
     requires { ⌜ (size ≤ length (now map)) × (now keys ≡ tabulate (keyAt (now map)) 0 32) ⌝ }
     ensures { λ r. ⌜ r ≡ soundMap (now (map .entry)) ⌝ }

@@ -17,7 +17,13 @@ use borrow.Author.Needs.{needs}
 use Rattle.map.proofs.sound.place_fits.Statement.{statement}
 use Rattle.map.proofs.sound.place_fits.Tie as tie
 
-module _ (m : List ℕ) (i k : ℕ) (keys : List ℕ) (first : Bool) (e : k ≡ keyAt m i) where
+module _ (m keys : List ℕ) (i : ℕ) (first : Bool) (h : i < 32) (is : keys ≡ tabulate (keyAt m) 0 32) where
+  abbrev k : ℕ
+  k = getD keys i 0
+
+  e : k ≡ keyAt m i
+  e = key-is m keys i h is
+
   unheld : k ≡ 0 → true ≡ placeFits m i keys first
   unfolding placeFits
   unheld z = rw (← e, eq-eqb k 0 z)
@@ -31,13 +37,14 @@ module _ (m : List ℕ) (i k : ℕ) (keys : List ℕ) (first : Bool) (e : k ≡ 
     unfolding placeFits
     no-transfer s l = rw (← e, ne-eqb k 0 z, s, le-ltb (nextAt m i) 32 l)
 
-    counted : topicFits (topicOfKey k) ≡ true → nextAt m i < 32 → first ≡ false → (n : ℕ) → n ≡ specs.count k keys → eqb n 1 ≡ placeFits m i keys first
-    unfolding placeFits
-    counted s l f n q = rw (← e, ne-eqb k 0 z, s, lt-ltb (nextAt m i) 32 l, f, q)
+    module _ (s : topicFits (topicOfKey k) ≡ true) (l : nextAt m i < 32) where
+      is-first : first ≡ true → true ≡ placeFits m i keys first
+      unfolding placeFits
+      is-first f = rw (← e, ne-eqb k 0 z, s, lt-ltb (nextAt m i) 32 l, f)
 
-    is-first : topicFits (topicOfKey k) ≡ true → nextAt m i < 32 → first ≡ true → true ≡ placeFits m i keys first
-    unfolding placeFits
-    is-first s l f = rw (← e, ne-eqb k 0 z, s, lt-ltb (nextAt m i) 32 l, f)
+      counted : first ≡ false → (n : ℕ) → n ≡ specs.count k keys → eqb n 1 ≡ placeFits m i keys first
+      unfolding placeFits
+      counted f n q = rw (← e, ne-eqb k 0 z, s, lt-ltb (nextAt m i) 32 l, f, q)
 
 mul-k : tie.Need-mul-k
 mul-k c = search needs
@@ -48,7 +55,7 @@ element-copy-out-k c = search needs
 returns : tie.Need-returns
 returns c =
     let a = c .before .before .before in
-    unheld (a .args .map .now) (a .args .i) (getD (a .args .keys .now) (a .args .i) 0) (a .args .keys .now) (a .args .first) (key-is (a .args .map .now) (a .args .keys .now) (a .args .i) (a .pre .0 .0) (a .pre .1)) (c .if1 .taken)
+    unheld (a .args .map .now) (a .args .keys .now) (a .args .i) (a .args .first) (a .pre .0 .0) (a .pre .1) (c .if1 .taken)
 
 key-fits-requires : tie.Need-key-fits-requires
 key-fits-requires c κs = search needs
@@ -66,7 +73,7 @@ returns-2 c =
     let f = t .before .before .before in
     let g = f .before in
     let a = g .before .before .before in
-    is-first (a .args .map .now) (a .args .i) (getD (a .args .keys .now) (a .args .i) 0) (a .args .keys .now) (a .args .first) (key-is (a .args .map .now) (a .args .keys .now) (a .args .i) (a .pre .0 .0) (a .pre .1)) (g .if1 .left)
+    is-first (a .args .map .now) (a .args .keys .now) (a .args .i) (a .args .first) (a .pre .0 .0) (a .pre .1) (g .if1 .left)
     (sym (f .key-fits .ensures) ∙ t .before .before .if2 .taken) (t .if3 .taken) (c .if4 .taken)
 
 count-requires : tie.Need-count-requires
@@ -82,7 +89,7 @@ returns-3 c =
     let f = t .before .before .before in
     let g = f .before in
     let a = g .before .before .before in
-    counted (a .args .map .now) (a .args .i) (getD (a .args .keys .now) (a .args .i) 0) (a .args .keys .now) (a .args .first) (key-is (a .args .map .now) (a .args .keys .now) (a .args .i) (a .pre .0 .0) (a .pre .1)) (g .if1 .left)
+    counted (a .args .map .now) (a .args .keys .now) (a .args .i) (a .args .first) (a .pre .0 .0) (a .pre .1) (g .if1 .left)
     (sym (f .key-fits .ensures) ∙ t .before .before .if2 .taken) (t .if3 .taken) (s .if4 .left) (c .count .result) (c .count .ensures)
 
 returns-4 : tie.Need-returns-4
@@ -91,7 +98,7 @@ returns-4 c =
     let f = c .before .before .before in
     let g = f .before in
     let a = g .before .before .before in
-    no-transfer (a .args .map .now) (a .args .i) (getD (a .args .keys .now) (a .args .i) 0) (a .args .keys .now) (a .args .first) (key-is (a .args .map .now) (a .args .keys .now) (a .args .i) (a .pre .0 .0) (a .pre .1)) (g .if1 .left)
+    no-transfer (a .args .map .now) (a .args .keys .now) (a .args .i) (a .args .first) (a .pre .0 .0) (a .pre .1) (g .if1 .left)
     (sym (f .key-fits .ensures) ∙ c .before .before .if2 .taken) (c .if3 .left)
 
 returns-5 : tie.Need-returns-5
@@ -99,7 +106,7 @@ returns-5 c =
     let f = c .before in
     let g = f .before in
     let a = g .before .before .before in
-    no-topic (a .args .map .now) (a .args .i) (getD (a .args .keys .now) (a .args .i) 0) (a .args .keys .now) (a .args .first) (key-is (a .args .map .now) (a .args .keys .now) (a .args .i) (a .pre .0 .0) (a .pre .1)) (g .if1 .left)
+    no-topic (a .args .map .now) (a .args .keys .now) (a .args .i) (a .args .first) (a .pre .0 .0) (a .pre .1) (g .if1 .left)
     (sym (f .key-fits .ensures) ∙ c .if2 .left)
 
 pub place-fits-spec : {M : Type 1} → statement M

@@ -17,7 +17,8 @@ use Rattle.map.proofs.sound.places_fit.Statement.{statement}
 use Rattle.map.proofs.sound.places_fit.Tie as tie
 
 abbrev Inv-loop : tie.InvT-loop
-Inv-loop map keys marks₀ left₀ i₀ marks left i = (i ≤ 32) × ((length marks ≡ 64) × (Marked map i marks × ((left + hits (keyAt map) 0 i (32 - i) ≡ 32 - i) × GoodTo map i)))
+Inv-loop map keys marks₀ left₀ i₀ marks left i =
+    (i ≤ 32) × ((length marks ≡ 64) × (Marked map i marks × ((left + hits (keyAt map) 0 i (32 - i) ≡ 32 - i) × GoodTo map i)))
 
 abbrev μ-loop : tie.MeasureT-loop
 μ-loop map keys marks₀ left₀ i₀ marks left i = 32 - i
@@ -37,7 +38,8 @@ loop-holds : tie.Need-loop-holds Inv-loop μ-loop
 loop-holds c =
     let e = c .before .before in
     let n = c .count .ensures ∙ ap (count 0) (e .pre .1) in
-    (omega arith, (refl, (λ a h. absurd (omega arith), (omega (arith, n, hits-le (keyAt (e .args .map .now)) 0 32 0), λ i h. absurd (omega arith)))))
+    let le = hits-le (keyAt (e .args .map .now)) 0 32 0 in
+    (omega arith, (refl, (λ a h. absurd (omega arith), (omega (arith, n, le), λ i h. absurd (omega arith)))))
 
 mul-k : tie.Need-mul-k Inv-loop μ-loop
 mul-k c = omega arith
@@ -85,16 +87,12 @@ loop-again c =
     let k = key-is m (e .args .keys .now) i h (e .pre .1) in
     let at = c .before .before .mark-at .ensures ∙ ap markAt k in
     let new = eqb (getD marks (c .before .before .mark-at .result) 0) 0 in
-    let first = unmarked m i marks (v .1 .0) (c .before .before .mark-at .result) at in (
-      omega arith,
-      (
-        simp length-set (v .0),
-        (
-          rw (add-one, at) (mark m i marks (v .0) (v .1 .0)),
-          (rw (add-one, k) (left-step (keyAt m) i 32 (l .loop .left) h (omega arith) (v .1 .1 .0)), rw add-one (good-step m i (v .1 .1 .1) (place-good m (e .args .keys .now) (e .pre .1) i h new (c .before .place-fits .result) (c .before .place-fits .ensures) (c .if1 .taken) first))),
-        ),
-      ),
-    )
+    let first = unmarked m i marks (v .1 .0) (c .before .before .mark-at .result) at in
+    let good = place-good m (e .args .keys .now) (e .pre .1) i h new (c .before .place-fits .result) (c .before .place-fits .ensures) in
+    let good' = good-step m i (v .1 .1 .1) (good (c .if1 .taken) first) in
+    let left' = left-step (keyAt m) i 32 (l .loop .left) h (omega arith) (v .1 .1 .0) in
+    let marks' = mark m i marks (v .0) (v .1 .0) in
+    (omega arith, (simp length-set (v .0), (rw (add-one, at) marks', (rw (add-one, k) left', rw add-one good'))))
 
 returns : tie.Need-returns Inv-loop μ-loop
 returns c =
@@ -103,7 +101,8 @@ returns c =
     let m = e .args .map .now in
     let i = l .loop .i in
     let new = eqb (getD (l .loop .marks) (c .before .before .mark-at .result) 0) 0 in
-    sym (place-faulty m (e .args .keys .now) (e .pre .1) i (omega arith) new (c .before .place-fits .result) (c .before .place-fits .ensures) (c .if1 .left))
+    let faulty = place-faulty m (e .args .keys .now) (e .pre .1) i (omega arith) new (c .before .place-fits .result) (c .before .place-fits .ensures) in
+    sym (faulty (c .if1 .left))
 
 returns-2 : tie.Need-returns-2 Inv-loop μ-loop
 returns-2 c =
