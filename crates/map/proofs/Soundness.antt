@@ -2,14 +2,15 @@
 use mathlib.Core.Path.{_≡_, refl, sym, ap, ap₂, _∙_}
 use mathlib.Core.Bool.{Bool, true, false, false≢true, _&&_, _||_, and-false}
 use mathlib.Core.List.{List}
-use mathlib.Mathlib.Data.Bool.Basic.{and-elim-left, and-elim-right}
+use mathlib.Mathlib.Data.Bool.Basic.{and-intro, and-elim-left, and-elim-right}
 use Prim.Native.Nat.{ℕ, zero, suc, _+_, _*_, _-_, _/_, _%_, _≤_, _<_}
+use native.Mathlib.Nat.{zero-add}
 use native.Mathlib.Omega.{arith}
 use borrow.Author.Tests.{eq-eqb, ne-eqb, eqb-true, eqb-false, le-leb, lt-leb, leb-true, lt-ltb, le-ltb, ltb-true, ltb-false}
 use lib.Dec.{eqb, ltb}
-use lib.ListN.{length}
+use lib.ListN.{length, getD}
 use Rattle.bits.specs.Tabulate.{tabulate}
-use Rattle.bits.proofs.Tabulate.{tab-step, tab-end}
+use Rattle.bits.proofs.Tabulate.{tab-at}
 use Rattle.map.specs.Layout.{size, keyAt, nextAt, topicOfKey, slotAt, mapOf}
 use Rattle.map.specs.Sound.{soundMap, count, placeFits}
 use Rattle.map.proofs.Keys.{of-key, slot-used, slot-free}
@@ -128,7 +129,11 @@ module _ (m : List ℕ) where
   times-count k z zero i = refl
   times-count k z (suc n) i = ap₂ (λ b c. flag b + c) (of-key m i k z) (times-count k z n (suc i))
 
-  pub slot-fits : (i : ℕ) → slotFits (mapOf m) (slotAt m i) ≡ placeFits m i (tabulate (keyAt m) 0 32)
+  -- the keys as the code has them
+  pub key-is : (keys : List ℕ) (i : ℕ) → i < 32 → keys ≡ tabulate (keyAt m) 0 32 → getD keys i 0 ≡ keyAt m i
+  key-is keys i h e = ap (λ l. getD l i 0) e ∙ tab-at (keyAt m) 0 0 32 i h ∙ ap (keyAt m) (zero-add i)
+
+  pub slot-fits : (i : ℕ) → slotFits (mapOf m) (slotAt m i) ≡ placeFits m i (tabulate (keyAt m) 0 32) false
   unfolding placeFits mapOf
   slot-fits i = go (eqb (keyAt m i) 0) refl where
     go : (b : Bool) → eqb (keyAt m i) 0 ≡ b
@@ -141,19 +146,12 @@ module _ (m : List ℕ) where
 
   -- ── all places ──
 
-  abbrev pub fitFrom : ℕ → Bool
-  fitFrom i = slotsFit (mapOf m) (tabulate (slotAt m) i (32 - i))
+  pub fit-all : (n i : ℕ) → ((l : ℕ) → i ≤ l → l < i + n → slotFits (mapOf m) (slotAt m l) ≡ true) → slotsFit (mapOf m) (tabulate (slotAt m) i n) ≡ true
+  unfolding tabulate
+  fit-all zero i h = refl
+  fit-all (suc n) i h = and-intro (h i (omega arith) (omega arith)) (fit-all n (suc i) (λ l a b. h l (omega arith) (omega arith)))
 
-  pub fit-step : (i : ℕ) → i < 32 → slotFits (mapOf m) (slotAt m i) ≡ true → fitFrom i ≡ fitFrom (suc i)
-  fit-step i h e = rw (tab-step (slotAt m) i 32 h, e)
-
-  pub fit-fails : (i : ℕ) → i < 32 → slotFits (mapOf m) (slotAt m i) ≡ false → fitFrom i ≡ false
-  fit-fails i h e = rw (tab-step (slotAt m) i 32 h, e)
-
-  pub fit-end : (i : ℕ) → 32 ≤ i → fitFrom i ≡ true
-  fit-end i h = rw (tab-end (slotAt m) i 32 h)
-
-  pub sound-is : size ≤ length m → soundMap m ≡ fitFrom 0
+  pub sound-is : size ≤ length m → soundMap m ≡ slotsFit (mapOf m) (tabulate (slotAt m) 0 32)
   unfolding soundMap sound mapOf
   sound-is h = rw (le-leb size (length m) h, eq-eqb (length (mapOf m)) 32 (length-mapOf m))
 

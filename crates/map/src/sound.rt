@@ -1,11 +1,11 @@
-// The faults of a lent map that answer 20. Every send runs this first: the keys stand side by side, and only entries are looked at.
+// The faults of a lent map that answer 20. Every send runs this first, so it stops behind the last entry and seldom counts a key.
 use super::entry;
 ghost use mathlib.Core.Path.{_≡_};
 ghost use Prim.Native.Nat.{_≤_, _<_};
 ghost use lib.ListN.{length};
 ghost use Rattle.bits.specs.Tabulate.{tabulate};
 ghost use Rattle.map.specs.Layout.{size, keyAt, topicOfKey};
-ghost use Rattle.map.specs.Sound.{soundMap, placeFits};
+ghost use Rattle.map.specs.Sound.{soundMap, placeFits, markAt};
 ghost use Rattle.map.specs.Sound as specs;
 ghost use Rattle.model.specs.Map.{topicFits};
 
@@ -52,9 +52,17 @@ fn key_fits(k: u32) -> bool
     false
 }
 
-fn place_fits(map: &[u8], i: usize, keys: &[u32; 32]) -> bool
+// Where a key sets its mark: like keys the same one, unlike keys mostly different ones.
+fn mark_at(k: u32) -> usize
+    ensures { λ r. ⌜ r ≡ markAt k ⌝ }
+{
+    ((k / 2 + k / 256) % 64) as usize
+}
+
+// `first`: no earlier place has the key.
+fn place_fits(map: &[u8], i: usize, keys: &[u32; 32], first: bool) -> bool
     requires { ⌜ ((i < 32) × (size ≤ length (now map))) × (now keys ≡ tabulate (keyAt (now map)) 0 32) ⌝ }
-    ensures { λ r. ⌜ r ≡ placeFits (now (map .entry)) i (now (keys .entry)) ⌝ }
+    ensures { λ r. ⌜ r ≡ placeFits (now (map .entry)) i (now (keys .entry)) first ⌝ }
 {
     let k = keys[i];
     if k == 0 {
@@ -62,10 +70,35 @@ fn place_fits(map: &[u8], i: usize, keys: &[u32; 32]) -> bool
     }
     if key_fits(k) {
         if map[384 + i] < 32 {
+            if first {
+                return true;
+            }
             return count(keys, k) == 1;
         }
     }
     false
+}
+
+// Place by place, up to the last entry. A key whose mark is not set stands at no earlier place; where it is set, the key is counted.
+fn places_fit(map: &[u8], keys: &[u32; 32]) -> bool
+    requires { ⌜ (size ≤ length (now map)) × (now keys ≡ tabulate (keyAt (now map)) 0 32) ⌝ }
+    ensures { λ r. ⌜ r ≡ soundMap (now (map .entry)) ⌝ }
+{
+    let mut marks = [0u8; 64];
+    let mut left = 32 - count(keys, 0);
+    let mut i: usize = 0;
+    while 0 < left {
+        let k = keys[i];
+        let at = mark_at(k);
+        if place_fits(map, i, keys, marks[at] == 0) {
+            marks[at] = 1;
+            left -= (k != 0) as u32;
+            i += 1;
+        } else {
+            return false;
+        }
+    }
+    true
 }
 
 // Internal. The map has no fault that 20 names.
@@ -76,13 +109,5 @@ pub fn is_sound(map: &[u8]) -> bool
         return false;
     }
     let all = keys(map);
-    let mut i: usize = 0;
-    while i < 32 {
-        if place_fits(map, i, &all) {
-            i += 1;
-        } else {
-            return false;
-        }
-    }
-    true
+    places_fit(map, &all)
 }

@@ -1,6 +1,5 @@
 -- `sound::count` meets its contract: the hits so far and those to come.
-use mathlib.Core.Path.{_≡_, refl, _∙_}
-use mathlib.Core.Bool.{Bool, true, false}
+use mathlib.Core.Path.{_≡_, _∙_}
 use mathlib.Core.List.{List}
 use Prim.Native.Nat.{ℕ, suc, _+_, _-_, _≤_, _<_}
 use native.Mathlib.Nat.{zero-add}
@@ -11,17 +10,9 @@ use lib.ListN.{length, drop, getD}
 use lib.Seq.{drop-cons, drop-length}
 use mir.Val.{boolByte}
 use Rattle.map.specs.Sound as specs
-use Rattle.model.specs.Sent.{flag}
+use Rattle.map.proofs.Hits.{byte-flag, byte-le}
 use Rattle.map.proofs.sound.count.Statement.{statement}
 use Rattle.map.proofs.sound.count.Tie as tie
-
-byte-flag : (b : Bool) → boolByte b ≡ flag b
-byte-flag true = refl
-byte-flag false = refl
-
-byte-le : (b : Bool) → boolByte b ≤ 1
-byte-le true = omega arith
-byte-le false = omega arith
 
 turn : (k hits j : ℕ) (keys : List ℕ) → j < length keys → hits + boolByte (eqb (getD keys j 0) k) + specs.count k (drop (suc j) keys) ≡ hits + specs.count k (drop j keys)
 unfolding specs.count

@@ -1,42 +1,50 @@
 -- `sound::place_fits` meets its contract, case by case.
 use mathlib.Core.Path.{_≡_, sym, ap, _∙_}
-use mathlib.Core.Bool.{true, false}
+use mathlib.Core.Bool.{Bool, true, false}
 use mathlib.Core.List.{List}
 use Prim.Native.Nat.{ℕ, _≤_, _<_}
-use native.Mathlib.Nat.{zero-add}
 use borrow.Author.Tests.{eq-eqb, ne-eqb, lt-ltb, le-ltb}
 use lib.Dec.{eqb}
 use lib.ListN.{length, getD}
 use Rattle.bits.specs.Tabulate.{tabulate}
-use Rattle.bits.proofs.Tabulate.{tab-at, length-tabulate}
+use Rattle.bits.proofs.Tabulate.{length-tabulate}
 use Rattle.map.specs.Layout.{keyAt, nextAt, topicOfKey}
 use Rattle.map.specs.Sound as specs
 use Rattle.map.specs.Sound.{placeFits}
+use Rattle.map.proofs.Soundness.{key-is}
 use Rattle.model.specs.Map.{topicFits}
 use borrow.Author.Needs.{needs}
 use Rattle.map.proofs.sound.place_fits.Statement.{statement}
 use Rattle.map.proofs.sound.place_fits.Tie as tie
 
-key-is : (m keys : List ℕ) (i : ℕ) → i < 32 → keys ≡ tabulate (keyAt m) 0 32 → getD keys i 0 ≡ keyAt m i
-key-is m keys i h e = ap (λ l. getD l i 0) e ∙ tab-at (keyAt m) 0 0 32 i h ∙ ap (keyAt m) (zero-add i)
+module _ (m keys : List ℕ) (i : ℕ) (first : Bool) (h : i < 32) (is : keys ≡ tabulate (keyAt m) 0 32) where
+  abbrev k : ℕ
+  k = getD keys i 0
 
-module _ (m : List ℕ) (i k : ℕ) (keys : List ℕ) (e : k ≡ keyAt m i) where
-  unheld : k ≡ 0 → true ≡ placeFits m i keys
+  e : k ≡ keyAt m i
+  e = key-is m keys i h is
+
+  unheld : k ≡ 0 → true ≡ placeFits m i keys first
   unfolding placeFits
   unheld z = rw (← e, eq-eqb k 0 z)
 
   module _ (z : k ≡ 0 → ⊥) where
-    no-topic : topicFits (topicOfKey k) ≡ false → false ≡ placeFits m i keys
+    no-topic : topicFits (topicOfKey k) ≡ false → false ≡ placeFits m i keys first
     unfolding placeFits
     no-topic s = rw (← e, ne-eqb k 0 z, s)
 
-    no-transfer : topicFits (topicOfKey k) ≡ true → 32 ≤ nextAt m i → false ≡ placeFits m i keys
+    no-transfer : topicFits (topicOfKey k) ≡ true → 32 ≤ nextAt m i → false ≡ placeFits m i keys first
     unfolding placeFits
     no-transfer s l = rw (← e, ne-eqb k 0 z, s, le-ltb (nextAt m i) 32 l)
 
-    counted : topicFits (topicOfKey k) ≡ true → nextAt m i < 32 → (n : ℕ) → n ≡ specs.count k keys → eqb n 1 ≡ placeFits m i keys
-    unfolding placeFits
-    counted s l n q = rw (← e, ne-eqb k 0 z, s, lt-ltb (nextAt m i) 32 l, q)
+    module _ (s : topicFits (topicOfKey k) ≡ true) (l : nextAt m i < 32) where
+      is-first : first ≡ true → true ≡ placeFits m i keys first
+      unfolding placeFits
+      is-first f = rw (← e, ne-eqb k 0 z, s, lt-ltb (nextAt m i) 32 l, f)
+
+      counted : first ≡ false → (n : ℕ) → n ≡ specs.count k keys → eqb n 1 ≡ placeFits m i keys first
+      unfolding placeFits
+      counted f n q = rw (← e, ne-eqb k 0 z, s, lt-ltb (nextAt m i) 32 l, f, q)
 
 mul-k : tie.Need-mul-k
 mul-k c = search needs
@@ -47,7 +55,7 @@ element-copy-out-k c = search needs
 returns : tie.Need-returns
 returns c =
     let a = c .before .before .before in
-    unheld _ _ _ _ (key-is (a .args .map .now) (a .args .keys .now) (a .args .i) (a .pre .0 .0) (a .pre .1)) (c .if1 .taken)
+    unheld (a .args .map .now) (a .args .keys .now) (a .args .i) (a .args .first) (a .pre .0 .0) (a .pre .1) (c .if1 .taken)
 
 key-fits-requires : tie.Need-key-fits-requires
 key-fits-requires c κs = search needs
@@ -58,11 +66,6 @@ add-if3 c = search needs
 shared-slice-read-if3 : tie.Need-shared-slice-read-if3
 shared-slice-read-if3 c = search needs
 
-count-requires : tie.Need-count-requires
-count-requires c κs =
-    let a = c .before .before .before .before .before .before .before in
-    ap length (a .pre .1) ∙ length-tabulate (keyAt (a .args .map .now)) 0 32
-
 returns-2 : tie.Need-returns-2
 unfolding nextAt
 returns-2 c =
@@ -70,24 +73,40 @@ returns-2 c =
     let f = t .before .before .before in
     let g = f .before in
     let a = g .before .before .before in
-    counted (a .args .map .now) (a .args .i) (getD (a .args .keys .now) (a .args .i) 0) (a .args .keys .now) (key-is (a .args .map .now) (a .args .keys .now) (a .args .i) (a .pre .0 .0) (a .pre .1)) (g .if1 .left)
-    (sym (f .key-fits .ensures) ∙ t .before .before .if2 .taken) (t .if3 .taken) (c .count .result) (c .count .ensures)
+    is-first (a .args .map .now) (a .args .keys .now) (a .args .i) (a .args .first) (a .pre .0 .0) (a .pre .1) (g .if1 .left)
+    (sym (f .key-fits .ensures) ∙ t .before .before .if2 .taken) (t .if3 .taken) (c .if4 .taken)
+
+count-requires : tie.Need-count-requires
+count-requires c κs =
+    let a = c .before .before .before .before .before .before .before .before in
+    ap length (a .pre .1) ∙ length-tabulate (keyAt (a .args .map .now)) 0 32
 
 returns-3 : tie.Need-returns-3
 unfolding nextAt
 returns-3 c =
+    let s = c .before in
+    let t = s .before in
+    let f = t .before .before .before in
+    let g = f .before in
+    let a = g .before .before .before in
+    counted (a .args .map .now) (a .args .keys .now) (a .args .i) (a .args .first) (a .pre .0 .0) (a .pre .1) (g .if1 .left)
+    (sym (f .key-fits .ensures) ∙ t .before .before .if2 .taken) (t .if3 .taken) (s .if4 .left) (c .count .result) (c .count .ensures)
+
+returns-4 : tie.Need-returns-4
+unfolding nextAt
+returns-4 c =
     let f = c .before .before .before in
     let g = f .before in
     let a = g .before .before .before in
-    no-transfer (a .args .map .now) (a .args .i) (getD (a .args .keys .now) (a .args .i) 0) (a .args .keys .now) (key-is (a .args .map .now) (a .args .keys .now) (a .args .i) (a .pre .0 .0) (a .pre .1)) (g .if1 .left)
+    no-transfer (a .args .map .now) (a .args .keys .now) (a .args .i) (a .args .first) (a .pre .0 .0) (a .pre .1) (g .if1 .left)
     (sym (f .key-fits .ensures) ∙ c .before .before .if2 .taken) (c .if3 .left)
 
-returns-4 : tie.Need-returns-4
-returns-4 c =
+returns-5 : tie.Need-returns-5
+returns-5 c =
     let f = c .before in
     let g = f .before in
     let a = g .before .before .before in
-    no-topic (a .args .map .now) (a .args .i) (getD (a .args .keys .now) (a .args .i) 0) (a .args .keys .now) (key-is (a .args .map .now) (a .args .keys .now) (a .args .i) (a .pre .0 .0) (a .pre .1)) (g .if1 .left)
+    no-topic (a .args .map .now) (a .args .keys .now) (a .args .i) (a .args .first) (a .pre .0 .0) (a .pre .1) (g .if1 .left)
     (sym (f .key-fits .ensures) ∙ c .if2 .left)
 
 pub place-fits-spec : {M : Type 1} → statement M
@@ -100,7 +119,8 @@ place-fits-spec =
     key-fits-requires
     add-if3
     shared-slice-read-if3
-    count-requires
     returns-2
+    count-requires
     returns-3
-    returns-4)
+    returns-4
+    returns-5)
