@@ -5,7 +5,7 @@ use mathlib.Core.List.{List, [], _∷_}
 use Prim.Native.Nat.{ℕ, zero, suc, _≤_, _<_}
 use native.Mathlib.Omega.{arith}
 use lib.Dec.{eqb}
-use borrow.Author.Tests.{eq-eqb, ne-eqb}
+use borrow.Author.Tests.{eqb-true, eq-eqb, ne-eqb}
 use lib.ListN.{length, getD, drop}
 use lib.Seq.{drop-cons}
 use Rattle.model.specs.Tests.{pick}
@@ -35,3 +35,13 @@ past c [] zero h = refl
 past c [] (suc i) h = refl
 past c (x ∷ xs) zero h = absurd (omega arith)
 past c (x ∷ xs) (suc i) h = past c xs i (omega arith)
+
+-- there it stands
+pub at-before : (c : ℕ) (xs : List ℕ) → before c xs < length xs → getD xs (before c xs) 0 ≡ c
+unfolding before
+at-before c [] h = absurd (omega arith)
+at-before c (x ∷ xs) h = go (eqb x c) refl (at-before c xs) h where
+  go : (b : Bool) → eqb x c ≡ b → (before c xs < length xs → getD xs (before c xs) 0 ≡ c) → pick b 0 (suc (before c xs)) < suc (length xs)
+      → getD (x ∷ xs) (pick b 0 (suc (before c xs))) 0 ≡ c
+  go true q ih l = eqb-true x c q
+  go false q ih l = ih (omega arith)

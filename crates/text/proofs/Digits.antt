@@ -5,13 +5,14 @@ use mathlib.Core.List.{List, [], _∷_, _++_}
 use mathlib.Core.Logic.{_⊎_, inl, inr, ⊎-elim}
 use mathlib.Core.Option.{none, some}
 use Prim.Native.Nat.{ℕ, zero, suc, _+_, _*_, _-_, _/_, _%_, _^_, _≤_, _<_}
-use native.Mathlib.Nat.{pow-zero, pow-suc, pow-succ', pow-le-pow-right, mul-le-mul-left, div-one, div-div-eq-div-mul, div-add-mod', mod-lt, mul-add-mod-self-right, mod-eq-of-lt, mul-add-div-right, div-eq-of-lt, add-zero}
+use native.Mathlib.Nat.{one-le-pow, lt-div-mul-add, zero-mul, pow-zero, pow-suc, pow-succ', pow-le-pow-right, mul-le-mul-left, div-one, div-div-eq-div-mul, div-add-mod', mod-lt, mul-add-mod-self-right, mod-eq-of-lt, mul-add-div-right, div-eq-of-lt, add-zero}
 use native.Mathlib.Omega.{arith}
-use borrow.Author.Tests.{lt-ltb, le-ltb, ltb-true, ltb-false}
+use borrow.Author.Tests.{ne-eqb, lt-ltb, le-ltb, ltb-true, ltb-false}
 use lib.Dec.{ltb, lit<}
 use lib.ListN.{length}
 use Rattle.model.specs.Tests.{pick}
 use Rattle.text.specs.Digits.{glyph, digits, countIn, countOf, digitOf, numberFrom, number}
+use Rattle.text.specs.Find.{before}
 
 -- a test has one of two answers
 decided : (b : Bool) → (b ≡ true) ⊎ (b ≡ false)
@@ -187,3 +188,22 @@ fits-in (suc d) n h = ⊎-elim small (large (fits-in d (n / 10))) (decided (ltb 
 
 pub count-fits : (n : ℕ) → n < 10 ^ countOf n
 count-fits n = fits-in n n (omega arith)
+
+-- digits stand for a number below as many powers of the base
+pub number-lt : (b : ℕ) → b ≤ 16 → 0 < b → (cs : List ℕ) (n : ℕ) → number b cs ≡ some n → n < b ^ length cs
+number-lt b few pos cs n e =
+    let w = digits-read b few pos 0 cs n e in
+    let l : n < n / b ^ length cs * b ^ length cs + b ^ length cs = lt-div-mul-add (one-le-pow (length cs) b pos) in
+    let z : n / b ^ length cs * b ^ length cs ≡ 0 = ap (λ (k : ℕ). k * b ^ length cs) (w .above) ∙ zero-mul (b ^ length cs) in
+    omega arith
+
+-- no digit is a dot
+glyph-ge : (d : ℕ) → 48 ≤ glyph d
+glyph-ge d = ⊎-elim (λ q. omega (arith, glyph-low d (ltb-true d 10 q))) (λ q. omega (arith, glyph-high d (ltb-false d 10 q))) (decided (ltb d 10))
+
+pub before-dot : (b w n : ℕ) (ys : List ℕ) → before 46 (digits b w n ++ (46 ∷ ys)) ≡ w
+unfolding before digits
+before-dot b zero n ys = refl
+before-dot b (suc w) n ys =
+    let g = glyph-ge (n / b ^ w % b) in
+    rw (ne-eqb (glyph (n / b ^ w % b)) 46 (λ q. omega arith)) (ap suc (before-dot b w n ys))

@@ -1,0 +1,21 @@
+-- `answer::letter` meets its contract.
+use Rattle.canlog.specs.Answer.{letterOf}
+use borrow.Author.Tests.{ne-eqb}
+use mathlib.Core.Path.{sym, ap}
+use Rattle.canlog.proofs.answer.letter.Statement.{statement}
+use Rattle.canlog.proofs.answer.letter.Tie as tie
+
+returns : tie.Need-returns
+returns c = ap letterOf (sym (c .match .keys1))
+
+returns-2 : tie.Need-returns-2
+returns-2 c = ap letterOf (sym (c .match .keys2))
+
+returns-3 : tie.Need-returns-3
+returns-3 c =
+    let k = c .before .args .kind in
+    let r = c .match .rest in
+    rw (ne-eqb k 0 (r .0 .1), ne-eqb k 1 (r .1))
+
+pub letter-spec : {M : Type 1} → statement M
+letter-spec = tie.close (tie.spec returns returns-2 returns-3)

@@ -1,0 +1,4 @@
+pub mod Line
+pub mod Reading
+pub mod Answer
+pub mod Laws
