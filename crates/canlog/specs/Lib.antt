@@ -1,4 +1,3 @@
 pub mod Line
 pub mod Reading
-pub mod Answer
 pub mod Laws

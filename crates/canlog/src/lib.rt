@@ -1,4 +1,3 @@
-// The log program's text: a line read into a frame and its time, and an answer written.
-pub mod answer;
+// The lines of a log: read into a frame and its time, with the laws of their form.
 pub mod laws;
 pub mod read;

@@ -10,7 +10,7 @@ use lib.ListN.{length, take, replicate, length-append}
 use lib.Seq.{length-take-le}
 use Rattle.bits.specs.Part.{splice}
 use Rattle.bits.proofs.Splice.{splice-next}
-use Rattle.canlog.specs.Answer.{answerText}
+use Rattle.report.specs.Answer.{answerText}
 use Rattle.canlog.specs.Line.{timeText}
 use Rattle.canlog.specs.Reading.{said, Reads}
 use Rattle.canlog.specs.declared.read.Line as line

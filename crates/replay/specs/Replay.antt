@@ -6,7 +6,7 @@ use Prim.Native.Nat.{ℕ, _+_, _-_, _^_}
 use lib.Dec.{ltb}
 use lib.ListN.{length, replicate}
 use Rattle.bits.specs.Part.{splice}
-use Rattle.canlog.specs.Answer.{numbered, answerText}
+use Rattle.report.specs.Answer.{numbered, answerText}
 use Rattle.canlog.specs.Line.{timeText}
 use Rattle.canlog.specs.Reading.{said}
 use Rattle.model.specs.Frame.{Frame}

@@ -87,7 +87,7 @@ fn refuse(out: &mut [u8], c: Counts) -> Told
     ensures { λ r. ⌜ (r ≡ given c (now (out .entry)) (reply [] none) .answer) × ((now (out .exit) ≡ given c (now (out .entry)) (reply [] none) .out) × (lenOf r ≤ length (now (out .entry)))) ⌝ }
 {
     out[0] = b'?';
-    let p = canlog::answer::numbered(out, 1, b'-', 18);
+    let p = report::numbered(out, 1, b'-', 18);
     Told::Line(Said {
         len: p,
         counts: counted(c, false),
@@ -105,7 +105,7 @@ fn receive(state: &mut [u8], l: Line, line: &[u8], c: Counts, out: &mut [u8]) ->
     let mut payload = [0u8; 512];
     let a = receiver::receive(state, l.id, &bytes[0..n], l.time, &mut payload);
     bits::part::copy_at(out, 0, &line[0..head]);
-    let p = canlog::answer::put_answer(out, head, a, &payload);
+    let p = report::put_answer(out, head, a, &payload);
     Told::Line(Said {
         len: p,
         counts: counted(c, is_handed(a)),

@@ -1,4 +1,4 @@
-// The five standard types of 01: kind, data type ID and signature. This is the repository's only copy of the signatures.
+// The five standard types of 01: kind, data type ID and signature. What is proved and uses a signature takes it from here.
 ghost use mathlib.Core.Path.{_≡_};
 ghost use Prim.Native.Nat.{_+_, _*_, _≤_};
 ghost use lib.ListN.{length};

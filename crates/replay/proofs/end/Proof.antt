@@ -3,7 +3,7 @@ use Rattle.replay.specs.declared.Counts.{Counts}
 use Rattle.replay.specs.Replay.{endText}
 use Rattle.text.proofs.Puts.{set-splice}
 use Rattle.text.specs.Digits.{words, Puts}
-use Rattle.canlog.proofs.Texts.{char-next, text-next}
+use Rattle.report.proofs.Texts.{char-next, text-next}
 use lib.ListN.{length, set, length-set}
 use native.Mathlib.Omega.{arith}
 use Prim.Native.Nat.{ℕ, _+_, _≤_}

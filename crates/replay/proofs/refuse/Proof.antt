@@ -4,8 +4,8 @@ use Rattle.replay.specs.declared.Counts.{Counts}
 use Rattle.replay.specs.Replay.{counted, reply, given}
 use Rattle.text.proofs.Puts.{set-splice}
 use Rattle.text.specs.Digits.{Puts}
-use Rattle.canlog.proofs.Texts.{char-next}
-use Rattle.canlog.specs.Answer.{numbered}
+use Rattle.report.proofs.Texts.{char-next}
+use Rattle.report.specs.Answer.{numbered}
 use lib.ListN.{length, set, length-set}
 use native.Mathlib.Omega.{arith}
 use native.Mathlib.Nat.{zero-add}

@@ -35,7 +35,7 @@ count-requires : tie.Need-count-requires
 count-requires c κs = search needs
 
 add-number : tie.Need-add-number
-add-number c = search needs
+add-number c = let s = c .before .before .before .before .before .before .before in omega (arith, shape (s .args .s) (s .args .line .now) (s .pre) .few)
 
 number-requires-2 : tie.Need-number-requires-2
 number-requires-2 c κs =
@@ -65,7 +65,7 @@ returns-2 c =
     unread (a .s) _ (r-ill-formed2 .ill-formed2 .result) (r-ill-formed2 .ill-formed2 .ensures) (no-milliseconds (a .s) (a .line .now) _ sec (not _ (r-number2 .number2 .result) (r-number2 .number2 .ensures) (r-enum-told2 .enum-told2 .given .1)))
 
 add-number-2 : tie.Need-add-number-2
-add-number-2 c = search needs
+add-number-2 c = let s = c .before .before .before .before .before .before .before .before .before .before .before in omega (arith, shape (s .args .s) (s .args .line .now) (s .pre) .few)
 
 number-requires-3 : tie.Need-number-requires-3
 number-requires-3 c κs =
@@ -98,7 +98,7 @@ returns-3 c =
     unread (a .s) _ (r-ill-formed3 .ill-formed3 .result) (r-ill-formed3 .ill-formed3 .ensures) (no-id (a .s) (a .line .now) _ sec _ ms (not _ (r-number3 .number3 .result) (r-number3 .number3 .ensures) (r-enum-told3 .enum-told3 .given .1)))
 
 add-k : tie.Need-add-k
-add-k c = search needs
+add-k c = let s = c .before .before .before .before .before .before .before .before .before .before .before .before .before .before .before in omega (arith, shape (s .args .s) (s .args .line .now) (s .pre) .few)
 
 sub-k : tie.Need-sub-k
 sub-k c =
@@ -107,7 +107,7 @@ sub-k c =
     h .long
 
 add-pairs : tie.Need-add-pairs
-add-pairs c = search needs
+add-pairs c = let s = c .before .before .before .before .before .before .before .before .before .before .before .before .before .before .before in omega (arith, shape (s .args .s) (s .args .line .now) (s .pre) .few)
 
 pairs-requires : tie.Need-pairs-requires
 pairs-requires c κs =
@@ -116,7 +116,7 @@ pairs-requires c κs =
     (omega (arith, h .short, h .long), omega (arith, h .long))
 
 add-t16 : tie.Need-add-t16
-add-t16 c = search needs
+add-t16 c = let s = c .before .before .before .before .before .before .before .before .before .before .before .before .before .before .before .before .before in omega (arith, shape (s .args .s) (s .args .line .now) (s .pre) .few)
 
 cast-t17 : tie.Need-cast-t17
 cast-t17 c =

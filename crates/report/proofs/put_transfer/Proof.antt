@@ -1,6 +1,6 @@
--- `answer::put_transfer` meets its contract.
-use Rattle.canlog.proofs.Texts.{char-next, text-next}
-use Rattle.canlog.specs.Answer.{letterOf, payloadText, transferText}
+-- `put_transfer` meets its contract.
+use Rattle.report.proofs.Texts.{char-next, text-next}
+use Rattle.report.specs.Answer.{letterOf, payloadText, transferText}
 use Rattle.text.specs.Digits.{words, Puts}
 use Rattle.session.specs.declared.Transfer.{Transfer}
 use lib.ListN.{length}
@@ -9,8 +9,8 @@ use Prim.Native.Nat.{ℕ, _+_, _*_, _≤_}
 use mathlib.Core.List.{List, [], _∷_, _++_}
 use mathlib.Core.Path.{_≡_, refl, _∙_}
 use borrow.Author.Needs.{needs}
-use Rattle.canlog.proofs.answer.put_transfer.Statement.{statement}
-use Rattle.canlog.proofs.answer.put_transfer.Tie as tie
+use Rattle.report.proofs.put_transfer.Statement.{statement}
+use Rattle.report.proofs.put_transfer.Tie as tie
 
 -- the six parts, one behind the other, in a buffer of n bytes
 joined : (t : Transfer) (pay m m₁ m₂ m₃ m₄ m₅ m₆ : List ℕ) (n at a b c d e f l : ℕ) → at + 131 + length pay * 2 ≤ n → length m ≡ n → length m₁ ≡ n → length m₂ ≡ n

@@ -1,9 +1,9 @@
--- `answer::letter` meets its contract.
-use Rattle.canlog.specs.Answer.{letterOf}
+-- `letter` meets its contract.
+use Rattle.report.specs.Answer.{letterOf}
 use borrow.Author.Tests.{ne-eqb}
 use mathlib.Core.Path.{sym, ap}
-use Rattle.canlog.proofs.answer.letter.Statement.{statement}
-use Rattle.canlog.proofs.answer.letter.Tie as tie
+use Rattle.report.proofs.letter.Statement.{statement}
+use Rattle.report.proofs.letter.Tie as tie
 
 returns : tie.Need-returns
 returns c = ap letterOf (sym (c .match .keys1))

@@ -1,11 +1,11 @@
-// An answer's text, behind the time.
+// The text of an answer in a log, behind the time.
 use session::Answer;
 use session::Transfer;
 ghost use mathlib.Core.Path.{_≡_};
 ghost use mathlib.Core.List.{[], _∷_};
 ghost use Prim.Native.Nat.{_+_, _*_, _≤_, _<_};
 ghost use lib.ListN.{length};
-ghost use Rattle.canlog.specs.Answer.{numbered as numberedText, letterOf, payloadText, transferText, answerText};
+ghost use Rattle.report.specs.Answer.{numbered as numberedText, letterOf, payloadText, transferText, answerText};
 ghost use Rattle.text.specs.Digits.{Puts};
 
 fn put(out: &mut [u8], at: usize, c: u8) -> usize

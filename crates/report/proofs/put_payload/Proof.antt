@@ -1,5 +1,5 @@
--- `answer::put_payload` meets its contract.
-use Rattle.canlog.specs.Answer.{payloadText}
+-- `put_payload` meets its contract.
+use Rattle.report.specs.Answer.{payloadText}
 use Rattle.text.proofs.Puts.{length-hexes}
 use Rattle.text.specs.Digits.{hexes}
 use lib.ListN.{length}
@@ -8,8 +8,8 @@ use Prim.Native.Nat.{ℕ}
 use mathlib.Core.List.{List, [], _∷_}
 use mathlib.Core.Path.{_≡_, refl}
 use borrow.Author.Needs.{needs}
-use Rattle.canlog.proofs.answer.put_payload.Statement.{statement}
-use Rattle.canlog.proofs.answer.put_payload.Tie as tie
+use Rattle.report.proofs.put_payload.Statement.{statement}
+use Rattle.report.proofs.put_payload.Tie as tie
 
 empty : (p : List ℕ) → length p ≡ 0 → payloadText p ≡ 45 ∷ []
 empty [] e = refl

@@ -1,9 +1,9 @@
--- `answer::put` meets its contract.
+-- `put` meets its contract.
 use Rattle.text.proofs.Puts.{set-splice}
 use mathlib.Core.Path.{refl}
 use borrow.Author.Needs.{needs}
-use Rattle.canlog.proofs.answer.put.Statement.{statement}
-use Rattle.canlog.proofs.answer.put.Tie as tie
+use Rattle.report.proofs.put.Statement.{statement}
+use Rattle.report.proofs.put.Tie as tie
 
 slice-write-out : tie.Need-slice-write-out
 slice-write-out c = search needs

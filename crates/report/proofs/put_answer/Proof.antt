@@ -1,5 +1,5 @@
--- `answer::put_answer` meets its contract.
-use Rattle.canlog.specs.Answer.{numbered, transferText, answerText}
+-- `put_answer` meets its contract.
+use Rattle.report.specs.Answer.{numbered, transferText, answerText}
 use Rattle.text.specs.Digits.{Puts}
 use Rattle.session.specs.declared.Transfer.{Transfer}
 use Rattle.session.specs.declared.Answer.the-variants.{Handed}
@@ -11,8 +11,8 @@ use Prim.Native.Nat.{ℕ, _-_, _≤_}
 use mathlib.Core.List.{List}
 use mathlib.Core.Path.{_≡_}
 use borrow.Author.Needs.{needs}
-use Rattle.canlog.proofs.answer.put_answer.Statement.{statement}
-use Rattle.canlog.proofs.answer.put_answer.Tie as tie
+use Rattle.report.proofs.put_answer.Statement.{statement}
+use Rattle.report.proofs.put_answer.Tie as tie
 
 -- the text of the answer that was matched
 abbrev Put : Answer → List ℕ → List ℕ → List ℕ → ℕ → ℕ → Type 0

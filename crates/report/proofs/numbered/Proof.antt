@@ -1,12 +1,12 @@
--- `answer::numbered` meets its contract.
-use Rattle.canlog.specs.Answer.{numbered}
+-- `numbered` meets its contract.
+use Rattle.report.specs.Answer.{numbered}
 use Rattle.text.proofs.Puts.{puts-next}
 use Rattle.text.specs.Digits.{words}
 use native.Mathlib.Omega.{arith}
 use mathlib.Core.List.{[], _∷_, _++_}
 use borrow.Author.Needs.{needs}
-use Rattle.canlog.proofs.answer.numbered.Statement.{statement}
-use Rattle.canlog.proofs.answer.numbered.Tie as tie
+use Rattle.report.proofs.numbered.Statement.{statement}
+use Rattle.report.proofs.numbered.Tie as tie
 
 put-requires : tie.Need-put-requires
 put-requires c κs = search needs
