@@ -40,9 +40,9 @@ extern "C" {
     ) -> u64;
 }
 
-const ROUNDS: usize = 101;
+const ROUNDS: usize = 1001;
 const MESSAGES: usize = 64;
-const TURNS: usize = 2000;
+const TURNS: usize = 200;
 const ROOM: usize = 512;
 
 /// What a response is made of.
