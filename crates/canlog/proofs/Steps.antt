@@ -79,7 +79,8 @@ ahead-one : (bs : List ℕ) (b : ℕ) (o : Option (List ℕ)) → ahead bs (pair
 ahead-one bs b none = refl
 ahead-one bs b (some more) = ap some (sym (append-snoc bs b more))
 
-module _ (l bytes : List ℕ) (at k j : ℕ) (more : j < k) (room : at + k * 3 ≤ length l) (inv : pairs k (drop at l) ≡ ahead (take j bytes) (pairs (k - j) (drop (at + j * 3) l))) where
+module _ (l bytes : List ℕ) (at k j : ℕ) (more : j < k) (room : at + k * 3 ≤ length l)
+    (inv : pairs k (drop at l) ≡ ahead (take j bytes) (pairs (k - j) (drop (at + j * 3) l))) where
   next : pairs (k - j) (drop (at + j * 3) l) ≡ paired (pairOf (drop (at + j * 3) l)) (pairs (k - suc j) (drop (at + suc j * 3) l))
   unfolding pairs
   next =
@@ -102,7 +103,8 @@ module _ (l bytes : List ℕ) (at k j : ℕ) (more : j < k) (room : at + k * 3 �
       let p = no-pair (pairOf (drop (at + j * 3) l)) b (λ x q. pair-lt (drop (at + j * 3) l) x d q) e h in
       sym (inv ∙ ap (ahead (take j bytes)) (next ∙ ap (λ (o : Option ℕ). paired o (pairs (k - suc j) (drop (at + suc j * 3) l))) p))
 
-pub done : (l bytes : List ℕ) (at k j : ℕ) → j ≡ k → pairs k (drop at l) ≡ ahead (take j bytes) (pairs (k - j) (drop (at + j * 3) l)) → some (take k bytes) ≡ pairs k (drop at l)
+pub done : (l bytes : List ℕ) (at k j : ℕ) → j ≡ k → pairs k (drop at l) ≡ ahead (take j bytes) (pairs (k - j) (drop (at + j * 3) l))
+    → some (take k bytes) ≡ pairs k (drop at l)
 unfolding pairs
 done l bytes at k j e inv =
     let z : k - j ≡ 0 = omega arith in
@@ -164,7 +166,8 @@ reshape s l h =
 
 -- ── the numbers ──
 
-pub unread : (s : ℕ) (says : Option Frame) (r : Line) → r ≡ record { ok = false; head = 0; id = 0; time = 0; len = 0; bytes = replicate 8 0 } → says ≡ none → Reads s says r
+pub unread : (s : ℕ) (says : Option Frame) (r : Line) → r ≡ record { ok = false; head = 0; id = 0; time = 0; len = 0; bytes = replicate 8 0 }
+    → says ≡ none → Reads s says r
 unread s says r e n = rw (e, n) (record { frame = refl; head = λ q. absurd (false≢true q); few = omega arith })
 
 module _ (s : ℕ) (l : List ℕ) where
@@ -182,7 +185,8 @@ module _ (s : ℕ) (l : List ℕ) where
 
     pub needless-zero : (countOf sec ≡ s → ⊥) → fieldsOf s l ≡ none
     unfolding fieldsOf
-    needless-zero h = rw e₁ (needless (number 10 (span l (s + 1) 3)) (number 16 (span l (s + 5) 8)) (pairs ((length l - (s + 14)) / 3) (drop (s + 13) l)) h)
+    needless-zero h = rw e₁ (needless (number 10 (span l (s + 1) 3)) (number 16 (span l (s + 5) 8))
+        (pairs ((length l - (s + 14)) / 3) (drop (s + 13) l)) h)
 
     pub no-milliseconds : number 10 (span l (s + 1) 3) ≡ none → fieldsOf s l ≡ none
     unfolding fieldsOf framed
@@ -195,7 +199,8 @@ module _ (s : ℕ) (l : List ℕ) where
 
       module _ (id : ℕ) (e₃ : number 16 (span l (s + 5) 8) ≡ some id) where
         kept : countOf sec ≡ s → (ok : Bool) (bs : List ℕ)
-            → pick ok (some (record { id = id; bytes = bs; time = sec * 1000000 + ms * 1000 })) none ≡ framed s (some sec) (some ms) (some id) (pick ok (some bs) none)
+            → pick ok (some (record { id = id; bytes = bs; time = sec * 1000000 + ms * 1000 })) none ≡ framed s (some sec) (some ms) (some id)
+            (pick ok (some bs) none)
         unfolding framed
         kept h true bs = rw (eq-eqb (countOf sec) s h)
         kept h false bs = refl

@@ -47,13 +47,15 @@ module _ (l : List ℕ) (r : line.Line) (h : Reads (before 46 l) (said l) r) (ok
 
   -- the time, and the answer behind it
   module _ (m m' pay out out₁ out₂ : List ℕ) (c c' : Counts) (a : Answer) (p : ℕ) (room : r .head ≤ length out) where
-    pub replied : receive.result a m' pay ≡ received m (frameSaid r) (replicate 512 0) → out₁ ≡ splice out 0 (take (r .head) l) → Puts out₁ out₂ (r .head) p (answerText a pay)
+    pub replied : receive.result a m' pay ≡ received m (frameSaid r) (replicate 512 0) → out₁ ≡ splice out 0 (take (r .head) l)
+        → Puts out₁ out₂ (r .head) p (answerText a pay)
         → c' ≡ counted c (isHanded a) → result (Line (record { len = p; counts = c' })) m' out₂ ≡ given c out (reply m (said l))
     unfolding reply answered
     replied e f g n =
         let t = timeText (r .time) in
         let k : length t ≡ r .head = sym (ap length time) ∙ length-take-le (r .head) l head-in in
         let x : out₂ ≡ splice out 0 (t ++ answerText a pay) =
-        splice-next out out₁ out₂ 0 (r .head) t (answerText a pay) (omega arith) k (f ∙ ap (splice out 0) time) (g .out ∙ ap (λ (i : ℕ). splice out₁ i (answerText a pay)) (sym (zero-add (r .head)))) in
+        splice-next out out₁ out₂ 0 (r .head) t (answerText a pay) (omega arith) k (f ∙ ap (splice out 0) time)
+        (g .out ∙ ap (λ (i : ℕ). splice out₁ i (answerText a pay)) (sym (zero-add (r .head)))) in
         let y : p ≡ length (t ++ answerText a pay) = g .end ∙ omega (arith, length-append t (answerText a pay), k) in
         rw (says, ← e, y, n, x)

@@ -40,12 +40,20 @@ digit-glyph d h = ⊎-elim low high (decided (ltb d 10)) where
   high : ltb d 10 ≡ false → digitOf (glyph d) ≡ d
   high q =
       let k = ltb-false d 10 q in
-      rw (glyph-high d k, le-ltb (55 + d) 48 (omega arith), le-ltb (55 + d) 58 (omega arith), le-ltb (55 + d) 65 (omega arith), lt-ltb (55 + d) 71 (omega arith)) (omega arith)
+      rw (
+        glyph-high d k,
+        le-ltb (55 + d) 48 (omega arith),
+        le-ltb (55 + d) 58 (omega arith),
+        le-ltb (55 + d) 65 (omega arith),
+        lt-ltb (55 + d)
+            71 (omega arith),
+      ) (omega arith)
 
 pub glyph-digit : (c : ℕ) → digitOf c < 16 → glyph (digitOf c) ≡ c
 unfolding digitOf
 glyph-digit c = go (ltb c 48) (ltb c 58) (ltb c 65) (ltb c 71) refl refl refl refl where
-  go : (p q r s : Bool) → ltb c 48 ≡ p → ltb c 58 ≡ q → ltb c 65 ≡ r → ltb c 71 ≡ s → pick p 16 (pick q (c - 48) (pick r 16 (pick s (c - 55) 16))) < 16
+  go : (p q r s : Bool) → ltb c 48 ≡ p → ltb c 58 ≡ q → ltb c 65 ≡ r → ltb c 71 ≡ s
+      → pick p 16 (pick q (c - 48) (pick r 16 (pick s (c - 55) 16))) < 16
       → glyph (pick p 16 (pick q (c - 48) (pick r 16 (pick s (c - 55) 16)))) ≡ c
   go true q r s a b d e h = absurd (omega arith)
   go false true r s a b d e h =
@@ -158,7 +166,8 @@ count-more zero h = absurd (omega arith)
 count-more (suc n) h = rw (le-ltb (suc n) 10 h) (ap suc (same-count n (suc n / 10) (suc n / 10) (omega arith) (omega arith)))
 
 pub count-pos : (n : ℕ) → 0 < countOf n
-count-pos n = ⊎-elim (λ q. omega (arith, count-one n (ltb-true n 10 q))) (λ q. omega (arith, count-more n (ltb-false n 10 q))) (decided (ltb n 10))
+count-pos n = ⊎-elim (λ q. omega (arith, count-one n (ltb-true n 10 q))) (λ q. omega (arith, count-more n (ltb-false n 10 q)))
+    (decided (ltb n 10))
 
 -- w digits are enough for a number below 10 ^ w
 pub count-le : (w n : ℕ) → n < 10 ^ suc w → countOf n ≤ suc w
@@ -199,7 +208,8 @@ number-lt b few pos cs n e =
 
 -- no digit is a dot
 glyph-ge : (d : ℕ) → 48 ≤ glyph d
-glyph-ge d = ⊎-elim (λ q. omega (arith, glyph-low d (ltb-true d 10 q))) (λ q. omega (arith, glyph-high d (ltb-false d 10 q))) (decided (ltb d 10))
+glyph-ge d = ⊎-elim (λ q. omega (arith, glyph-low d (ltb-true d 10 q))) (λ q. omega (arith, glyph-high d (ltb-false d 10 q)))
+    (decided (ltb d 10))
 
 pub before-dot : (b w n : ℕ) (ys : List ℕ) → before 46 (digits b w n ++ (46 ∷ ys)) ≡ w
 unfolding before digits

@@ -18,11 +18,13 @@ pub set-splice : (m : List ℕ) (k c : ℕ) → k < length m → set m k c ≡ s
 set-splice m k c h = set-split m k c h ∙ rw (add-one k)
 
 -- behind a text that is to come
-pub behind-set : (m ys : List ℕ) (at n c : ℕ) → length ys ≡ n → at + n < length m → splice (set m (at + n) c) at ys ≡ splice m at (ys ++ (c ∷ []))
+pub behind-set : (m ys : List ℕ) (at n c : ℕ) → length ys ≡ n → at + n < length m
+    → splice (set m (at + n) c) at ys ≡ splice m at (ys ++ (c ∷ []))
 behind-set m ys at n c e h =
     let t : take at (set m (at + n) c) ≡ take at m = take-set-le at m (at + n) c (omega arith) in
     let d : drop (at + n) (set m (at + n) c) ≡ c ∷ drop (suc (at + n)) m =
-    ap (λ (l : List ℕ). drop (at + n) l) (set-split m (at + n) c h) ∙ drop-at (take (at + n) m) (c ∷ drop (suc (at + n)) m) (at + n) (length-take-le (at + n) m (omega arith)) in
+    ap (λ (l : List ℕ). drop (at + n) l) (set-split m (at + n) c h) ∙ drop-at (take (at + n) m) (c ∷ drop (suc (at + n)) m) (at + n)
+    (length-take-le (at + n) m (omega arith)) in
     let k : at + length (ys ++ (c ∷ [])) ≡ suc (at + n) = omega (arith, length-append ys (c ∷ [])) in
     rw (t, e, d, k, append-snoc)
 
@@ -31,7 +33,8 @@ pub splice-nil : (m : List ℕ) (at : ℕ) → splice m at [] ≡ m
 splice-nil m at = rw (add-zero at) (take-append-drop at m)
 
 -- one text behind another
-pub puts-next : (a b d : List ℕ) (at p q : ℕ) (x y : List ℕ) → Puts a b at p x → Puts b d p q y → at + length x ≤ length a → Puts a d at q (x ++ y)
+pub puts-next : (a b d : List ℕ) (at p q : ℕ) (x y : List ℕ) → Puts a b at p x → Puts b d p q y → at + length x ≤ length a
+    → Puts a d at q (x ++ y)
 puts-next a b d at p q x y f g h =
     record {
       out = splice-next a b d at (length x) x y h refl (f .out) (g .out ∙ ap (λ (k : ℕ). splice b k y) (f .end));
@@ -43,7 +46,8 @@ puts-next a b d at p q x y f g h =
 pub words-snoc : (vs : List ℕ) (v : ℕ) → words (vs ++ (v ∷ [])) ≡ words vs ++ words (v ∷ [])
 unfolding words
 words-snoc [] v = refl
-words-snoc (x ∷ xs) v = ap (λ (l : List ℕ). 32 ∷ l) (ap (λ (l : List ℕ). decimal x ++ l) (words-snoc xs v) ∙ sym (append-assoc (decimal x) (words xs) (words (v ∷ []))))
+words-snoc (x ∷ xs) v = ap (λ (l : List ℕ). 32 ∷ l) (ap (λ (l : List ℕ). decimal x ++ l) (words-snoc xs v)
+    ∙ sym (append-assoc (decimal x) (words xs) (words (v ∷ []))))
 
 pub length-word : (v : ℕ) → length (words (v ∷ [])) ≡ suc (countOf v)
 unfolding words decimal

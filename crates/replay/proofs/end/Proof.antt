@@ -16,7 +16,8 @@ use Rattle.replay.proofs.end.Tie as tie
 put : (m : List ℕ) (at c : ℕ) → at + 1 ≤ length m → Puts m (set m at c) at (at + 1) (c ∷ [])
 put m at c h = record { out = set-splice m at c (omega arith); end = refl }
 
-joined : (c : Counts) (m m' : List ℕ) (p : ℕ) → 1200 ≤ length m → length m' ≡ length m → Puts (set (set (set m 0 101) 1 110) 2 100) m' 3 p (words (c .lines ∷ c .transfers ∷ [])) → p ≤ 45
+joined : (c : Counts) (m m' : List ℕ) (p : ℕ) → 1200 ≤ length m → length m' ≡ length m
+    → Puts (set (set (set m 0 101) 1 110) 2 100) m' 3 p (words (c .lines ∷ c .transfers ∷ [])) → p ≤ 45
     → (Puts m (set m' p 10) 0 (p + 1) (endText c)) × (p + 1 ≤ length m)
 unfolding endText
 joined c m m' p h k f l =
@@ -69,7 +70,8 @@ returns : tie.Need-returns
 returns c =
     let r-put-words = c .before .before in
     let s = r-put-words .before .before .before .before in
-    joined (s .args .c) (s .args .out .now) (r-put-words .put-words .last .0) (r-put-words .put-words .result) (s .pre) (simp length-set at (r-put-words .put-words .kept .0)) (r-put-words .put-words .ensures .0) (r-put-words .put-words .ensures .1)
+    joined (s .args .c) (s .args .out .now) (r-put-words .put-words .last .0) (r-put-words .put-words .result) (s .pre)
+    (simp length-set at (r-put-words .put-words .kept .0)) (r-put-words .put-words .ensures .0) (r-put-words .put-words .ensures .1)
 
 pub end-spec : {M : Type 1} → statement M
 end-spec =

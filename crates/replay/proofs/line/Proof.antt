@@ -28,7 +28,8 @@ module _ (m l out : List ℕ) (c : Counts) where
   large h = rw (le-ltb (length out) 1200 h)
 
   -- a line that is not well formed
-  ill : (r : line.Line) (t : Told) (out' : List ℕ) → 1200 ≤ length out → Reads (before 46 l) (said l) r → r .ok ≡ false → t ≡ given c out (reply [] none) .answer
+  ill : (r : line.Line) (t : Told) (out' : List ℕ) → 1200 ≤ length out → Reads (before 46 l) (said l) r → r .ok ≡ false
+      → t ≡ given c out (reply [] none) .answer
       → out' ≡ given c out (reply [] none) .out → result t m out' ≡ replayed m l c out
   unfolding reply
   ill r t out' h reads bad e f =
@@ -59,8 +60,10 @@ returns-2 : tie.Need-returns-2
 returns-2 c =
     let r-receive = c .before .before .before .before in
     let r-if1 = r-receive .before .before .before .before .before in
-    let s = r-if1 .before .before .before .before in
-    (r-receive .receive .ensures .0 ∙ large (s .args .state .now) (s .args .line .now) (s .args .out .now) (s .args .c) (r-if1 .if1 .left), r-receive .receive .ensures .1)
+    let s = r-if1 .before .before .before .before in (
+      r-receive .receive .ensures .0 ∙ large (s .args .state .now) (s .args .line .now) (s .args .out .now) (s .args .c) (r-if1 .if1 .left),
+      r-receive .receive .ensures .1,
+    )
 
 refuse-requires : tie.Need-refuse-requires
 refuse-requires c κs = search needs
@@ -75,7 +78,9 @@ returns-3 c =
     let r-read = r-if2 .before in
     let r-if1 = r-read .before in
     let s = r-if1 .before .before .before .before in (
-      ill (s .args .state .now) (s .args .line .now) (s .args .out .now) (s .args .c) (r-read .read .result) (r-refuse .refuse .result) (r-refuse .refuse .last .0) (r-if1 .if1 .left) (r-read .read .ensures) (r-if2 .if2 .left) (r-refuse .refuse .ensures .0) (r-refuse .refuse .ensures .1 .0),
+      ill (s .args .state .now) (s .args .line .now) (s .args .out .now) (s .args .c) (r-read .read .result) (r-refuse .refuse .result)
+          (r-refuse .refuse .last .0) (r-if1 .if1 .left) (r-read .read .ensures) (r-if2 .if2 .left) (r-refuse .refuse .ensures .0)
+          (r-refuse .refuse .ensures .1 .0),
       r-refuse .refuse .ensures .1 .1,
     )
 

@@ -48,7 +48,8 @@ copy-at-requires c κs =
     let p = s .pre in
     let l = s .args .line .now in
     let k = s .args .l .head in
-    let n : length (take (k - 0) l) ≡ k = ap (λ (x : ℕ). length (take x l)) (sub-zero k) ∙ length-take-le k l (head-in l (s .args .l) (p .0) (p .1 .0)) in
+    let n : length (take (k - 0) l) ≡ k = ap (λ (x : ℕ). length (take x l)) (sub-zero k)
+    ∙ length-take-le k l (head-in l (s .args .l) (p .0) (p .1 .0)) in
     omega (arith, n, head-few l (s .args .l) (p .0) (p .1 .0), p .1 .1)
 
 slice-aggregate-put-answer : tie.Need-slice-aggregate-put-answer
@@ -60,7 +61,14 @@ put-answer-requires c κs =
     let r-receive = r-copy-at .before .before .before .before .before .before in
     let s = r-receive .before .before .before .before .before .before .before .before .before in
     let p = s .pre in
-    omega (arith, r-copy-at .copy-at .kept .0, r-receive .receive .kept .1 .1 .1 .1 .0, head-few (s .args .line .now) (s .args .l) (p .0) (p .1 .0), p .1 .1)
+    omega (
+      arith,
+      r-copy-at .copy-at .kept .0,
+      r-receive .receive .kept .1 .1 .1 .1 .0,
+      head-few (s .args .line .now) (s .args .l) (p .0)
+          (p .1 .0),
+      p .1 .1,
+    )
 
 is-handed-requires : tie.Need-is-handed-requires
 is-handed-requires c κs = search needs
@@ -85,9 +93,12 @@ returns c =
     let a = s .args in
     let p = s .pre in
     let l = a .line .now in (
-      replied l (a .l) (p .0) (p .1 .0) (a .state .now) (r-receive .receive .last .0) (r-receive .receive .last .1 .1 .1 .1 .0) (a .out .now) (r-copy-at .copy-at .last .0) (r-put-answer .put-answer .last .0) (a .c) (r-counted .counted .result) (r-receive .receive .result) (r-put-answer .put-answer .result)
+      replied l (a .l) (p .0) (p .1 .0) (a .state .now) (r-receive .receive .last .0) (r-receive .receive .last .1 .1 .1 .1 .0) (a .out .now)
+          (r-copy-at .copy-at .last .0) (r-put-answer .put-answer .last .0) (a .c) (r-counted .counted .result) (r-receive .receive .result)
+          (r-put-answer .put-answer .result)
           (omega (arith, head-few l (a .l) (p .0) (p .1 .0), p .1 .1))
-          (r-receive .receive .ensures ∙ ap (λ (k : ℕ). received (a .state .now) (frameOf (a .l .id) (take k (a .l .bytes)) (a .l .time)) (replicate 512 0)) (sub-zero (a .l .len)))
+          (r-receive .receive .ensures ∙ ap (λ (k : ℕ). received (a .state .now) (frameOf (a .l .id) (take k (a .l .bytes)) (a .l .time))
+          (replicate 512 0)) (sub-zero (a .l .len)))
           (r-copy-at .copy-at .ensures ∙ ap (λ (k : ℕ). splice (a .out .now) 0 (take k l)) (sub-zero (a .l .head)))
           (r-put-answer .put-answer .ensures .0)
           (r-counted .counted .ensures ∙ ap (counted (a .c)) (r-is-handed .is-handed .ensures)),

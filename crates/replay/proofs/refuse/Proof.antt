@@ -18,7 +18,8 @@ use borrow.Author.Needs.{needs}
 use Rattle.replay.proofs.refuse.Statement.{statement}
 use Rattle.replay.proofs.refuse.Tie as tie
 
-refused : (m m' : List ℕ) (c c' : Counts) (p : ℕ) → 1200 ≤ length m → Puts (set m 0 63) m' 1 p (numbered 45 18) → p ≤ length (set m 0 63) → c' ≡ counted c false
+refused : (m m' : List ℕ) (c c' : Counts) (p : ℕ) → 1200 ≤ length m → Puts (set m 0 63) m' 1 p (numbered 45 18) → p ≤ length (set m 0 63)
+    → c' ≡ counted c false
     → (Line (record { len = p; counts = c' }) ≡ given c m (reply [] none) .answer) × ((m' ≡ given c m (reply [] none) .out) × (p ≤ length m))
 unfolding reply
 refused m m' c c' p h f l e =
@@ -48,7 +49,8 @@ returns c =
     let r-counted = c in
     let r-numbered = r-counted .before .before .before in
     let s = r-numbered .before .before .before in
-    refused (s .args .out .now) (r-numbered .numbered .last .0) (s .args .c) (r-counted .counted .result) (r-numbered .numbered .result) (s .pre) (r-numbered .numbered .ensures .0) (r-numbered .numbered .ensures .1) (r-counted .counted .ensures)
+    refused (s .args .out .now) (r-numbered .numbered .last .0) (s .args .c) (r-counted .counted .result) (r-numbered .numbered .result) (s .pre)
+    (r-numbered .numbered .ensures .0) (r-numbered .numbered .ensures .1) (r-counted .counted .ensures)
 
 pub refuse-spec : {M : Type 1} → statement M
 refuse-spec =

@@ -44,9 +44,12 @@ returns c =
     let e = r-put .put .ensures .end in
     let e2 = r-put2 .put2 .ensures .end in
     let e3 = w .ensures .1 in (
-      puts-next m (r-put .put .last .0) (r-put3 .put3 .last .0) (a .at) (r-put .put .result) (r-put3 .put3 .result) (32 ∷ []) (a .sign ∷ (words vs ++ (10 ∷ []))) (r-put .put .ensures)
-          (puts-next (r-put .put .last .0) (r-put2 .put2 .last .0) (r-put3 .put3 .last .0) (r-put .put .result) (r-put2 .put2 .result) (r-put3 .put3 .result) (a .sign ∷ []) (words vs ++ (10 ∷ [])) (r-put2 .put2 .ensures)
-          (puts-next (r-put2 .put2 .last .0) (w .last .0) (r-put3 .put3 .last .0) (r-put2 .put2 .result) (w .result) (r-put3 .put3 .result) (words vs) (10 ∷ []) (w .ensures .0) (r-put3 .put3 .ensures) (omega (arith, s .pre, w .ensures .0 .end)))
+      puts-next m (r-put .put .last .0) (r-put3 .put3 .last .0) (a .at) (r-put .put .result) (r-put3 .put3 .result) (32 ∷ [])
+          (a .sign ∷ (words vs ++ (10 ∷ []))) (r-put .put .ensures)
+          (puts-next (r-put .put .last .0) (r-put2 .put2 .last .0) (r-put3 .put3 .last .0) (r-put .put .result) (r-put2 .put2 .result)
+          (r-put3 .put3 .result) (a .sign ∷ []) (words vs ++ (10 ∷ [])) (r-put2 .put2 .ensures)
+          (puts-next (r-put2 .put2 .last .0) (w .last .0) (r-put3 .put3 .last .0) (r-put2 .put2 .result) (w .result) (r-put3 .put3 .result)
+          (words vs) (10 ∷ []) (w .ensures .0) (r-put3 .put3 .ensures) (omega (arith, s .pre, w .ensures .0 .end)))
           (omega (arith, s .pre)))
           (omega (arith, s .pre)),
       omega (arith, s .pre, r-put3 .put3 .ensures .end),

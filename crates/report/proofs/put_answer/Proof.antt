@@ -22,11 +22,13 @@ matched : (a b : Answer) (pay m m' : List ℕ) (at r : ℕ) → a ≡ b → Put 
 matched a b pay m m' at r e h = rw e h
 
 -- the payload in front of the buffer, or all of it
-front : (t : Transfer) (pay m m' : List ℕ) (at r : ℕ) → (Puts m m' at r (transferText t (take (t .len - 0) pay))) × (r ≤ length m) → Put (Handed t) pay m m' at r
+front : (t : Transfer) (pay m m' : List ℕ) (at r : ℕ) → (Puts m m' at r (transferText t (take (t .len - 0) pay))) × (r ≤ length m)
+    → Put (Handed t) pay m m' at r
 unfolding answerText
 front t pay m m' at r h = rw (sub-zero (t .len)) at h
 
-whole : (t : Transfer) (pay m m' : List ℕ) (at r : ℕ) → length pay ≤ t .len → (Puts m m' at r (transferText t pay)) × (r ≤ length m) → Put (Handed t) pay m m' at r
+whole : (t : Transfer) (pay m m' : List ℕ) (at r : ℕ) → length pay ≤ t .len → (Puts m m' at r (transferText t pay)) × (r ≤ length m)
+    → Put (Handed t) pay m m' at r
 unfolding answerText
 whole t pay m m' at r l h = rw (take-all (t .len) pay l) h
 
@@ -116,7 +118,8 @@ returns-2 c =
     let r-enum-told = r-numbered .before .before in
     let s = r-enum-told .before .before .before .before in
     let a = s .args in
-    matched (a .a) _ (a .payload .now) (a .out .now) (r-numbered .numbered .last .0) (a .at) (r-numbered .numbered .result) (r-enum-told .enum-told .given .1) (r-numbered .numbered .ensures)
+    matched (a .a) _ (a .payload .now) (a .out .now) (r-numbered .numbered .last .0) (a .at) (r-numbered .numbered .result)
+    (r-enum-told .enum-told .given .1) (r-numbered .numbered .ensures)
 
 same-length-3 : tie.Need-same-length-3
 same-length-3 c = search needs
@@ -142,7 +145,8 @@ returns-4 c =
     let r-a2 = r-numbered2 .before .before .before in
     let s = r-a2 .before .before .before .before in
     let g = s .args in
-    matched (g .a) _ (g .payload .now) (g .out .now) (r-numbered2 .numbered2 .last .0) (g .at) (r-numbered2 .numbered2 .result) (r-a2 .a2 .given .1) (r-numbered2 .numbered2 .ensures)
+    matched (g .a) _ (g .payload .now) (g .out .now) (r-numbered2 .numbered2 .last .0) (g .at) (r-numbered2 .numbered2 .result)
+    (r-a2 .a2 .given .1) (r-numbered2 .numbered2 .ensures)
 
 same-length-5 : tie.Need-same-length-5
 same-length-5 c = search needs
@@ -154,7 +158,8 @@ returns-5 c =
     let r-enum-told2 = r-numbered3 .before .before in
     let s = r-enum-told2 .before .before .before .before in
     let g = s .args in
-    matched (g .a) _ (g .payload .now) (g .out .now) (r-numbered3 .numbered3 .last .0) (g .at) (r-numbered3 .numbered3 .result) (r-enum-told2 .enum-told2 .given .1) (r-numbered3 .numbered3 .ensures)
+    matched (g .a) _ (g .payload .now) (g .out .now) (r-numbered3 .numbered3 .last .0) (g .at) (r-numbered3 .numbered3 .result)
+    (r-enum-told2 .enum-told2 .given .1) (r-numbered3 .numbered3 .ensures)
 
 same-length-6 : tie.Need-same-length-6
 same-length-6 c = search needs
@@ -166,7 +171,8 @@ returns-6 c =
     let r-enum-told3 = r-numbered4 .before .before in
     let s = r-enum-told3 .before .before .before .before in
     let g = s .args in
-    matched (g .a) _ (g .payload .now) (g .out .now) (r-numbered4 .numbered4 .last .0) (g .at) (r-numbered4 .numbered4 .result) (r-enum-told3 .enum-told3 .given .1) (r-numbered4 .numbered4 .ensures)
+    matched (g .a) _ (g .payload .now) (g .out .now) (r-numbered4 .numbered4 .last .0) (g .at) (r-numbered4 .numbered4 .result)
+    (r-enum-told3 .enum-told3 .given .1) (r-numbered4 .numbered4 .ensures)
 
 same-length-7 : tie.Need-same-length-7
 same-length-7 c = search needs
@@ -178,7 +184,8 @@ returns-7 c =
     let r-enum-told4 = r-numbered5 .before .before in
     let s = r-enum-told4 .before .before .before .before in
     let g = s .args in
-    matched (g .a) _ (g .payload .now) (g .out .now) (r-numbered5 .numbered5 .last .0) (g .at) (r-numbered5 .numbered5 .result) (r-enum-told4 .enum-told4 .given .1) (r-numbered5 .numbered5 .ensures)
+    matched (g .a) _ (g .payload .now) (g .out .now) (r-numbered5 .numbered5 .last .0) (g .at) (r-numbered5 .numbered5 .result)
+    (r-enum-told4 .enum-told4 .given .1) (r-numbered5 .numbered5 .ensures)
 
 same-length-8 : tie.Need-same-length-8
 same-length-8 c = search needs
@@ -190,7 +197,8 @@ returns-8 c =
     let r-enum-told5 = r-numbered6 .before .before in
     let s = r-enum-told5 .before .before .before .before in
     let g = s .args in
-    matched (g .a) _ (g .payload .now) (g .out .now) (r-numbered6 .numbered6 .last .0) (g .at) (r-numbered6 .numbered6 .result) (r-enum-told5 .enum-told5 .given .1) (r-numbered6 .numbered6 .ensures)
+    matched (g .a) _ (g .payload .now) (g .out .now) (r-numbered6 .numbered6 .last .0) (g .at) (r-numbered6 .numbered6 .result)
+    (r-enum-told5 .enum-told5 .given .1) (r-numbered6 .numbered6 .ensures)
 
 same-length-9 : tie.Need-same-length-9
 same-length-9 c = search needs
@@ -202,7 +210,8 @@ returns-9 c =
     let r-enum-told6 = r-numbered7 .before .before in
     let s = r-enum-told6 .before .before .before .before in
     let g = s .args in
-    matched (g .a) _ (g .payload .now) (g .out .now) (r-numbered7 .numbered7 .last .0) (g .at) (r-numbered7 .numbered7 .result) (r-enum-told6 .enum-told6 .given .1) (r-numbered7 .numbered7 .ensures)
+    matched (g .a) _ (g .payload .now) (g .out .now) (r-numbered7 .numbered7 .last .0) (g .at) (r-numbered7 .numbered7 .result)
+    (r-enum-told6 .enum-told6 .given .1) (r-numbered7 .numbered7 .ensures)
 
 pub put-answer-spec : {M : Type 1} → statement M
 put-answer-spec =

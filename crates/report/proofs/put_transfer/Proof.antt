@@ -13,9 +13,11 @@ use Rattle.report.proofs.put_transfer.Statement.{statement}
 use Rattle.report.proofs.put_transfer.Tie as tie
 
 -- the six parts, one behind the other, in a buffer of n bytes
-joined : (t : Transfer) (pay m m₁ m₂ m₃ m₄ m₅ m₆ : List ℕ) (n at a b c d e f l : ℕ) → at + 131 + length pay * 2 ≤ n → length m ≡ n → length m₁ ≡ n → length m₂ ≡ n
+joined : (t : Transfer) (pay m m₁ m₂ m₃ m₄ m₅ m₆ : List ℕ) (n at a b c d e f l : ℕ) → at + 131 + length pay * 2 ≤ n → length m ≡ n
+    → length m₁ ≡ n → length m₂ ≡ n
     → length m₃ ≡ n → length m₄ ≡ n → length m₅ ≡ n → l ≡ letterOf (t .kind) → Puts m m₁ at a (32 ∷ []) → Puts m₁ m₂ a b (l ∷ [])
-    → Puts m₂ m₃ b c (words (t .«type_id» ∷ t .source ∷ t .destination ∷ t .priority ∷ t .transfer ∷ t .len ∷ [])) → c ≤ b + 126 → Puts m₃ m₄ c d (32 ∷ [])
+    → Puts m₂ m₃ b c (words (t .«type_id» ∷ t .source ∷ t .destination ∷ t .priority ∷ t .transfer ∷ t .len ∷ [])) → c ≤ b + 126 → Puts m₃ m₄ c d
+    (32 ∷ [])
     → Puts m₄ m₅ d e (payloadText pay) → e ≤ d + 1 + length pay * 2 → Puts m₅ m₆ e f (10 ∷ [])
     → (Puts m m₆ at f (transferText t pay)) × (f ≤ n)
 unfolding transferText
@@ -74,7 +76,20 @@ put-requires-4 c κs =
     let r-put2 = r-put-words .before .before .before .before .before in
     let r-put = r-put2 .before .before .before .before .before in
     let s = r-put .before .before .before .before .before .before .before .before .before in
-    omega (arith, s .pre, r-put .put .kept .0, r-put2 .put2 .kept .0, r-put-words .put-words .kept .0, r-put3 .put3 .kept .0, r-put-payload .put-payload .kept .0, r-put .put .ensures .end, r-put2 .put2 .ensures .end, r-put-words .put-words .ensures .1, r-put3 .put3 .ensures .end, r-put-payload .put-payload .ensures .1)
+    omega (
+      arith,
+      s .pre,
+      r-put .put .kept .0,
+      r-put2 .put2 .kept .0,
+      r-put-words .put-words .kept .0,
+      r-put3 .put3 .kept .0,
+      r-put-payload .put-payload .kept .0,
+      r-put .put .ensures .end,
+      r-put2 .put2 .ensures .end,
+      r-put-words .put-words .ensures .1,
+      r-put3 .put3 .ensures .end,
+      r-put-payload .put-payload .ensures .1,
+    )
 
 same-length : tie.Need-same-length
 same-length c = search needs
@@ -99,7 +114,10 @@ returns c =
     let k₃ : length (w .last .0) ≡ n = w .kept .0 ∙ k₂ in
     let k₄ : length (r-put3 .put3 .last .0) ≡ n = r-put3 .put3 .kept .0 ∙ k₃ in
     let k₅ : length (y .last .0) ≡ n = y .kept .0 ∙ k₄ in
-    joined (a .t) (a .payload .now) m (r-put .put .last .0) (r-put2 .put2 .last .0) (w .last .0) (r-put3 .put3 .last .0) (y .last .0) (r-put4 .put4 .last .0) n (a .at) (r-put .put .result) (r-put2 .put2 .result) (w .result) (r-put3 .put3 .result) (y .result) (r-put4 .put4 .result) (r-letter .letter .result) (s .pre) refl k₁ k₂ k₃ k₄ k₅ (r-letter .letter .ensures) (r-put .put .ensures) (r-put2 .put2 .ensures) (w .ensures .0) (w .ensures .1) (r-put3 .put3 .ensures) (y .ensures .0) (y .ensures .1) (r-put4 .put4 .ensures)
+    joined (a .t) (a .payload .now) m (r-put .put .last .0) (r-put2 .put2 .last .0) (w .last .0) (r-put3 .put3 .last .0) (y .last .0)
+    (r-put4 .put4 .last .0) n (a .at) (r-put .put .result) (r-put2 .put2 .result) (w .result) (r-put3 .put3 .result) (y .result)
+    (r-put4 .put4 .result) (r-letter .letter .result) (s .pre) refl k₁ k₂ k₃ k₄ k₅ (r-letter .letter .ensures) (r-put .put .ensures)
+    (r-put2 .put2 .ensures) (w .ensures .0) (w .ensures .1) (r-put3 .put3 .ensures) (y .ensures .0) (y .ensures .1) (r-put4 .put4 .ensures)
 
 pub put-transfer-spec : {M : Type 1} → statement M
 put-transfer-spec =

@@ -36,8 +36,18 @@ loop-less c = omega arith
 loop-again : tie.Need-loop-again Inv-loop μ-loop
 loop-again c =
     let l = c .before .before .before in
-    let a = l .before .args in
-    (omega arith, (omega arith, rw add-one (omega (arith, l .loop .inv .1 .1, miss (a .c) (a .s .now) (l .loop .i) (omega arith) (c .if1 .left)))))
+    let a = l .before .args in (
+      omega arith,
+      (
+        omega arith,
+        rw add-one (omega (
+          arith,
+          l .loop .inv .1 .1,
+          miss (a .c) (a .s .now) (l .loop .i) (omega arith)
+              (c .if1 .left),
+        )),
+      ),
+    )
 
 returns-2 : tie.Need-returns-2 Inv-loop μ-loop
 returns-2 c =

@@ -15,7 +15,8 @@ use Rattle.text.proofs.number.Statement.{statement}
 use Rattle.text.proofs.number.Tie as tie
 
 -- a turn that goes on, and one that stops
-on : (s : List ℕ) (b v i d : ℕ) → i < length s → d ≡ digitOf (getD s i 0) → d < b → numberFrom b v (drop i s) ≡ numberFrom b (v * b + d) (drop (suc i) s)
+on : (s : List ℕ) (b v i d : ℕ) → i < length s → d ≡ digitOf (getD s i 0) → d < b
+    → numberFrom b v (drop i s) ≡ numberFrom b (v * b + d) (drop (suc i) s)
 on s b v i d h e l = rw (drop-cons s i 0, e) (taken b v (getD s i 0) (drop (suc i) s) (omega arith))
 
 off : (s : List ℕ) (b v i d : ℕ) → i < length s → d ≡ digitOf (getD s i 0) → b ≤ d → numberFrom b v (drop i s) ≡ none
@@ -45,21 +46,30 @@ returns c =
     let d = c .before in
     let l = d .before .before .before in
     let a = l .before .before .args in
-    sym (ap asNumber (sym (l .loop .inv .1 .1) ∙ off (a .s .now) (a .base) (l .loop .v) (l .loop .i) (d .digit .result) (omega arith) (d .digit .ensures) (c .if1 .taken)))
+    sym (ap asNumber (sym (l .loop .inv .1 .1) ∙ off (a .s .now) (a .base) (l .loop .v) (l .loop .i) (d .digit .result) (omega arith)
+    (d .digit .ensures) (c .if1 .taken)))
 
 mul-v : tie.Need-mul-v Inv-loop μ-loop
 mul-v c =
     let d = c .before in
     let l = d .before .before .before in
     let a = l .before .before .args in
-    omega (arith, grows (l .loop .v) (l .loop .i) (a .base) (d .digit .result) (l .loop .inv .1 .0) (omega (arith, l .before .before .pre)) (l .before .before .pre .1) (c .if1 .left))
+    omega (
+      arith,
+      grows (l .loop .v) (l .loop .i) (a .base) (d .digit .result) (l .loop .inv .1 .0) (omega (arith, l .before .before .pre))
+          (l .before .before .pre .1) (c .if1 .left),
+    )
 
 add-v : tie.Need-add-v Inv-loop μ-loop
 add-v c =
     let d = c .before in
     let l = d .before .before .before in
     let a = l .before .before .args in
-    omega (arith, grows (l .loop .v) (l .loop .i) (a .base) (d .digit .result) (l .loop .inv .1 .0) (omega (arith, l .before .before .pre)) (l .before .before .pre .1) (c .if1 .left))
+    omega (
+      arith,
+      grows (l .loop .v) (l .loop .i) (a .base) (d .digit .result) (l .loop .inv .1 .0) (omega (arith, l .before .before .pre))
+          (l .before .before .pre .1) (c .if1 .left),
+    )
 
 add-i : tie.Need-add-i Inv-loop μ-loop
 add-i c = omega arith
@@ -72,7 +82,8 @@ loop-again c =
     let d = c .before in
     let l = d .before .before .before in
     let a = l .before .before .args in
-    let g = grows (l .loop .v) (l .loop .i) (a .base) (d .digit .result) (l .loop .inv .1 .0) (omega (arith, l .before .before .pre)) (l .before .before .pre .1) (c .if1 .left) in
+    let g = grows (l .loop .v) (l .loop .i) (a .base) (d .digit .result) (l .loop .inv .1 .0) (omega (arith, l .before .before .pre))
+    (l .before .before .pre .1) (c .if1 .left) in
     let o = on (a .s .now) (a .base) (l .loop .v) (l .loop .i) (d .digit .result) (omega arith) (d .digit .ensures) (c .if1 .left) in
     (omega arith, rw add-one (g .0, sym o ∙ l .loop .inv .1 .1))
 

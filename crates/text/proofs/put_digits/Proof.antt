@@ -12,7 +12,8 @@ use Rattle.text.proofs.put_digits.Statement.{statement}
 use Rattle.text.proofs.put_digits.Tie as tie
 
 -- a turn: with the digits before it, the digit stored is the last of them
-turn : (m : List ℕ) (at i x : ℕ) → 0 < i → at + i ≤ length m → splice (set m (at + (i - 1)) (48 + x % 10)) at (digits 10 (i - 1) (x / 10)) ≡ splice m at (digits 10 i x)
+turn : (m : List ℕ) (at i x : ℕ) → 0 < i → at + i ≤ length m
+    → splice (set m (at + (i - 1)) (48 + x % 10)) at (digits 10 (i - 1) (x / 10)) ≡ splice m at (digits 10 i x)
 turn m at i x p h =
     let j = i - 1 in
     let e : i ≡ suc j = omega arith in
@@ -57,8 +58,14 @@ loop-less c = omega arith
 loop-again : tie.Need-loop-again Inv-loop μ-loop
 loop-again c =
     let l = c .before in
-    let a = l .before .args in
-    (omega arith, (simp length-set (l .loop .inv .1 .0), turn (l .loop .out) (a .at) (l .loop .i) (l .loop .x) (c .loop-test .taken) (omega arith) ∙ l .loop .inv .1 .1))
+    let a = l .before .args in (
+      omega arith,
+      (
+        simp length-set (l .loop .inv .1 .0),
+        turn (l .loop .out) (a .at) (l .loop .i) (l .loop .x) (c .loop-test .taken)
+            (omega arith) ∙ l .loop .inv .1 .1,
+      ),
+    )
 
 same-length : tie.Need-same-length Inv-loop μ-loop
 same-length c = c .before .loop .inv .1 .0

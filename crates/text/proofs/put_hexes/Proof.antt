@@ -28,7 +28,8 @@ turn m₀ m s at i x y h r l b p q e =
     let g : set m₁ (k + 1) y ≡ splice m₁ (k + 1) (y ∷ []) = set-splice m₁ (k + 1) y (omega arith) in
     let two : set m₁ (k + 1) y ≡ splice m k (x ∷ y ∷ []) = splice-next m m₁ (set m₁ (k + 1) y) k 1 (x ∷ []) (y ∷ []) (omega arith) refl f g in
     let d : x ∷ y ∷ [] ≡ digits 16 2 (getD s i 0) = rw (p, q) (sym (two-digits (getD s i 0) b)) in
-    let t : hexes (take i s) ++ digits 16 2 (getD s i 0) ≡ hexes (take (suc i) s) = sym (hexes-snoc (take i s) (getD s i 0)) ∙ ap hexes (sym (take-suc s i 0 h)) in
+    let t : hexes (take i s) ++ digits 16 2 (getD s i 0) ≡ hexes (take (suc i) s) = sym (hexes-snoc (take i s) (getD s i 0))
+    ∙ ap hexes (sym (take-suc s i 0 h)) in
     splice-next m₀ m (set m₁ (k + 1) y) at (i * 2) (hexes (take i s)) (digits 16 2 (getD s i 0)) (omega arith) (length-front s i (omega arith)) e
     (two ∙ ap (λ (z : List ℕ). splice m k z) d)
     ∙ ap (λ (z : List ℕ). splice m₀ at z) t
@@ -89,7 +90,8 @@ loop-again c =
       omega arith,
       (
         simp length-set (l .loop .inv .1 .0),
-        rw (add-one (l .loop .i)) (turn (a .out .now) (l .loop .out) (a .s .now) (a .at) (l .loop .i) (h .hex-digit .result) (c .hex-digit2 .result) (omega arith) (s .pre) (l .loop .inv .1 .0)
+        rw (add-one (l .loop .i)) (turn (a .out .now) (l .loop .out) (a .s .now) (a .at) (l .loop .i) (h .hex-digit .result)
+            (c .hex-digit2 .result) (omega arith) (s .pre) (l .loop .inv .1 .0)
             (omega (arith, k .shared-slice-known2 .given (l .loop .i))) (h .hex-digit .ensures) (c .hex-digit2 .ensures) (l .loop .inv .1 .1)),
       ),
     )

@@ -13,9 +13,11 @@ use Rattle.text.proofs.put_words.Statement.{statement}
 use Rattle.text.proofs.put_words.Tie as tie
 
 -- a turn: one word behind the others
-turn : (a b d vs : List ℕ) (at i p q : ℕ) → i < length vs → p + 21 ≤ length a → Puts a b at p (words (take i vs)) → Puts b d p q (words (getD vs i 0 ∷ [])) → Puts a d at q (words (take (suc i) vs))
+turn : (a b d vs : List ℕ) (at i p q : ℕ) → i < length vs → p + 21 ≤ length a → Puts a b at p (words (take i vs))
+    → Puts b d p q (words (getD vs i 0 ∷ [])) → Puts a d at q (words (take (suc i) vs))
 turn a b d vs at i p q h l f g =
-    let e : words (take (suc i) vs) ≡ words (take i vs) ++ words (getD vs i 0 ∷ []) = ap words (take-suc vs i 0 h) ∙ words-snoc (take i vs) (getD vs i 0) in
+    let e : words (take (suc i) vs) ≡ words (take i vs) ++ words (getD vs i 0 ∷ []) = ap words (take-suc vs i 0 h)
+    ∙ words-snoc (take i vs) (getD vs i 0) in
     rw e (puts-next a b d at p q (words (take i vs)) (words (getD vs i 0 ∷ [])) f g (omega (arith, f .end)))
 
 abbrev Inv-loop : tie.InvT-loop
@@ -60,7 +62,8 @@ loop-again c =
         omega (arith, w .word .kept .0, v .0),
         (
           omega (arith, w .word .ensures .1, v .1 .0),
-          rw (add-one i) (turn (a .out .now) (l .loop .out) (w .word .last .0) (a .vs .now) (a .at) i (l .loop .p) (w .word .result) (omega arith)
+          rw (add-one i) (turn (a .out .now) (l .loop .out) (w .word .last .0) (a .vs .now) (a .at) i (l .loop .p) (w .word .result)
+              (omega arith)
               (omega (arith, s .pre, v .1 .0)) (v .1 .1) (w .word .ensures .0)),
         ),
       ),

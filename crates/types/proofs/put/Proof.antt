@@ -62,8 +62,10 @@ returns c =
     let p1 = p2 .before .before .before .before in
     let s = p1 .before .before .before in
     let a = s .args in
-    joined (a .out .now) (p1 .put-at .last .0) (p2 .put-at2 .last .0) (q .put-at3 .last .0) (a .j * 13) (a .kind) (a .type-id) (signatureOf (a .kind) (a .type-id)) (s .pre)
-    (p1 .put-at .ensures) (p2 .put-at2 .ensures) (q .put-at3 .ensures ∙ ap (λ (x : ℕ). splice (p2 .put-at2 .last .0) (a .j * 13 + 5) (leBytes 8 x)) (g .signature .ensures))
+    joined (a .out .now) (p1 .put-at .last .0) (p2 .put-at2 .last .0) (q .put-at3 .last .0) (a .j * 13) (a .kind) (a .type-id)
+    (signatureOf (a .kind) (a .type-id)) (s .pre)
+    (p1 .put-at .ensures) (p2 .put-at2 .ensures) (q .put-at3 .ensures
+    ∙ ap (λ (x : ℕ). splice (p2 .put-at2 .last .0) (a .j * 13 + 5) (leBytes 8 x)) (g .signature .ensures))
 
 pub put-spec : {M : Type 1} → statement M
 put-spec =

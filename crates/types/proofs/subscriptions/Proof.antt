@@ -19,7 +19,8 @@ all-written : written 4 0 16383 (written 3 0 16370 (written 2 0 1 (written 1 1 1
 unfolding written record13 records signatureOf subscribed leBytes
 all-written = refl
 
-five : (a b d e f : List ℕ) → a ≡ written 0 0 341 (replicate 65 0) → b ≡ written 1 1 1 a → d ≡ written 2 0 1 b → e ≡ written 3 0 16370 d → f ≡ written 4 0 16383 e
+five : (a b d e f : List ℕ) → a ≡ written 0 0 341 (replicate 65 0) → b ≡ written 1 1 1 a → d ≡ written 2 0 1 b → e ≡ written 3 0 16370 d
+    → f ≡ written 4 0 16383 e
     → f ≡ records standard
 five a b d e f p q r s t =
     t ∙ ap (written 4 0 16383) (s ∙ ap (written 3 0 16370) (r ∙ ap (written 2 0 1) (q ∙ ap (written 1 1 1) p))) ∙ all-written
@@ -62,7 +63,8 @@ returns c =
     let p3 = p4 .before .before .before in
     let p2 = p3 .before .before .before in
     let p1 = p2 .before .before .before in
-    five (p1 .put .last .0) (p2 .put2 .last .0) (p3 .put3 .last .0) (p4 .put4 .last .0) (p5 .put5 .last .0) (p1 .put .ensures) (p2 .put2 .ensures) (p3 .put3 .ensures)
+    five (p1 .put .last .0) (p2 .put2 .last .0) (p3 .put3 .last .0) (p4 .put4 .last .0) (p5 .put5 .last .0) (p1 .put .ensures)
+    (p2 .put2 .ensures) (p3 .put3 .ensures)
     (p4 .put4 .ensures) (p5 .put5 .ensures)
 
 pub subscriptions-spec : {M : Type 1} → statement M

@@ -29,13 +29,15 @@ returns c =
     let r-number = r-enum-told .before .before in
     let s = r-number .before .before in
     let a = s .args in
-    unread (a .s) _ (r-ill-formed .ill-formed .result) (r-ill-formed .ill-formed .ensures) (no-seconds (a .s) (a .line .now) (not _ (r-number .number .result) (r-number .number .ensures) (r-enum-told .enum-told .given .1)))
+    unread (a .s) _ (r-ill-formed .ill-formed .result) (r-ill-formed .ill-formed .ensures)
+    (no-seconds (a .s) (a .line .now) (not _ (r-number .number .result) (r-number .number .ensures) (r-enum-told .enum-told .given .1)))
 
 count-requires : tie.Need-count-requires
 count-requires c κs = search needs
 
 add-number : tie.Need-add-number
-add-number c = let s = c .before .before .before .before .before .before .before in omega (arith, shape (s .args .s) (s .args .line .now) (s .pre) .few)
+add-number c = let s = c .before .before .before .before .before .before .before in omega
+    (arith, shape (s .args .s) (s .args .line .now) (s .pre) .few)
 
 number-requires-2 : tie.Need-number-requires-2
 number-requires-2 c κs =
@@ -62,10 +64,13 @@ returns-2 c =
     let s = r-number .before .before in
     let a = s .args in
     let sec = is _ (r-number .number .result) _ (r-number .number .ensures) (r-sec .sec .given .1) in
-    unread (a .s) _ (r-ill-formed2 .ill-formed2 .result) (r-ill-formed2 .ill-formed2 .ensures) (no-milliseconds (a .s) (a .line .now) _ sec (not _ (r-number2 .number2 .result) (r-number2 .number2 .ensures) (r-enum-told2 .enum-told2 .given .1)))
+    unread (a .s) _ (r-ill-formed2 .ill-formed2 .result) (r-ill-formed2 .ill-formed2 .ensures)
+    (no-milliseconds (a .s) (a .line .now) _ sec (not _ (r-number2 .number2 .result) (r-number2 .number2 .ensures)
+    (r-enum-told2 .enum-told2 .given .1)))
 
 add-number-2 : tie.Need-add-number-2
-add-number-2 c = let s = c .before .before .before .before .before .before .before .before .before .before .before in omega (arith, shape (s .args .s) (s .args .line .now) (s .pre) .few)
+add-number-2 c = let s = c .before .before .before .before .before .before .before .before .before .before .before in omega
+    (arith, shape (s .args .s) (s .args .line .now) (s .pre) .few)
 
 number-requires-3 : tie.Need-number-requires-3
 number-requires-3 c κs =
@@ -95,10 +100,13 @@ returns-3 c =
     let a = s .args in
     let sec = is _ (r-number .number .result) _ (r-number .number .ensures) (r-sec .sec .given .1) in
     let ms = is _ (r-number2 .number2 .result) _ (r-number2 .number2 .ensures) (r-ms .ms .given .1) in
-    unread (a .s) _ (r-ill-formed3 .ill-formed3 .result) (r-ill-formed3 .ill-formed3 .ensures) (no-id (a .s) (a .line .now) _ sec _ ms (not _ (r-number3 .number3 .result) (r-number3 .number3 .ensures) (r-enum-told3 .enum-told3 .given .1)))
+    unread (a .s) _ (r-ill-formed3 .ill-formed3 .result) (r-ill-formed3 .ill-formed3 .ensures)
+    (no-id (a .s) (a .line .now) _ sec _ ms (not _ (r-number3 .number3 .result) (r-number3 .number3 .ensures)
+    (r-enum-told3 .enum-told3 .given .1)))
 
 add-k : tie.Need-add-k
-add-k c = let s = c .before .before .before .before .before .before .before .before .before .before .before .before .before .before .before in omega (arith, shape (s .args .s) (s .args .line .now) (s .pre) .few)
+add-k c = let s = c .before .before .before .before .before .before .before .before .before .before .before .before .before .before .before in
+    omega (arith, shape (s .args .s) (s .args .line .now) (s .pre) .few)
 
 sub-k : tie.Need-sub-k
 sub-k c =
@@ -107,7 +115,9 @@ sub-k c =
     h .long
 
 add-pairs : tie.Need-add-pairs
-add-pairs c = let s = c .before .before .before .before .before .before .before .before .before .before .before .before .before .before .before in omega (arith, shape (s .args .s) (s .args .line .now) (s .pre) .few)
+add-pairs c = let s =
+    c .before .before .before .before .before .before .before .before .before .before .before .before .before .before .before in omega
+    (arith, shape (s .args .s) (s .args .line .now) (s .pre) .few)
 
 pairs-requires : tie.Need-pairs-requires
 pairs-requires c κs =
@@ -116,7 +126,9 @@ pairs-requires c κs =
     (omega (arith, h .short, h .long), omega (arith, h .long))
 
 add-t16 : tie.Need-add-t16
-add-t16 c = let s = c .before .before .before .before .before .before .before .before .before .before .before .before .before .before .before .before .before in omega (arith, shape (s .args .s) (s .args .line .now) (s .pre) .few)
+add-t16 c = let s =
+    c .before .before .before .before .before .before .before .before .before .before .before .before .before .before .before .before .before in
+    omega (arith, shape (s .args .s) (s .args .line .now) (s .pre) .few)
 
 cast-t17 : tie.Need-cast-t17
 cast-t17 c =
@@ -175,7 +187,13 @@ returns-4 c =
     let sec = is _ (r-number .number .result) _ (r-number .number .ensures) (r-sec .sec .given .1) in
     let ms = is _ (r-number2 .number2 .result) _ (r-number2 .number2 .ensures) (r-ms .ms .given .1) in
     let id = is _ (r-number3 .number3 .result) _ (r-number3 .number3 .ensures) (r-id .id .given .1) in
-    record { frame = read-all (a .s) (a .line .now) _ sec _ ms _ id (sym (r-count .count .ensures .0) ∙ r-if1 .if1 .taken) (r-pairs .pairs .result .ok) _ (r-pairs .pairs .ensures .0); head = λ q. refl; few = omega (arith, shape (a .s) (a .line .now) (s .pre) .short, r-pairs .pairs .ensures .1) }
+    record {
+      frame = read-all (a .s) (a .line .now) _ sec _ ms _ id (sym (r-count .count .ensures .0) ∙ r-if1 .if1 .taken)
+          (r-pairs .pairs .result .ok) _ (r-pairs .pairs .ensures .0);
+      head = λ q. refl;
+      few = omega
+          (arith, shape (a .s) (a .line .now) (s .pre) .short, r-pairs .pairs .ensures .1);
+    }
 
 ill-formed-requires-4 : tie.Need-ill-formed-requires-4
 ill-formed-requires-4 c κs = search needs
@@ -190,7 +208,8 @@ returns-5 c =
     let s = r-number .before .before in
     let a = s .args in
     let sec = is _ (r-number .number .result) _ (r-number .number .ensures) (r-sec .sec .given .1) in
-    unread (a .s) _ (r-ill-formed4 .ill-formed4 .result) (r-ill-formed4 .ill-formed4 .ensures) (needless-zero (a .s) (a .line .now) _ sec (λ q. r-if1 .if1 .left (r-count .count .ensures .0 ∙ q)))
+    unread (a .s) _ (r-ill-formed4 .ill-formed4 .result) (r-ill-formed4 .ill-formed4 .ensures)
+    (needless-zero (a .s) (a .line .now) _ sec (λ q. r-if1 .if1 .left (r-count .count .ensures .0 ∙ q)))
 
 pub fields-spec : {M : Type 1} → statement M
 fields-spec =

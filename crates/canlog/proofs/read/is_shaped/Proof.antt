@@ -142,7 +142,8 @@ returns-6 c =
     let r-if2 = r-if3 .before in
     let r-if1 = r-if2 .before in
     let s = r-if1 .before in
-    last (s .args .line .now) (s .args .s) (r-if1 .if1 .left) (r-if2 .if2 .left) (r-if3 .if3 .left) (r-if4 .if4 .left) (r-if5 .if5 .left) (r-if6 .if6 .taken)
+    last (s .args .line .now) (s .args .s) (r-if1 .if1 .left) (r-if2 .if2 .left) (r-if3 .if3 .left) (r-if4 .if4 .left) (r-if5 .if5 .left)
+    (r-if6 .if6 .taken)
 
 returns-7 : tie.Need-returns-7
 returns-7 c =
@@ -153,7 +154,8 @@ returns-7 c =
     let r-if2 = r-if3 .before in
     let r-if1 = r-if2 .before in
     let s = r-if1 .before in
-    off (s .args .line .now) (s .args .s) (r-if1 .if1 .left) (r-if2 .if2 .left) (r-if3 .if3 .left) (r-if4 .if4 .left) (r-if5 .if5 .left) (r-if6 .if6 .left)
+    off (s .args .line .now) (s .args .s) (r-if1 .if1 .left) (r-if2 .if2 .left) (r-if3 .if3 .left) (r-if4 .if4 .left) (r-if5 .if5 .left)
+    (r-if6 .if6 .left)
 
 pub is-shaped-spec : {M : Type 1} → statement M
 is-shaped-spec =

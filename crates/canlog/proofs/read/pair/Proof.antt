@@ -35,7 +35,8 @@ returns-2 c =
     let r-if1 = r-number .before in
     let s = r-if1 .before .before .before in
     let a = s .args in
-    no-byte (a .line .now) (a .at) (r-if1 .if1 .taken) (not _ (r-number .number .result) (r-number .number .ensures) (r-enum-told .enum-told .given .1))
+    no-byte (a .line .now) (a .at) (r-if1 .if1 .taken) (not _ (r-number .number .result) (r-number .number .ensures)
+    (r-enum-told .enum-told .given .1))
 
 returns-3 : tie.Need-returns-3
 returns-3 c =

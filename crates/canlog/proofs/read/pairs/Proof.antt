@@ -10,7 +10,8 @@ use Rattle.canlog.proofs.read.pairs.Statement.{statement}
 use Rattle.canlog.proofs.read.pairs.Tie as tie
 
 abbrev Inv-loop : tie.InvT-loop
-Inv-loop line at k bytes₀ j₀ bytes j = (j ≤ k) × ((length bytes ≡ 8) × (pairs k (drop at line) ≡ ahead (take j bytes) (pairs (k - j) (drop (at + j * 3) line))))
+Inv-loop line at k bytes₀ j₀ bytes j = (j ≤ k) × ((length bytes ≡ 8) ×
+    (pairs k (drop at line) ≡ ahead (take j bytes) (pairs (k - j) (drop (at + j * 3) line))))
 
 abbrev μ-loop : tie.MeasureT-loop
 μ-loop line at k bytes₀ j₀ bytes j = k - j
@@ -40,7 +41,8 @@ returns c =
     let r-loop = r-loop-test .before in
     let s = r-loop .before .before in
     let a = s .args in (
-      off (a .line .now) (r-loop .loop .bytes) (a .at) (a .k) (r-loop .loop .j) (r-loop-test .loop-test .taken) (s .pre .1) (r-loop .loop .inv .1 .1) (r-pair .pair .result) (r-pair .pair .ensures) (r-if1 .if1 .taken),
+      off (a .line .now) (r-loop .loop .bytes) (a .at) (a .k) (r-loop .loop .j) (r-loop-test .loop-test .taken) (s .pre .1)
+          (r-loop .loop .inv .1 .1) (r-pair .pair .result) (r-pair .pair .ensures) (r-if1 .if1 .taken),
       r-loop .loop .inv .1 .0,
     )
 
@@ -68,7 +70,8 @@ loop-again c =
       omega arith,
       (
         simp length-set (v .0),
-        rw (add-one (r-loop .loop .j)) (on (a .line .now) (r-loop .loop .bytes) (a .at) (a .k) (r-loop .loop .j) (r-loop-test .loop-test .taken) (s .pre .1) (v .1) (r-pair .pair .result) (r-pair .pair .ensures) (r-if1 .if1 .left) (omega (arith, v .0, s .pre .0))),
+        rw (add-one (r-loop .loop .j)) (on (a .line .now) (r-loop .loop .bytes) (a .at) (a .k) (r-loop .loop .j) (r-loop-test .loop-test .taken)
+            (s .pre .1) (v .1) (r-pair .pair .result) (r-pair .pair .ensures) (r-if1 .if1 .left) (omega (arith, v .0, s .pre .0))),
       ),
     )
 

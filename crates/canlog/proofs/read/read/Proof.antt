@@ -47,7 +47,8 @@ returns c =
     let r-find = r-is-shaped .before in
     let s = r-find .before .before in
     let l = s .args .line .now in
-    fits l (r-find .find .result) (r-fields .fields .result) (dot l (r-find .find .result) (r-find .find .ensures .0)) (sym (r-if1 .if1 .taken) ∙ r-is-shaped .is-shaped .ensures) (r-fields .fields .ensures)
+    fits l (r-find .find .result) (r-fields .fields .result) (dot l (r-find .find .result) (r-find .find .ensures .0)) (sym (r-if1 .if1 .taken)
+    ∙ r-is-shaped .is-shaped .ensures) (r-fields .fields .ensures)
 
 ill-formed-requires : tie.Need-ill-formed-requires
 ill-formed-requires c κs = search needs
@@ -61,7 +62,8 @@ returns-2 c =
     let s = r-find .before .before in
     let l = s .args .line .now in
     unread (before 46 l) (said l) (r-ill-formed .ill-formed .result) (r-ill-formed .ill-formed .ensures)
-    (misfits l (r-find .find .result) (dot l (r-find .find .result) (r-find .find .ensures .0)) (sym (r-if1 .if1 .left) ∙ r-is-shaped .is-shaped .ensures))
+    (misfits l (r-find .find .result) (dot l (r-find .find .result) (r-find .find .ensures .0)) (sym (r-if1 .if1 .left)
+    ∙ r-is-shaped .is-shaped .ensures))
 
 pub read-spec : {M : Type 1} → statement M
 read-spec =
