@@ -19,7 +19,11 @@ const TABLE: [u16; 256] = {
         let mut crc = (i as u16) << 8;
         let mut bit = 0;
         while bit < 8 {
-            crc = if crc & 0x8000 != 0 { crc << 1 ^ 0x1021 } else { crc << 1 };
+            crc = if crc & 0x8000 != 0 {
+                crc << 1 ^ 0x1021
+            } else {
+                crc << 1
+            };
             bit += 1;
         }
         table[i] = crc;
@@ -29,7 +33,9 @@ const TABLE: [u16; 256] = {
 };
 
 fn crc16(start: u16, bytes: &[u8]) -> u16 {
-    bytes.iter().fold(start, |crc, &byte| crc << 8 ^ TABLE[(crc >> 8) as usize ^ byte as usize])
+    bytes.iter().fold(start, |crc, &byte| {
+        crc << 8 ^ TABLE[(crc >> 8) as usize ^ byte as usize]
+    })
 }
 
 struct Session {
@@ -52,8 +58,17 @@ enum Answer<'a> {
 
 impl Receiver {
     fn new() -> Receiver {
-        let empty = || Session { time: 0, len: 0, expected: 0, toggle: false, bytes: [0; 521] };
-        Receiver { keys: [0; 32], sessions: (0..32).map(|_| empty()).collect() }
+        let empty = || Session {
+            time: 0,
+            len: 0,
+            expected: 0,
+            toggle: false,
+            bytes: [0; 521],
+        };
+        Receiver {
+            keys: [0; 32],
+            sessions: (0..32).map(|_| empty()).collect(),
+        }
     }
 
     fn receive<'a>(&'a mut self, id: u32, data: &'a [u8], time: u64) -> Answer<'a> {
@@ -86,7 +101,10 @@ impl Receiver {
             (_, true) => id >> 8 & 3,
             _ => id >> 8 & 65535,
         };
-        let Some(signature) = SUBSCRIPTIONS.iter().find(|s| s.0 == service && s.1 as u32 == type_id) else {
+        let Some(signature) = SUBSCRIPTIONS
+            .iter()
+            .find(|s| s.0 == service && s.1 as u32 == type_id)
+        else {
             return Answer::Number(7);
         };
         if anonymous {
@@ -99,7 +117,11 @@ impl Receiver {
             None if !start => return Answer::Number(10),
             None => {
                 let old = |i: &usize| time.saturating_sub(self.sessions[*i].time) > OLD;
-                let free = self.keys.iter().position(|&k| k == 0).or_else(|| (0..32).find(old));
+                let free = self
+                    .keys
+                    .iter()
+                    .position(|&k| k == 0)
+                    .or_else(|| (0..32).find(old));
                 let Some(place) = free else {
                     return Answer::Number(9);
                 };
@@ -175,7 +197,13 @@ fn parse(line: &[u8]) -> Option<Line> {
         return None;
     }
     let s = line.iter().take(10).position(|&c| c == b'.')?;
-    if !(1..=9).contains(&s) || n < s + 14 || (n - s - 14) % 3 != 0 || n > s + 38 || line[s + 4] != b' ' || s > 1 && line[0] == b'0' {
+    if !(1..=9).contains(&s)
+        || n < s + 14
+        || (n - s - 14) % 3 != 0
+        || n > s + 38
+        || line[s + 4] != b' '
+        || s > 1 && line[0] == b'0'
+    {
         return None;
     }
     let seconds = number(&line[..s], 10)? as u64;
@@ -189,7 +217,13 @@ fn parse(line: &[u8]) -> Option<Line> {
         }
         *byte = number(&text[1..], 16)? as u8;
     }
-    Some(Line { head: s + 4, id, time: seconds * 1_000_000 + thousandths * 1_000, len, bytes })
+    Some(Line {
+        head: s + 4,
+        id,
+        time: seconds * 1_000_000 + thousandths * 1_000,
+        len,
+        bytes,
+    })
 }
 
 fn decimal(out: &mut Vec<u8>, mut value: u64) {
@@ -225,13 +259,24 @@ fn one(receiver: &mut Receiver, line: &[u8], out: &mut Vec<u8>) -> bool {
             let service = l.id & 128 != 0;
             let source = l.id & 127;
             let (letter, type_id, destination) = match (service, source) {
-                (true, _) => (if l.id & 0x8000 != 0 { b'Q' } else { b'R' }, l.id >> 16 & 255, l.id >> 8 & 127),
+                (true, _) => (
+                    if l.id & 0x8000 != 0 { b'Q' } else { b'R' },
+                    l.id >> 16 & 255,
+                    l.id >> 8 & 127,
+                ),
                 (_, 0) => (b'M', l.id >> 8 & 3, 0),
                 _ => (b'M', l.id >> 8 & 65535, 0),
             };
             out.extend_from_slice(&[b' ', letter]);
             let transfer = data[l.len - 1] & 31;
-            for value in [type_id, source, destination, l.id >> 24, transfer as u32, payload.len() as u32] {
+            for value in [
+                type_id,
+                source,
+                destination,
+                l.id >> 24,
+                transfer as u32,
+                payload.len() as u32,
+            ] {
                 decimal(out, value as u64);
             }
             out.push(b' ');
@@ -291,11 +336,21 @@ fn make(bytes: usize) {
     let mut queue: Vec<Vec<Vec<u8>>> = vec![Vec::new(); 28];
     let mut seed = 1u64;
     while written < bytes {
-        seed = seed.wrapping_mul(6364136223846793005).wrapping_add(1442695040888963407);
+        seed = seed
+            .wrapping_mul(6364136223846793005)
+            .wrapping_add(1442695040888963407);
         let node = (seed >> 33) as usize % 28;
-        let (type_id, signature) = if node < 20 { (341, 0x0F0868D0C1A7C6F1u64) } else { (16383, 0xD654A48E0C049D75) };
+        let (type_id, signature) = if node < 20 {
+            (341, 0x0F0868D0C1A7C6F1u64)
+        } else {
+            (16383, 0xD654A48E0C049D75)
+        };
         if queue[node].is_empty() {
-            let length = if node < 20 { 7 } else { 20 + (seed >> 40) as usize % 60 };
+            let length = if node < 20 {
+                7
+            } else {
+                20 + (seed >> 40) as usize % 60
+            };
             let payload: Vec<u8> = (0..length).map(|i| (seed >> (i % 8 * 7)) as u8).collect();
             let mut text = payload.clone();
             if length > 7 {
@@ -303,14 +358,27 @@ fn make(bytes: usize) {
                 text.splice(0..0, sum.to_le_bytes());
             }
             let count = text.len().div_ceil(7);
-            let tail = |i: usize| (i == 0) as u8 * 128 | (i + 1 == count) as u8 * 64 | (i % 2) as u8 * 32 | next[node];
-            queue[node] = text.chunks(7).enumerate().map(|(i, part)| [part, &[tail(i)]].concat()).rev().collect();
+            let tail = |i: usize| {
+                (i == 0) as u8 * 128 | (i + 1 == count) as u8 * 64 | (i % 2) as u8 * 32 | next[node]
+            };
+            queue[node] = text
+                .chunks(7)
+                .enumerate()
+                .map(|(i, part)| [part, &[tail(i)]].concat())
+                .rev()
+                .collect();
             next[node] = (next[node] + 1) % 32;
         }
         let data = queue[node].pop().unwrap();
         step += 1;
-        let mut line = format!("{}.{:03} {:08X}", step / 5000, step / 5 % 1000, 16 << 24 | type_id << 8 | (node as u32 + 1));
-        data.iter().for_each(|byte| line.push_str(&format!(" {byte:02X}")));
+        let mut line = format!(
+            "{}.{:03} {:08X}",
+            step / 5000,
+            step / 5 % 1000,
+            16 << 24 | type_id << 8 | (node as u32 + 1)
+        );
+        data.iter()
+            .for_each(|byte| line.push_str(&format!(" {byte:02X}")));
         line.push('\n');
         output.write_all(line.as_bytes()).unwrap();
         written += line.len();

@@ -2,9 +2,8 @@
 use mathlib.Core.Path.{_≡_}
 use mathlib.Core.List.{List}
 use mathlib.Core.Option.{some}
-use Prim.Native.Nat.{_≤_}
+use Prim.Native.Nat.{ℕ, _≤_}
 use lib.ListN.{length}
-use Prim.Native.Nat.{ℕ}
 use Rattle.canlog.specs.Line.{lineOf, Carried}
 use Rattle.canlog.specs.Reading.{said}
 use Rattle.model.specs.Frame.{Frame}

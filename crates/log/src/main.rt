@@ -2,7 +2,6 @@
 // Input and output go in blocks of 65,536 bytes, whatever the length of the input or of a line.
 use replay::Counts;
 use replay::Told;
-ghost use mathlib.Core.Path.{_≡_};
 ghost use Prim.Native.Nat.{_≤_};
 ghost use lib.ListN.{length};
 

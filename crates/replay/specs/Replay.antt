@@ -6,7 +6,6 @@ use Prim.Native.Nat.{ℕ, _+_, _-_, _^_}
 use lib.Dec.{ltb}
 use lib.ListN.{length, replicate}
 use Rattle.bits.specs.Part.{splice}
-use Rattle.report.specs.Answer.{numbered, answerText}
 use Rattle.canlog.specs.Line.{timeText}
 use Rattle.canlog.specs.Reading.{said}
 use Rattle.model.specs.Frame.{Frame}
@@ -16,6 +15,7 @@ use Rattle.receiver.specs.Receive.{received}
 use Rattle.replay.specs.declared.Counts.{Counts}
 use Rattle.replay.specs.declared.Told.{Told}
 use Rattle.replay.specs.declared.Told.the-variants.{Small, Line}
+use Rattle.report.specs.Answer.{numbered, answerText}
 use Rattle.session.specs.declared.Answer.{Answer}
 use Rattle.session.specs.declared.Answer.the-variants.{Taken, Handed, Refused, Full, Passed, TooLong, BadChecksum, Faulty}
 use Rattle.text.specs.Digits.{words}
@@ -77,12 +77,13 @@ abbrev pub room : ℕ
 room = 1200
 
 pub record Result : Type 0 where
+  pub number : ℕ
   pub answer : Told
   pub state : List ℕ
   pub out : List ℕ
 
 abbrev pub result : Told → List ℕ → List ℕ → Result
-result a m out = record { answer = a; state = m; out = out }
+result a m out = record { number = numberOf a; answer = a; state = m; out = out }
 
 abbrev pub given : Counts → List ℕ → Reply → Result
 given c out r = result (Line (record { len = length (r .text); counts = counted c (r .handed) })) (r .state) (splice out 0 (r .text))
