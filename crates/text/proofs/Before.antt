@@ -11,14 +11,6 @@ use lib.Seq.{drop-cons}
 use Rattle.model.specs.Tests.{pick}
 use Rattle.text.specs.Find.{before}
 
-pub before-le : (c : ℕ) (xs : List ℕ) → before c xs ≤ length xs
-unfolding before
-before-le c [] = omega arith
-before-le c (x ∷ xs) = go (eqb x c) (before-le c xs) where
-  go : (b : Bool) → before c xs ≤ length xs → pick b 0 (suc (before c xs)) ≤ suc (length xs)
-  go true ih = omega arith
-  go false ih = omega arith
-
 -- the search stops at c
 pub hit : (c : ℕ) (s : List ℕ) (i : ℕ) → i < length s → getD s i 0 ≡ c → before c (drop i s) ≡ 0
 unfolding before
