@@ -72,6 +72,9 @@ impl Sends {
     pub fn run(&mut self, calls: u64) -> Result<(), Difference> {
         let (expected, actual) = (SIZE as u64, (self.side.size)());
         compare((expected, actual), &[], || "map size".to_string())?;
+        while self.setups.calls() < calls / 10 {
+            self.set_up_each()?;
+        }
         while self.tally.calls() < calls {
             let mut clock = self.random.below(1 << 40);
             let pace = self.random.pick(&[1, 1000, 60_000, 400_000]);
@@ -89,8 +92,8 @@ impl Sends {
         Ok(())
     }
 
-    /// A map to begin with, by setup or lent as it is.
-    fn open(&mut self, descriptors: &[Descriptor], clock: u64) -> Result<(), Difference> {
+    /// Setups of a buffer that is too short, of one that fits, and of a longer one.
+    fn set_up_each(&mut self) -> Result<(), Difference> {
         for length in [self.random.pick(&[0, 1, SIZE - 1]), SIZE, SIZE + EXTRA] {
             let null = self.random.coin();
             self.map.lend(length, null);
@@ -98,6 +101,12 @@ impl Sends {
             self.map.level();
             self.set_up()?;
         }
+        Ok(())
+    }
+
+    /// A map to begin with, by setup or lent as it is.
+    fn open(&mut self, descriptors: &[Descriptor], clock: u64) -> Result<(), Difference> {
+        self.set_up_each()?;
         if self.random.coin() {
             self.map.lend(SIZE, false);
         }
