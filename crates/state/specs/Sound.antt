@@ -1,7 +1,7 @@
 -- 01, Numbers answered, 20: a lent state without a fault.
 use mathlib.Core.Bool.{Bool, true, _&&_, _||_}
 use mathlib.Core.List.{List}
-use Prim.Native.Nat.{ℕ, zero, suc, _+_, _*_, _/_, _%_}
+use Prim.Native.Nat.{ℕ, zero, suc, _*_, _/_, _%_}
 use lib.Dec.{ltb, leb, eqb}
 use lib.ListN.{length}
 use Rattle.model.specs.Sound.{streamFits, sound}
@@ -41,6 +41,6 @@ keysOf m = tabulate (keyAt m) 0 32
 abbrev pub placeSound : List ℕ → ℕ → Bool → Bool
 placeSound m i first = alone (keyAt m) (inRange m) 32 i first
 
--- which of 128 marks a key sets: by its source and type, so that neither many sources nor many types fall on few marks
+-- which of 128 marks a key sets: neither the keys of neighbouring sources nor those of neighbouring types fall on the same one
 abbrev pub markAt : ℕ → ℕ
-markAt k = (k / 128 + k / 16384 * 79) % 128
+markAt k = k * 2654435769 / 33554432 % 128

@@ -50,11 +50,12 @@ fn control_fits(state: &[u8], i: usize) -> bool
     false
 }
 
-// Where a key sets its mark: like keys the same one, unlike keys mostly different ones.
+// Where a key sets its mark: like keys the same one, unlike keys mostly different ones. The factor is 2^32 over the golden ratio, which spreads
+// any run of neighbours.
 fn mark_at(k: u32) -> usize
     ensures { λ r. ⌜ r ≡ markAt k ⌝ }
 {
-    ((k / 128 + k / 16384 * 79) % 128) as usize
+    (k as u64 * 2654435769 / 33554432 % 128) as usize
 }
 
 // `first`: no earlier place has the key.
