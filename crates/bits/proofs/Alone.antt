@@ -11,7 +11,7 @@ use lib.Dec.{eqb, ltb}
 use lib.ListN.{length, getD, set}
 use lib.Seq.{getD-set-same, getD-set-other}
 use mir.Val.{boolByte}
-use Rattle.bits.specs.Keys.{count, alone}
+use Rattle.bits.specs.Keys.{alone}
 use Rattle.bits.specs.Tabulate.{tabulate}
 use Rattle.bits.proofs.Hits.{hits, hits-at, hits-none}
 use Rattle.bits.proofs.Tabulate.{tab-at}

@@ -1,5 +1,5 @@
 -- `sound::is_sound` meets its contract.
-use mathlib.Core.Path.{_≡_, sym, ap, _∙_}
+use mathlib.Core.Path.{sym, ap, _∙_}
 use Prim.Native.Nat.{_*_}
 use native.Mathlib.Nat.{zero-add}
 use native.Mathlib.Omega.{arith}
