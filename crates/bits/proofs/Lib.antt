@@ -1,5 +1,7 @@
 pub mod Splice
 pub mod Tabulate
+pub mod Hits
+pub mod Alone
 pub mod Octets
 pub mod Little
 pub mod Digits

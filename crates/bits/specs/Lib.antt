@@ -1,6 +1,7 @@
 pub mod Part
 pub mod Tabulate
 pub mod Little
+pub mod Keys
 pub mod Order
 pub mod Window
 pub mod Width

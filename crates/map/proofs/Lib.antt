@@ -2,6 +2,4 @@ pub mod Keys
 pub mod Places
 pub mod Written
 pub mod Seek
-pub mod Hits
 pub mod Soundness
-pub mod First

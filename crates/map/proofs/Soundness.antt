@@ -4,15 +4,15 @@ use mathlib.Core.Bool.{Bool, true, false, false≢true, _&&_, _||_, and-false}
 use mathlib.Core.List.{List}
 use mathlib.Mathlib.Data.Bool.Basic.{and-intro, and-elim-left, and-elim-right}
 use Prim.Native.Nat.{ℕ, zero, suc, _+_, _*_, _-_, _/_, _%_, _≤_, _<_}
-use native.Mathlib.Nat.{zero-add}
 use native.Mathlib.Omega.{arith}
 use borrow.Author.Tests.{eq-eqb, ne-eqb, eqb-true, eqb-false, le-leb, lt-leb, leb-true, lt-ltb, le-ltb, ltb-true, ltb-false}
 use lib.Dec.{eqb, ltb}
-use lib.ListN.{length, getD}
+use lib.ListN.{length}
+use mir.Val.{boolByte}
+use Rattle.bits.specs.Keys.{count, alone}
 use Rattle.bits.specs.Tabulate.{tabulate}
-use Rattle.bits.proofs.Tabulate.{tab-at}
 use Rattle.map.specs.Layout.{size, keyAt, nextAt, topicOfKey, slotAt, mapOf}
-use Rattle.map.specs.Sound.{soundMap, count, placeFits}
+use Rattle.map.specs.Sound.{soundMap, inRange, keysOf, placeFits}
 use Rattle.map.proofs.Keys.{of-key, slot-used, slot-free}
 use Rattle.map.proofs.Seek.{length-mapOf}
 use Rattle.map.proofs.Written.{OddFrom}
@@ -122,27 +122,32 @@ fits-odd k e = go (ltb k 16777216) refl where
 
 -- ── one place ──
 
+flag-byte : (b : Bool) → flag b ≡ boolByte b
+flag-byte true = refl
+flag-byte false = refl
+
 module _ (m : List ℕ) where
   -- a topic has as many entries as its key stands among the keys
   times-count : (k : ℕ) → (k ≡ 0 → ⊥) → (n i : ℕ) → times (topicOfKey k) (tabulate (slotAt m) i n) ≡ count k (tabulate (keyAt m) i n)
   unfolding times count tabulate
   times-count k z zero i = refl
-  times-count k z (suc n) i = ap₂ (λ b c. flag b + c) (of-key m i k z) (times-count k z n (suc i))
+  times-count k z (suc n) i = ap₂ _+_ (ap flag (of-key m i k z) ∙ flag-byte (eqb (keyAt m i) k)) (times-count k z n (suc i))
 
-  -- the keys as the code has them
-  pub key-is : (keys : List ℕ) (i : ℕ) → i < 32 → keys ≡ tabulate (keyAt m) 0 32 → getD keys i 0 ≡ keyAt m i
-  key-is keys i h e = ap (λ l. getD l i 0) e ∙ tab-at (keyAt m) 0 0 32 i h ∙ ap (keyAt m) (zero-add i)
-
-  pub slot-fits : (i : ℕ) → slotFits (mapOf m) (slotAt m i) ≡ placeFits m i (tabulate (keyAt m) 0 32) false
-  unfolding placeFits mapOf
+  pub slot-fits : (i : ℕ) → slotFits (mapOf m) (slotAt m i) ≡ placeFits m i false
+  unfolding alone inRange mapOf
   slot-fits i = go (eqb (keyAt m i) 0) refl where
+    regroup : (a b c : Bool) → (a && (b && c)) ≡ ((a && b) && c)
+    regroup true b c = refl
+    regroup false b c = refl
+
     go : (b : Bool) → eqb (keyAt m i) 0 ≡ b
-        → slotFits (mapOf m) (slotAt m i) ≡ (b || (topicFits (topicOfKey (keyAt m i)) && (ltb (nextAt m i) 32 && eqb (count (keyAt m i) (tabulate (keyAt m) 0 32)) 1)))
+        → slotFits (mapOf m) (slotAt m i) ≡ (b || ((topicFits (topicOfKey (keyAt m i)) && ltb (nextAt m i) 32) && eqb (count (keyAt m i) (keysOf m)) 1))
     go true e = ap (slotFits (mapOf m)) (slot-free m i (eqb-true (keyAt m i) 0 e))
     go false e =
         let z = eqb-false (keyAt m i) 0 e in
         ap (slotFits (mapOf m)) (slot-used m i z)
         ∙ ap (λ n. topicFits (topicOfKey (keyAt m i)) && (ltb (nextAt m i) 32 && eqb n 1)) (times-count (keyAt m i) z 32 0)
+        ∙ regroup (topicFits (topicOfKey (keyAt m i))) (ltb (nextAt m i) 32) (eqb (count (keyAt m i) (keysOf m)) 1)
 
   -- ── all places ──
 

@@ -1,27 +1,29 @@
 -- 01, Numbers answered, 20: a lent map without a fault.
-use mathlib.Core.Bool.{Bool, _&&_, _||_}
-use mathlib.Core.List.{List, [], _∷_}
+use mathlib.Core.Bool.{Bool, _&&_}
+use mathlib.Core.List.{List}
 use Prim.Native.Nat.{ℕ, _+_, _/_, _%_}
-use lib.Dec.{ltb, leb, eqb}
+use lib.Dec.{ltb, leb}
 use lib.ListN.{length}
+use Rattle.bits.specs.Keys.{alone}
+use Rattle.bits.specs.Tabulate.{tabulate}
 use Rattle.map.specs.Layout.{size, keyAt, nextAt, topicOfKey, mapOf}
 use Rattle.model.specs.Map.{topicFits, sound}
-use Rattle.model.specs.Sent.{flag}
 
 unfoldable pub soundMap : List ℕ → Bool
 soundMap m = leb size (length m) && sound (mapOf m)
 
 -- ── the same by keys: what the code tests ──
 
--- how often k stands in a list
-unfoldable pub count : ℕ → List ℕ → ℕ
-count k [] = 0
-count k (x ∷ xs) = flag (eqb x k) + count k xs
+-- the topic and the next transfer ID of place i
+unfoldable pub inRange : List ℕ → ℕ → Bool
+inRange m i = topicFits (topicOfKey (keyAt m i)) && ltb (nextAt m i) 32
 
--- place i of a map with these keys; the first place of a key need not be counted, since the second one is
-unfoldable pub placeFits : List ℕ → ℕ → List ℕ → Bool → Bool
-placeFits m i keys first =
-    eqb (keyAt m i) 0 || (topicFits (topicOfKey (keyAt m i)) && (ltb (nextAt m i) 32 && (first || eqb (count (keyAt m i) keys) 1)))
+abbrev pub keysOf : List ℕ → List ℕ
+keysOf m = tabulate (keyAt m) 0 32
+
+-- place i is empty, or in range and alone with its topic; the first place of a topic need not be counted
+abbrev pub placeFits : List ℕ → ℕ → Bool → Bool
+placeFits m i first = alone (keyAt m) (inRange m) 32 i first
 
 -- which of 64 marks a key sets: that of its topic's type and destination, added
 abbrev pub markAt : ℕ → ℕ

@@ -1,40 +1,10 @@
 // The faults of a lent map that answer 20. Every send runs this first, so it stops behind the last entry and seldom counts a key.
-use super::entry;
 ghost use mathlib.Core.Path.{_≡_};
 ghost use Prim.Native.Nat.{_≤_, _<_};
 ghost use lib.ListN.{length};
-ghost use Rattle.bits.specs.Tabulate.{tabulate};
-ghost use Rattle.map.specs.Layout.{size, keyAt, topicOfKey};
-ghost use Rattle.map.specs.Sound.{soundMap, placeFits, markAt};
-ghost use Rattle.map.specs.Sound as specs;
+ghost use Rattle.map.specs.Layout.{size, topicOfKey};
+ghost use Rattle.map.specs.Sound.{soundMap, placeFits, keysOf, markAt};
 ghost use Rattle.model.specs.Map.{topicFits};
-
-fn keys(map: &[u8]) -> [u32; 32]
-    requires { ⌜ size ≤ length (now map) ⌝ }
-    ensures { λ r. ⌜ r ≡ tabulate (keyAt (now (map .entry))) 0 32 ⌝ }
-{
-    let mut all = [0u32; 32];
-    let mut i: usize = 0;
-    while i < 32 {
-        all[i] = entry::key(map, i);
-        i += 1;
-    }
-    all
-}
-
-// How often k is among the keys. No early exit: over a fixed number of keys the loop becomes a few vector compares.
-fn count(keys: &[u32; 32], k: u32) -> u32
-    requires { ⌜ length (now keys) ≡ 32 ⌝ }
-    ensures { λ r. ⌜ r ≡ specs.count k (now (keys .entry)) ⌝ }
-{
-    let mut hits: u32 = 0;
-    let mut j: usize = 0;
-    while j < 32 {
-        hits += (keys[j] == k) as u32;
-        j += 1;
-    }
-    hits
-}
 
 // A message's key has destination 0, a request's a type below 256 and a named destination.
 fn key_fits(k: u32) -> bool
@@ -61,8 +31,8 @@ fn mark_at(k: u32) -> usize
 
 // `first`: no earlier place has the key.
 fn place_fits(map: &[u8], i: usize, keys: &[u32; 32], first: bool) -> bool
-    requires { ⌜ ((i < 32) × (size ≤ length (now map))) × (now keys ≡ tabulate (keyAt (now map)) 0 32) ⌝ }
-    ensures { λ r. ⌜ r ≡ placeFits (now (map .entry)) i (now (keys .entry)) first ⌝ }
+    requires { ⌜ ((i < 32) × (size ≤ length (now map))) × (now keys ≡ keysOf (now map)) ⌝ }
+    ensures { λ r. ⌜ r ≡ placeFits (now (map .entry)) i first ⌝ }
 {
     let k = keys[i];
     if k == 0 {
@@ -73,7 +43,7 @@ fn place_fits(map: &[u8], i: usize, keys: &[u32; 32], first: bool) -> bool
             if first {
                 return true;
             }
-            return count(keys, k) == 1;
+            return bits::keys::count(keys, k) == 1;
         }
     }
     false
@@ -81,11 +51,11 @@ fn place_fits(map: &[u8], i: usize, keys: &[u32; 32], first: bool) -> bool
 
 // Place by place, up to the last entry. A key whose mark is not set stands at no earlier place; where it is set, the key is counted.
 fn places_fit(map: &[u8], keys: &[u32; 32]) -> bool
-    requires { ⌜ (size ≤ length (now map)) × (now keys ≡ tabulate (keyAt (now map)) 0 32) ⌝ }
+    requires { ⌜ (size ≤ length (now map)) × (now keys ≡ keysOf (now map)) ⌝ }
     ensures { λ r. ⌜ r ≡ soundMap (now (map .entry)) ⌝ }
 {
     let mut marks = [0u8; 64];
-    let mut left = 32 - count(keys, 0);
+    let mut left = 32 - bits::keys::count(keys, 0);
     let mut i: usize = 0;
     while 0 < left {
         let k = keys[i];
@@ -108,6 +78,6 @@ pub fn is_sound(map: &[u8]) -> bool
     if map.len() < 416 {
         return false;
     }
-    let all = keys(map);
-    places_fit(map, &all)
+    let keys = bits::keys::get(map, 0);
+    places_fit(map, &keys)
 }

@@ -1,19 +1,12 @@
--- Laws of `every`, as loops use them.
-use mathlib.Core.Path.{_≡_, refl, sym, ap, ap₂, _∙_}
+-- Laws of `every`.
+use mathlib.Core.Path.{_≡_, refl, sym, ap, _∙_}
 use mathlib.Core.Bool.{Bool, true, false, _&&_}
-use mathlib.Core.List.{List, [], _∷_, _++_}
-use Prim.Native.Nat.{ℕ, zero, suc, _+_, _-_, _≤_, _<_}
-use native.Mathlib.Nat.{zero-add, add-zero}
+use Prim.Native.Nat.{ℕ, zero, suc, _+_, _≤_, _<_}
 use native.Mathlib.Omega.{arith}
 use borrow.Author.Tests.{ltb-true, ltb-false}
 use lib.Dec.{ltb}
-use lib.ListN.{length, getD}
 use Rattle.state.specs.Sound.{every}
 use Rattle.state.proofs.Bools.{and-left, and-right}
-
-pub every-step : (f : ℕ → Bool) (i n : ℕ) → i < n → every f i (n - i) ≡ (f i && every f (suc i) (n - suc i))
-unfolding every
-every-step f i n h = let k : n - i ≡ suc (n - suc i) = omega arith in rw k
 
 pub every-true : (f : ℕ → Bool) (n i : ℕ) → ((l : ℕ) → i ≤ l → l < i + n → f l ≡ true) → every f i n ≡ true
 unfolding every

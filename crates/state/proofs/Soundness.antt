@@ -1,11 +1,11 @@
 -- The test of a lent state, place by place, is the test of its table.
 use mathlib.Core.Path.{_≡_, refl, sym, ap, ap₂, _∙_}
-use mathlib.Core.Bool.{Bool, true, false, not, _&&_, _||_}
-use mathlib.Core.List.{List, [], _∷_, _++_}
+use mathlib.Core.Bool.{Bool, true, false, false≢true, not, _&&_, _||_}
+use mathlib.Core.List.{List, [], _∷_}
 use Prim.Native.Nat.{ℕ, zero, suc, _+_, _*_, _-_, _≤_, _<_}
 use native.Mathlib.Nat.{zero-add}
 use native.Mathlib.Omega.{arith}
-use borrow.Author.Tests.{eq-eqb, ne-eqb, eqb-true, eqb-false, leb-true, lt-ltb, le-ltb, ltb-true, ltb-false}
+use borrow.Author.Tests.{eq-eqb, ne-eqb, eqb-true, eqb-false, leb-true, lt-ltb, le-ltb}
 use lib.Dec.{eqb, ltb, leb}
 use lib.ListN.{length}
 use Rattle.bits.specs.Order.{Octets}
@@ -18,11 +18,13 @@ use Rattle.model.specs.Table.{Place, empty, held, holds}
 use Rattle.model.specs.Tests.{pick, isEmpty}
 use Rattle.bits.specs.Tabulate.{tabulate}
 use Rattle.state.specs.Layout.{size, keyAt, countAt, expectedAt, toggleAt, gatheredAt, sessionAt, placeAt, placesOf, streamOfKey}
-use Rattle.state.specs.Place.{one}
-use Rattle.state.specs.Sound.{every, rawFits, controlFits, times, keysOf, placeSound}
+use mir.Val.{boolByte}
+use Rattle.bits.specs.Keys.{count}
+use Rattle.bits.proofs.Alone.{First, GoodTo, alone-good, good-alone}
+use Rattle.bits.proofs.Hits.{hits, hits-none, none-hits}
+use Rattle.state.specs.Sound.{every, rawFits, controlFits, inRange, placeSound}
 use Rattle.state.proofs.Bools.{and-left, and-right}
 use Rattle.state.proofs.Keys.{same-key}
-use Rattle.bits.proofs.Tabulate.{tab-step, tab-append}
 use Rattle.state.proofs.Every.{every-at, every-true}
 
 -- ── Booleans ──
@@ -32,43 +34,6 @@ same-test : (a b : Bool) → (a ≡ true → b ≡ true) → (b ≡ true → a �
 same-test true b f g = sym (f refl)
 same-test false true f g = g refl
 same-test false false f g = refl
-
--- ── counting keys ──
-
-times-append : (k : ℕ) (xs ys : List ℕ) → times k (xs ++ ys) ≡ times k xs + times k ys
-unfolding times
-times-append k [] ys = sym (zero-add (times k ys))
-times-append k (x ∷ xs) ys = let ih : times k (xs ++ ys) ≡ times k xs + times k ys = times-append k xs ys in omega arith
-
--- the count over all places: those before i, place i, those behind
-times-split : (f : ℕ → ℕ) (k i : ℕ) → i < 32
-    → times k (tabulate f 0 32) ≡ times k (tabulate f 0 i) + (one (eqb (f i) k) + times k (tabulate f (suc i) (32 - suc i)))
-unfolding times
-times-split f k i h =
-    let e : i + (32 - i) ≡ 32 = omega arith in
-    ap (λ (n : ℕ). times k (tabulate f 0 n)) (sym e) ∙ ap (times k) (tab-append f 0 i (32 - i)) ∙ times-append k (tabulate f 0 i) (tabulate f (0 + i) (32 - i))
-    ∙ ap (λ (n : ℕ). times k (tabulate f 0 i) + times k (tabulate f n (32 - i))) (zero-add i)
-    ∙ ap (λ (xs : List ℕ). times k (tabulate f 0 i) + times k xs) (tab-step f i 32 h)
-
--- a key that does not stand in a list, and one that is nowhere in it
-times-none : (f : ℕ → ℕ) (k n i : ℕ) → times k (tabulate f i n) ≡ 0 → (l : ℕ) → i ≤ l → l < i + n → f l ≡ k → ⊥
-unfolding times tabulate
-times-none f k zero i e l a b q = absurd (omega arith)
-times-none f k (suc n) i e l a b q = go (λ h. times-none f k n (suc i) (omega arith) l h (omega arith) q) (ltb i l) refl where
-  go : (suc i ≤ l → ⊥) → (c : Bool) → ltb i l ≡ c → ⊥
-  go later true p = later (ltb-true i l p)
-  go later false p =
-      let same : i ≡ l = omega (arith, ltb-false i l p) in
-      let o : one (eqb (f i) k) ≡ 1 = ap one (eq-eqb (f i) k (ap f same ∙ q)) in
-      omega arith
-
-times-zero : (f : ℕ → ℕ) (k n i : ℕ) → ((l : ℕ) → i ≤ l → l < i + n → f l ≡ k → ⊥) → times k (tabulate f i n) ≡ 0
-unfolding times tabulate
-times-zero f k zero i e = refl
-times-zero f k (suc n) i e =
-    let o : one (eqb (f i) k) ≡ 0 = ap one (ne-eqb (f i) k (e i (omega arith) (omega arith))) in
-    let r : times k (tabulate f (suc i) n) ≡ 0 = times-zero f k n (suc i) (λ l a b. e l (omega arith) (omega arith)) in
-    omega arith
 
 -- ── the table's tests, place by place ──
 
@@ -105,14 +70,14 @@ module _ (m : List ℕ) (bytes : Octets m) (long : size ≤ length m) where
     go false e = same-key (keyAt m j) k (key-lt j hj) hk
 
   none-behind : (k : ℕ) → (k ≡ 0 → ⊥) → k < 4294967296 → (n i : ℕ) → i + n ≤ 32
-      → noneHolds (streamOfKey k) (tabulate (placeAt m) i n) ≡ eqb (times k (tabulate (keyAt m) i n)) 0
-  unfolding times tabulate
+      → noneHolds (streamOfKey k) (tabulate (placeAt m) i n) ≡ eqb (hits (keyAt m) k i n) 0
+  unfolding count tabulate
   none-behind k z hk zero i h = refl
   none-behind k z hk (suc n) i h =
       let e : holds (streamOfKey k) (placeAt m i) ≡ eqb (keyAt m i) k = holds-key k i z hk (omega arith) in
-      rw (e, none-behind k z hk n (suc i) (omega arith)) (go (eqb (keyAt m i) k) (times k (tabulate (keyAt m) (suc i) n)))
+      rw (e, none-behind k z hk n (suc i) (omega arith)) (go (eqb (keyAt m i) k) (hits (keyAt m) k (suc i) n))
     where
-      go : (b : Bool) (t : ℕ) → (not b && eqb t 0) ≡ eqb (one b + t) 0
+      go : (b : Bool) (t : ℕ) → (not b && eqb t 0) ≡ eqb (boolByte b + t) 0
       go true t = sym (ne-eqb (1 + t) 0 (λ e. omega arith))
       go false t = ap (λ (x : ℕ). eqb x 0) (sym (zero-add t))
 
@@ -171,65 +136,58 @@ module _ (m : List ℕ) (bytes : Octets m) (long : size ≤ length m) where
     pub fits : placeFits (placeAt m i) ≡ true
     pub once : again (placeAt m) 32 i ≡ true
 
-  to-table : (i : ℕ) → i < 32 → placeSound m i ≡ true → Here i
-  unfolding placeSound rawFits
-  to-table i h = go (eqb (keyAt m i) 0) refl where
-    go : (b : Bool) → eqb (keyAt m i) 0 ≡ b
-        → (b || (streamFits (streamOfKey (keyAt m i)) && (controlFits m i && eqb (times (keyAt m i) (keysOf m)) 1))) ≡ true → Here i
-    go true e t =
+  abbrev GoodAll : Type 0
+  GoodAll = GoodTo (keyAt m) (inRange m) 32
+
+  to-table : GoodAll → (i : ℕ) → i < 32 → Here i
+  unfolding rawFits inRange
+  to-table g i h = go (eqb (keyAt m i) 0) refl where
+    go : (b : Bool) → eqb (keyAt m i) 0 ≡ b → Here i
+    go true e =
         let p = empty-place i (eqb-true (keyAt m i) 0 e) in
         record { raw = rw e; fits = rw p; once = rw p }
-    go false e t =
-        let k = keyAt m i in
-        let z = eqb-false k 0 e in
-        let p = held-place i z in
-        let rest = and-right (streamFits (streamOfKey k)) (controlFits m i && eqb (times k (keysOf m)) 1) t in
-        let r = controls i h ∙ and-left (controlFits m i) (eqb (times k (keysOf m)) 1) rest in
-        let one-time : times k (keysOf m) ≡ 1 = eqb-true (times k (keysOf m)) 1 (and-right (controlFits m i) (eqb (times k (keysOf m)) 1) rest) in
-        let self : one (eqb k k) ≡ 1 = ap one (eq-eqb k k refl) in
-        let none : times k (tabulate (keyAt m) (suc i) (32 - suc i)) ≡ 0 = omega (arith, times-split (keyAt m) k i h) in
-        record {
-          raw = rw e (and-left (leb (countAt m i) 514 && ltb (toggleAt m i) 2) (sessionFits (sessionAt m i)) r);
-          fits = rw (p, and-left (streamFits (streamOfKey k)) (controlFits m i && eqb (times k (keysOf m)) 1) t)
-              (and-right (leb (countAt m i) 514 && ltb (toggleAt m i) 2) (sessionFits (sessionAt m i)) r);
-          once = rw p (none-behind k z (key-lt i h) (32 - suc i) (suc i) (omega arith) ∙ eq-eqb (times k (tabulate (keyAt m) (suc i) (32 - suc i))) 0 none);
-        }
-
-  from-table : ((l : ℕ) → l < 32 → Here l) → (i : ℕ) → i < 32 → placeSound m i ≡ true
-  unfolding placeSound rawFits
-  from-table t i h = go (eqb (keyAt m i) 0) refl where
-    none-before : (keyAt m i ≡ 0 → ⊥) → (j : ℕ) → 0 ≤ j → j < 0 + i → keyAt m j ≡ keyAt m i → ⊥
-    none-before z j a b e =
-        let zj : keyAt m j ≡ 0 → ⊥ = λ q. z (sym e ∙ q) in
-        let o : noneHolds (streamOfKey (keyAt m j)) (tabulate (placeAt m) (suc j) (32 - suc j)) ≡ true = rw (held-place j zj) at (t j (omega arith) .once) in
-        let q : times (keyAt m j) (tabulate (keyAt m) (suc j) (32 - suc j)) ≡ 0 =
-        eqb-true (times (keyAt m j) (tabulate (keyAt m) (suc j) (32 - suc j))) 0 (sym (none-behind (keyAt m j) zj (key-lt j (omega arith)) (32 - suc j) (suc j) (omega arith)) ∙ o) in
-        times-none (keyAt m) (keyAt m j) (32 - suc j) (suc j) q i (omega arith) (omega arith) (sym e)
-
-    go : (b : Bool) → eqb (keyAt m i) 0 ≡ b
-        → (b || (streamFits (streamOfKey (keyAt m i)) && (controlFits m i && eqb (times (keyAt m i) (keysOf m)) 1))) ≡ true
-    go true e = refl
     go false e =
         let k = keyAt m i in
         let z = eqb-false k 0 e in
-        let w = t i h in
-        let f : (streamFits (streamOfKey k) && sessionFits (sessionAt m i)) ≡ true = rw (held-place i z) at (w .fits) in
-        let r : (leb (countAt m i) 514 && ltb (toggleAt m i) 2) ≡ true = rw e at (w .raw) in
-        let c : controlFits m i ≡ true = sym (controls i h) ∙ ap₂ (λ (x y : Bool). x && y) r (and-right (streamFits (streamOfKey k)) (sessionFits (sessionAt m i)) f) in
-        let o : noneHolds (streamOfKey k) (tabulate (placeAt m) (suc i) (32 - suc i)) ≡ true = rw (held-place i z) at (w .once) in
-        let behind : times k (tabulate (keyAt m) (suc i) (32 - suc i)) ≡ 0 =
-        eqb-true (times k (tabulate (keyAt m) (suc i) (32 - suc i))) 0 (sym (none-behind k z (key-lt i h) (32 - suc i) (suc i) (omega arith)) ∙ o) in
-        let before : times k (tabulate (keyAt m) 0 i) ≡ 0 = times-zero (keyAt m) k i 0 (none-before z) in
-        let self : one (eqb k k) ≡ 1 = ap one (eq-eqb k k refl) in
-        let total : times k (keysOf m) ≡ 1 = omega (arith, times-split (keyAt m) k i h) in
-        rw (and-left (streamFits (streamOfKey k)) (sessionFits (sessionAt m i)) f, c, eq-eqb (times k (keysOf m)) 1 total)
+        let p = held-place i z in
+        let t = g i h z in
+        let r = controls i h ∙ and-right (streamFits (streamOfKey k)) (controlFits m i) (t .fit) in
+        let none = hits-none (keyAt m) k (32 - suc i) (suc i) (λ a l b q. g a (omega arith) (λ y. z (sym q ∙ y)) .first i l (sym q)) in
+        record {
+          raw = rw e (and-left (leb (countAt m i) 514 && ltb (toggleAt m i) 2) (sessionFits (sessionAt m i)) r);
+          fits = rw (p, and-left (streamFits (streamOfKey k)) (controlFits m i) (t .fit))
+              (and-right (leb (countAt m i) 514 && ltb (toggleAt m i) 2) (sessionFits (sessionAt m i)) r);
+          once = rw p (none-behind k z (key-lt i h) (32 - suc i) (suc i) (omega arith) ∙ eq-eqb (hits (keyAt m) k (suc i) (32 - suc i)) 0 none);
+        }
 
-  pub whole : every (placeSound m) 0 32 ≡ (every (rawFits m) 0 32 && sound (placesOf m))
+  from-table : ((l : ℕ) → l < 32 → Here l) → GoodAll
+  unfolding rawFits inRange
+  from-table t i h z =
+      let k = keyAt m i in
+      let w = t i h in
+      let f : (streamFits (streamOfKey k) && sessionFits (sessionAt m i)) ≡ true = rw (held-place i z) at (w .fits) in
+      let r : (leb (countAt m i) 514 && ltb (toggleAt m i) 2) ≡ true = rw (ne-eqb k 0 z) at (w .raw) in
+      let c : controlFits m i ≡ true = sym (controls i h) ∙ ap₂ (λ (x y : Bool). x && y) r (and-right (streamFits (streamOfKey k)) (sessionFits (sessionAt m i)) f) in
+      record { fit = rw (and-left (streamFits (streamOfKey k)) (sessionFits (sessionAt m i)) f, c); first = none-before }
+    where
+      none-before : First (keyAt m) i
+      none-before j b e =
+          let y : keyAt m j ≡ 0 → ⊥ = λ q. z (sym e ∙ q) in
+          let n = 32 - suc j in
+          let o : noneHolds (streamOfKey (keyAt m j)) (tabulate (placeAt m) (suc j) (32 - suc j)) ≡ true = rw (held-place j y) at (t j (omega arith) .once) in
+          let q = eqb-true (hits (keyAt m) (keyAt m j) (suc j) n) 0 (sym (none-behind (keyAt m j) y (key-lt j (omega arith)) n (suc j) (omega arith)) ∙ o) in
+          none-hits (keyAt m) (keyAt m j) n (suc j) q i b (omega arith) (sym e)
+
+  abbrev places : Bool
+  places = every (λ i. placeSound m i false) 0 32
+
+  pub whole : places ≡ (every (rawFits m) 0 32 && sound (placesOf m))
   unfolding sound placesOf tabulate
-  whole = same-test (every (placeSound m) 0 32) _ forth back where
-    forth : every (placeSound m) 0 32 ≡ true → (every (rawFits m) 0 32 && (placesFit (tabulate (placeAt m) 0 32) && apart (tabulate (placeAt m) 0 32))) ≡ true
+  whole = same-test places _ forth back where
+    forth : places ≡ true → (every (rawFits m) 0 32 && (placesFit (tabulate (placeAt m) 0 32) && apart (tabulate (placeAt m) 0 32))) ≡ true
     forth e =
-        let t : (l : ℕ) → 0 ≤ l → l < 0 + 32 → Here l = λ l a b. to-table l (omega arith) (every-at (placeSound m) 32 0 e l a b) in
+        let g : GoodAll = λ i h. alone-good (keyAt m) (inRange m) 32 i h false (every-at (λ j. placeSound m j false) 32 0 e i (omega arith) (omega arith)) (λ q. absurd (false≢true q)) in
+        let t : (l : ℕ) → 0 ≤ l → l < 0 + 32 → Here l = λ l a b. to-table g l (omega arith) in
         rw (
           every-true (rawFits m) 32 0 (λ l a b. t l a b .raw),
           fit-every (placeAt m) 32 0,
@@ -238,14 +196,15 @@ module _ (m : List ℕ) (bytes : Octets m) (long : size ≤ length m) where
           every-true (again (placeAt m) 32) 32 0 (λ l a b. t l a b .once),
         )
 
-    back : (every (rawFits m) 0 32 && (placesFit (tabulate (placeAt m) 0 32) && apart (tabulate (placeAt m) 0 32))) ≡ true → every (placeSound m) 0 32 ≡ true
+    back : (every (rawFits m) 0 32 && (placesFit (tabulate (placeAt m) 0 32) && apart (tabulate (placeAt m) 0 32))) ≡ true → places ≡ true
     back e =
         let r = and-left (every (rawFits m) 0 32) _ e in
         let g = and-right (every (rawFits m) 0 32) (placesFit (tabulate (placeAt m) 0 32) && apart (tabulate (placeAt m) 0 32)) e in
         let f = sym (fit-every (placeAt m) 32 0) ∙ and-left (placesFit (tabulate (placeAt m) 0 32)) (apart (tabulate (placeAt m) 0 32)) g in
         let o = sym (apart-every (placeAt m) 32 0 32 refl) ∙ and-right (placesFit (tabulate (placeAt m) 0 32)) (apart (tabulate (placeAt m) 0 32)) g in
-        every-true (placeSound m) 32 0 (λ l a b. from-table (λ j h. record {
+        let g = from-table (λ j h. record {
           raw = every-at (rawFits m) 32 0 r j (omega arith) (omega arith);
           fits = every-at (λ x. placeFits (placeAt m x)) 32 0 f j (omega arith) (omega arith);
           once = every-at (again (placeAt m) 32) 32 0 o j (omega arith) (omega arith);
-        }) l (omega arith))
+        }) in
+        every-true (λ j. placeSound m j false) 32 0 (λ l a b. good-alone (keyAt m) (inRange m) 32 32 g (λ j c d. absurd (omega arith)) l (omega arith))

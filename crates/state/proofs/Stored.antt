@@ -79,7 +79,7 @@ control m at n e g h he hg =
     ∙ splice-splice m at (leBytes 2 n ++ (e ∷ [])) (omega arith) (g ∷ [])
     ∙ ap (splice m at) (append-assoc (leBytes 2 n) (e ∷ []) (g ∷ []))
 
-pub byte-one : (b : Bool) → boolByte b ≡ one b
+byte-one : (b : Bool) → boolByte b ≡ one b
 byte-one true = refl
 byte-one false = refl
 

@@ -1,6 +1,6 @@
 -- A subscription's key stands for its kind and type; one turn of each loop over the subscriptions.
 use mathlib.Core.Path.{_≡_, refl, sym, ap, _∙_}
-use mathlib.Core.Bool.{Bool, true, false, not, _&&_}
+use mathlib.Core.Bool.{Bool, true, false, false≢true, not, _&&_, _||_}
 use mathlib.Core.List.{List, [], _∷_}
 use Prim.Native.Nat.{ℕ, zero, suc, _+_, _*_, _-_, _/_, _%_, _≤_, _<_}
 use native.Mathlib.Omega.{arith}
@@ -11,9 +11,10 @@ use Rattle.bits.specs.Little.{le}
 use Rattle.bits.specs.Part.{span}
 use Rattle.bits.specs.Tabulate.{tabulate}
 use Rattle.state.specs.Layout.{subscriptionKeyAt, subscriptionAt}
-use Rattle.state.specs.Subscription.{ofKey, asked}
+use Rattle.state.specs.Subscription.{ofKey, asked, keyFits}
 use Rattle.state.specs.declared.subscription.Subscribed.the-variants.{Under}
-use Rattle.bits.proofs.Tabulate.{tab-step}
+use Rattle.bits.proofs.Tabulate.{tab-step, tab-end}
+use Rattle.bits.proofs.Alone.{First}
 
 -- two numbers are equal exactly if their halves are
 halves : (k x y : ℕ) → y < 65536 → (eqb (k / 65536) x && eqb (k % 65536) y) ≡ eqb k (x * 65536 + y)
@@ -101,3 +102,62 @@ module _ (m : List ℕ) (j n : ℕ) (inside : j < n) where
       ap allFit (tab-step (subscriptionAt m) j n inside)
       ∙ ap (λ (x : Bool). x && (unlike (subscriptionAt m j) (tabulate (subscriptionAt m) (suc j) (n - suc j)) && allFit (tabulate (subscriptionAt m) (suc j) (n - suc j)))) t
       ∙ ap (λ (x : Bool). b && (x && allFit (tabulate (subscriptionAt m) (suc j) (n - suc j)))) u
+
+-- ── from the last one on ──
+
+module _ (m : List ℕ) (n : ℕ) where
+  -- whether those from j on fit
+  abbrev pub fitFrom : ℕ → Bool
+  fitFrom j = allFit (tabulate (subscriptionAt m) j (n - j))
+
+  -- whether none of those from j on is like the key k
+  abbrev pub unlikeFrom : ℕ → ℕ → Bool
+  unlikeFrom k j = unlike (ofKey k) (tabulate (subscriptionAt m) j (n - j))
+
+  unlike-all : (k c j : ℕ) → c ≡ n - j → ((a : ℕ) → j ≤ a → a < n → subscriptionKeyAt m a ≡ k → ⊥) → unlikeFrom k j ≡ true
+  unlike-all k zero j e h = rw (tab-end (subscriptionAt m) j n (omega arith))
+  unlike-all k (suc c) j e h =
+      unlike-step m j n (omega arith) k false (ne-eqb (subscriptionKeyAt m j) k (h j (omega arith) (omega arith)))
+      ∙ unlike-all k c (suc j) (omega arith) (λ a l b. h a (omega arith) b)
+
+  -- the keys from the last one on
+  abbrev pub backwards : ℕ → ℕ
+  backwards a = subscriptionKeyAt m (n - suc a)
+
+  pub first-unlike : (j : ℕ) → suc j ≤ n → First backwards (n - suc j) → unlikeFrom (subscriptionKeyAt m j) (suc j) ≡ true
+  first-unlike j h f = unlike-all (subscriptionKeyAt m j) (n - suc j) (suc j) refl (λ a l b q. f (n - suc a) (omega arith) (same a b ∙ q ∙ sym (same j h))) where
+    same : (a : ℕ) → a < n → backwards (n - suc a) ≡ subscriptionKeyAt m a
+    same a b = let e : n - suc (n - suc a) ≡ a = omega arith in ap (subscriptionKeyAt m) e
+
+  module _ (j k : ℕ) (h : suc j ≤ n) (is : k ≡ subscriptionKeyAt m j) (new : Bool) where
+    step : fitFrom j ≡ (ltb k 65792 && (unlikeFrom k (suc j) && fitFrom (suc j)))
+    step = fit-step m j n h k is (ltb k 65792) (unlikeFrom k (suc j)) refl refl
+
+    pub key-good : keyFits m k (suc j) n new ≡ true → (new ≡ true → unlikeFrom k (suc j) ≡ true) → fitFrom (suc j) ≡ true → fitFrom j ≡ true
+    unfolding keyFits
+    key-good t f r = step ∙ go (ltb k 65792) new (unlikeFrom k (suc j)) t f (fitFrom (suc j)) r where
+      go : (a b u : Bool) → (a && (b || u)) ≡ true → (b ≡ true → u ≡ true) → (r : Bool) → r ≡ true → (a && (u && r)) ≡ true
+      go true true u t f r q = rw (f refl, q)
+      go true false u t f r q = rw (t, q)
+      go false b u t f r q = t
+
+    pub key-faulty : keyFits m k (suc j) n new ≡ false → fitFrom j ≡ false
+    unfolding keyFits
+    key-faulty t = step ∙ go (ltb k 65792) new (unlikeFrom k (suc j)) t where
+      go : (a b u : Bool) → (a && (b || u)) ≡ false → (a && (u && fitFrom (suc j))) ≡ false
+      go true true u t = absurd (false≢true (sym t))
+      go true false u t = rw t
+      go false b u t = refl
+
+  -- a fault from j on is one of all
+  pub fault-stays : (j : ℕ) → j ≤ n → fitFrom j ≡ false → fitFrom 0 ≡ false
+  fault-stays zero h e = e
+  fault-stays (suc j) h e =
+      fault-stays j (omega arith)
+      (fit-step m j n h (subscriptionKeyAt m j) refl (ltb (subscriptionKeyAt m j) 65792) (unlikeFrom (subscriptionKeyAt m j) (suc j)) refl refl
+      ∙ lost (ltb (subscriptionKeyAt m j) 65792) (unlikeFrom (subscriptionKeyAt m j) (suc j)) (fitFrom (suc j)) e)
+    where
+      lost : (a b r : Bool) → r ≡ false → (a && (b && r)) ≡ false
+      lost true true r q = q
+      lost true false r q = refl
+      lost false b r q = refl

@@ -1,14 +1,14 @@
 -- 01, Numbers answered, 20: a lent state without a fault.
 use mathlib.Core.Bool.{Bool, true, _&&_, _||_}
-use mathlib.Core.List.{List, [], _∷_}
-use Prim.Native.Nat.{ℕ, zero, suc, _+_}
+use mathlib.Core.List.{List}
+use Prim.Native.Nat.{ℕ, zero, suc, _*_, _/_, _%_}
 use lib.Dec.{ltb, leb, eqb}
 use lib.ListN.{length}
 use Rattle.model.specs.Sound.{streamFits, sound}
 use Rattle.model.specs.Setup.{acceptable}
+use Rattle.bits.specs.Keys.{alone}
 use Rattle.bits.specs.Tabulate.{tabulate}
 use Rattle.state.specs.Layout.{size, setupOf, keyAt, countAt, expectedAt, toggleAt, streamOfKey, placesOf}
-use Rattle.state.specs.Place.{one}
 
 -- what the view does not show: a count and a toggle that are out of range
 unfoldable pub rawFits : List ℕ → ℕ → Bool
@@ -30,15 +30,17 @@ unfoldable pub controlFits : List ℕ → ℕ → Bool
 controlFits m i =
     leb (countAt m i) 514 && (ltb (expectedAt m i) 32 && (eqb (toggleAt m i) 0 || (eqb (toggleAt m i) 1 && ltb 0 (countAt m i))))
 
--- how often k stands in a list
-unfoldable pub times : ℕ → List ℕ → ℕ
-times k [] = 0
-times k (x ∷ xs) = one (eqb x k) + times k xs
+-- the stream and the control fields of place i
+unfoldable pub inRange : List ℕ → ℕ → Bool
+inRange m i = streamFits (streamOfKey (keyAt m i)) && controlFits m i
 
 abbrev pub keysOf : List ℕ → List ℕ
 keysOf m = tabulate (keyAt m) 0 32
 
--- place i is empty, or in range and alone with its stream
-unfoldable pub placeSound : List ℕ → ℕ → Bool
-placeSound m i =
-    eqb (keyAt m i) 0 || (streamFits (streamOfKey (keyAt m i)) && (controlFits m i && eqb (times (keyAt m i) (keysOf m)) 1))
+-- place i is empty, or in range and alone with its stream; the first place of a stream need not be counted
+abbrev pub placeSound : List ℕ → ℕ → Bool → Bool
+placeSound m i first = alone (keyAt m) (inRange m) 32 i first
+
+-- which of 128 marks a key sets: neither the keys of neighbouring sources nor those of neighbouring types fall on the same one
+abbrev pub markAt : ℕ → ℕ
+markAt k = k * 2654435769 / 33554432 % 128

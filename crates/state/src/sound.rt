@@ -1,12 +1,12 @@
-// The faults of a lent state that answer 20. Every call of the receiver runs this first, so the work goes with what is in use.
-use super::place;
+// The faults of a lent state that answer 20. Every call of the receiver runs this first, so it stops behind the last session and seldom counts a key.
 use super::subscription;
+ghost use mathlib.Core.Bool.{false};
 ghost use mathlib.Core.Path.{_≡_};
 ghost use Prim.Native.Nat.{_≤_, _<_};
 ghost use lib.ListN.{length};
 ghost use Rattle.model.specs.Sound.{streamFits};
 ghost use Rattle.state.specs.Layout.{size, streamOfKey};
-ghost use Rattle.state.specs.Sound.{every, controlFits, times, keysOf, placeSound, soundState};
+ghost use Rattle.state.specs.Sound.{every, controlFits, keysOf, placeSound, markAt, soundState};
 
 // The stream of a key is in range.
 fn stream_fits(k: u32) -> bool
@@ -50,43 +50,48 @@ fn control_fits(state: &[u8], i: usize) -> bool
     false
 }
 
-// How many places have the key k. No early exit: over a fixed number of keys the loop becomes a few vector compares.
-fn count(state: &[u8], k: u32) -> u32
-    requires { ⌜ size ≤ length (now state) ⌝ }
-    ensures { λ r. ⌜ r ≡ times k (keysOf (now (state .entry))) ⌝ }
+// Where a key sets its mark: like keys the same one, unlike keys mostly different ones. The factor is 2^32 over the golden ratio, which spreads
+// any run of neighbours.
+fn mark_at(k: u32) -> usize
+    ensures { λ r. ⌜ r ≡ markAt k ⌝ }
 {
-    let mut hits: u32 = 0;
-    let mut j: usize = 0;
-    while j < 32 {
-        hits += (place::key(state, j) == k) as u32;
-        j += 1;
-    }
-    hits
+    (k as u64 * 2654435769 / 33554432 % 128) as usize
 }
 
-fn place_sound(state: &[u8], i: usize) -> bool
-    requires { ⌜ (i < 32) × (size ≤ length (now state)) ⌝ }
-    ensures { λ r. ⌜ r ≡ placeSound (now (state .entry)) i ⌝ }
+// `first`: no earlier place has the key.
+fn place_sound(state: &[u8], i: usize, keys: &[u32; 32], first: bool) -> bool
+    requires { ⌜ ((i < 32) × (size ≤ length (now state))) × (now keys ≡ keysOf (now state)) ⌝ }
+    ensures { λ r. ⌜ r ≡ placeSound (now (state .entry)) i first ⌝ }
 {
-    let k = place::key(state, i);
+    let k = keys[i];
     if k == 0 {
         return true;
     }
     if stream_fits(k) {
         if control_fits(state, i) {
-            return count(state, k) == 1;
+            if first {
+                return true;
+            }
+            return bits::keys::count(keys, k) == 1;
         }
     }
     false
 }
 
-fn places_sound(state: &[u8]) -> bool
-    requires { ⌜ size ≤ length (now state) ⌝ }
-    ensures { λ r. ⌜ r ≡ every (placeSound (now (state .entry))) 0 32 ⌝ }
+// Place by place, up to the last session. A key whose mark is not set stands at no earlier place; where it is set, the key is counted.
+fn places_sound(state: &[u8], keys: &[u32; 32]) -> bool
+    requires { ⌜ (size ≤ length (now state)) × (now keys ≡ keysOf (now state)) ⌝ }
+    ensures { λ r. ⌜ r ≡ every (λ i. placeSound (now (state .entry)) i false) 0 32 ⌝ }
 {
+    let mut marks = [0u8; 128];
+    let mut left = 32 - bits::keys::count(keys, 0);
     let mut i: usize = 0;
-    while i < 32 {
-        if place_sound(state, i) {
+    while 0 < left {
+        let k = keys[i];
+        let at = mark_at(k);
+        if place_sound(state, i, keys, marks[at] == 0) {
+            marks[at] = 1;
+            left -= (k != 0) as u32;
             i += 1;
         } else {
             return false;
@@ -109,7 +114,8 @@ pub fn is_sound(state: &[u8]) -> bool
         return false;
     }
     if subscription::all_fit(state) {
-        return places_sound(state);
+        let keys = bits::keys::get(state, 1032);
+        return places_sound(state, &keys);
     }
     false
 }

@@ -5,7 +5,7 @@ ghost use lib.ListN.{length};
 ghost use Rattle.model.specs.Setup.{allFit, subscribed, unlike};
 ghost use Rattle.bits.specs.Tabulate.{tabulate};
 ghost use Rattle.state.specs.Layout.{size, subscriptionKeyAt, subscriptionAt, setupOf};
-ghost use Rattle.state.specs.Subscription.{asked, ofKey};
+ghost use Rattle.state.specs.Subscription.{asked, ofKey, keyFits, markAt};
 
 // What a subscription gives: the signature of its type.
 pub enum Subscribed {
@@ -53,20 +53,42 @@ fn is_unlike(state: &[u8], k: u32, from: usize, n: usize) -> bool
     true
 }
 
-// Internal. Every subscription has a kind and a type in range, and none stands twice.
+// The key k is in range and none from `from` up to n has it; `new`: it is known that none has it.
+fn key_fits(state: &[u8], k: u32, from: usize, n: usize, new: bool) -> bool
+    requires { ⌜ (size ≤ length (now state)) × (n < 256) ⌝ }
+    ensures { λ r. ⌜ r ≡ keyFits (now (state .entry)) k from n new ⌝ }
+{
+    if 65792 <= k {
+        return false;
+    }
+    if new {
+        return true;
+    }
+    is_unlike(state, k, from, n)
+}
+
+// Where a key sets its mark.
+fn mark_at(k: u32) -> usize
+    ensures { λ r. ⌜ r ≡ markAt k ⌝ }
+{
+    (k % 128) as usize
+}
+
+// Internal. Every subscription has a kind and a type in range, and none stands twice. From the last one on: a key whose mark is not set is
+// none of those behind; where it is set, they are compared.
 pub fn all_fit(state: &[u8]) -> bool
     requires { ⌜ size ≤ length (now state) ⌝ }
     ensures { λ r. ⌜ r ≡ allFit (setupOf (now (state .entry)) .subscriptions) ⌝ }
 {
     let n = state[1] as usize;
-    let mut j = 0;
-    while j < n {
-        let k = key(state, j);
-        if 65792 <= k {
-            return false;
-        }
-        if is_unlike(state, k, j + 1, n) {
-            j += 1;
+    let mut marks = [0u8; 128];
+    let mut j = n;
+    while 0 < j {
+        let k = key(state, j - 1);
+        let at = mark_at(k);
+        if key_fits(state, k, j, n, marks[at] == 0) {
+            marks[at] = 1;
+            j -= 1;
         } else {
             return false;
         }

@@ -6,45 +6,44 @@ use Prim.Native.Nat.{ℕ, _≤_, _<_}
 use borrow.Author.Tests.{eq-eqb, ne-eqb, lt-ltb, le-ltb}
 use lib.Dec.{eqb}
 use lib.ListN.{length, getD}
-use Rattle.bits.specs.Tabulate.{tabulate}
+use Rattle.bits.specs.Keys.{count, alone}
+use Rattle.bits.proofs.Alone.{key-is}
 use Rattle.bits.proofs.Tabulate.{length-tabulate}
 use Rattle.map.specs.Layout.{keyAt, nextAt, topicOfKey}
-use Rattle.map.specs.Sound as specs
-use Rattle.map.specs.Sound.{placeFits}
-use Rattle.map.proofs.Soundness.{key-is}
+use Rattle.map.specs.Sound.{inRange, keysOf, placeFits}
 use Rattle.model.specs.Map.{topicFits}
 use borrow.Author.Needs.{needs}
 use Rattle.map.proofs.sound.place_fits.Statement.{statement}
 use Rattle.map.proofs.sound.place_fits.Tie as tie
 
-module _ (m keys : List ℕ) (i : ℕ) (first : Bool) (h : i < 32) (is : keys ≡ tabulate (keyAt m) 0 32) where
+module _ (m keys : List ℕ) (i : ℕ) (first : Bool) (h : i < 32) (is : keys ≡ keysOf m) where
   abbrev k : ℕ
   k = getD keys i 0
 
   e : k ≡ keyAt m i
-  e = key-is m keys i h is
+  e = key-is (keyAt m) 32 keys i h is
 
-  unheld : k ≡ 0 → true ≡ placeFits m i keys first
-  unfolding placeFits
+  unheld : k ≡ 0 → true ≡ placeFits m i first
+  unfolding alone inRange
   unheld z = rw (← e, eq-eqb k 0 z)
 
   module _ (z : k ≡ 0 → ⊥) where
-    no-topic : topicFits (topicOfKey k) ≡ false → false ≡ placeFits m i keys first
-    unfolding placeFits
+    no-topic : topicFits (topicOfKey k) ≡ false → false ≡ placeFits m i first
+    unfolding alone inRange
     no-topic s = rw (← e, ne-eqb k 0 z, s)
 
-    no-transfer : topicFits (topicOfKey k) ≡ true → 32 ≤ nextAt m i → false ≡ placeFits m i keys first
-    unfolding placeFits
+    no-transfer : topicFits (topicOfKey k) ≡ true → 32 ≤ nextAt m i → false ≡ placeFits m i first
+    unfolding alone inRange
     no-transfer s l = rw (← e, ne-eqb k 0 z, s, le-ltb (nextAt m i) 32 l)
 
     module _ (s : topicFits (topicOfKey k) ≡ true) (l : nextAt m i < 32) where
-      is-first : first ≡ true → true ≡ placeFits m i keys first
-      unfolding placeFits
+      is-first : first ≡ true → true ≡ placeFits m i first
+      unfolding alone inRange
       is-first f = rw (← e, ne-eqb k 0 z, s, lt-ltb (nextAt m i) 32 l, f)
 
-      counted : first ≡ false → (n : ℕ) → n ≡ specs.count k keys → eqb n 1 ≡ placeFits m i keys first
-      unfolding placeFits
-      counted f n q = rw (← e, ne-eqb k 0 z, s, lt-ltb (nextAt m i) 32 l, f, q)
+      counted : first ≡ false → (n : ℕ) → n ≡ count k keys → eqb n 1 ≡ placeFits m i first
+      unfolding alone inRange
+      counted f n q = rw (← e, ne-eqb k 0 z, s, lt-ltb (nextAt m i) 32 l, f, q ∙ ap (count k) is)
 
 mul-k : tie.Need-mul-k
 mul-k c = search needs

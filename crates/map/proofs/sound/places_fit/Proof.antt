@@ -1,24 +1,34 @@
--- `sound::places_fit` meets its contract. The invariant: the keys of the places passed have left their marks, and the entries passed are in
--- range, each the first of its key; `left` entries are to come.
+-- `sound::places_fit` meets its contract. The invariant: the keys of the places passed have left their marks, and the entries passed are
+-- in range, each the first of its key; `left` entries are to come.
 use mathlib.Core.Path.{_≡_, refl, sym, ap, _∙_}
-use mathlib.Core.Bool.{not}
-use Prim.Native.Nat.{_+_, _-_, _≤_, _<_}
+use mathlib.Core.Bool.{Bool, true, false, false≢true, not}
+use mathlib.Core.List.{List}
+use Prim.Native.Nat.{ℕ, _+_, _-_, _≤_, _<_}
 use native.Mathlib.Numerals.{add-one}
 use native.Mathlib.Omega.{arith}
 use lib.Dec.{eqb}
 use lib.ListN.{length, getD, length-set}
+use Rattle.bits.specs.Keys.{count}
+use Rattle.bits.proofs.Alone.{GoodTo, Marked, key-is, good-step, alone-good, alone-first, good-alone, unmarked, mark}
+use Rattle.bits.proofs.Hits.{hits, hits-le, hits-all, left-step, byte-le}
 use Rattle.bits.proofs.Tabulate.{length-tabulate}
 use Rattle.map.specs.Layout.{keyAt}
-use Rattle.map.specs.Sound.{count, markAt}
-use Rattle.map.proofs.Hits.{hits, hits-le, hits-all, left-step, byte-le}
-use Rattle.map.proofs.Soundness.{key-is}
-use Rattle.map.proofs.First.{GoodTo, Marked, good-step, place-good, place-faulty, good-sound, unmarked, mark}
+use Rattle.map.specs.Sound.{soundMap, inRange, placeFits, markAt}
+use Rattle.map.proofs.Soundness.{slot-fits, slot-fit, fit-all, sound-is}
 use Rattle.map.proofs.sound.places_fit.Statement.{statement}
 use Rattle.map.proofs.sound.places_fit.Tie as tie
 
+-- one place with a fault
+faulty : (m : List ℕ) (i : ℕ) → i < 32 → (first : Bool) → placeFits m i first ≡ false → false ≡ soundMap m
+faulty m i h first e = go (soundMap m) refl where
+  go : (b : Bool) → soundMap m ≡ b → false ≡ b
+  go false w = refl
+  go true w = absurd (false≢true (sym e ∙ alone-first (keyAt m) (inRange m) 32 i first (sym (slot-fits m i) ∙ slot-fit m w i h)))
+
 abbrev Inv-loop : tie.InvT-loop
 Inv-loop map keys marks₀ left₀ i₀ marks left i =
-    (i ≤ 32) × ((length marks ≡ 64) × (Marked map i marks × ((left + hits (keyAt map) 0 i (32 - i) ≡ 32 - i) × GoodTo map i)))
+    (i ≤ 32) × ((length marks ≡ 64)
+    × (Marked (keyAt map) markAt i marks × ((left + hits (keyAt map) 0 i (32 - i) ≡ 32 - i) × GoodTo (keyAt map) (inRange map) i)))
 
 abbrev μ-loop : tie.MeasureT-loop
 μ-loop map keys marks₀ left₀ i₀ marks left i = 32 - i
@@ -84,25 +94,22 @@ loop-again c =
     let marks = l .loop .marks in
     let v = l .loop .inv .1 in
     let h : i < 32 = omega arith in
-    let k = key-is m (e .args .keys .now) i h (e .pre .1) in
+    let k = key-is (keyAt m) 32 (e .args .keys .now) i h (e .pre .1) in
     let at = c .before .before .mark-at .ensures ∙ ap markAt k in
     let new = eqb (getD marks (c .before .before .mark-at .result) 0) 0 in
-    let first = unmarked m i marks (v .1 .0) (c .before .before .mark-at .result) at in
-    let good = place-good m (e .args .keys .now) (e .pre .1) i h new (c .before .place-fits .result) (c .before .place-fits .ensures) in
-    let good' = good-step m i (v .1 .1 .1) (good (c .if1 .taken) first) in
+    let first = unmarked (keyAt m) markAt i marks (v .1 .0) (c .before .before .mark-at .result) at in
+    let good = alone-good (keyAt m) (inRange m) 32 i h new (sym (c .before .place-fits .ensures) ∙ c .if1 .taken) first in
+    let good' = good-step (keyAt m) (inRange m) i (v .1 .1 .1) good in
     let left' = left-step (keyAt m) i 32 (l .loop .left) h (omega arith) (v .1 .1 .0) in
-    let marks' = mark m i marks (v .0) (v .1 .0) in
+    let marks' = mark (keyAt m) markAt i marks (omega (arith, v .0)) (v .1 .0) in
     (omega arith, (simp length-set (v .0), (rw (add-one, at) marks', (rw (add-one, k) left', rw add-one good'))))
 
 returns : tie.Need-returns Inv-loop μ-loop
 returns c =
     let l = c .before .before .before .before .before in
-    let e = l .before .before .before in
-    let m = e .args .map .now in
-    let i = l .loop .i in
+    let m = l .before .before .before .args .map .now in
     let new = eqb (getD (l .loop .marks) (c .before .before .mark-at .result) 0) 0 in
-    let faulty = place-faulty m (e .args .keys .now) (e .pre .1) i (omega arith) new (c .before .place-fits .result) (c .before .place-fits .ensures) in
-    sym (faulty (c .if1 .left))
+    faulty m (l .loop .i) (omega arith) new (sym (c .before .place-fits .ensures) ∙ c .if1 .left)
 
 returns-2 : tie.Need-returns-2 Inv-loop μ-loop
 returns-2 c =
@@ -112,7 +119,8 @@ returns-2 c =
     let i = l .loop .i in
     let v = l .loop .inv .1 .1 .1 in
     let none : hits (keyAt m) 0 i (32 - i) ≡ 32 - i = omega arith in
-    sym (good-sound m (e .pre .0) i (v .1) (λ a s b. hits-all (keyAt m) 0 (32 - i) i none a s (omega arith)))
+    let empty : (a : ℕ) → i ≤ a → a < 32 → keyAt m a ≡ 0 = λ a s b. hits-all (keyAt m) 0 (32 - i) i none a s (omega arith) in
+    sym (sound-is m (e .pre .0) ∙ fit-all m 32 0 (λ j a b. slot-fits m j ∙ good-alone (keyAt m) (inRange m) 32 i (v .1) empty j (omega arith)))
 
 pub places-fit-spec : {M : Type 1} → statement M
 places-fit-spec =

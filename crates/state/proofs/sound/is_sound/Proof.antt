@@ -8,7 +8,7 @@ use borrow.Author.Tests.{lt-leb, le-leb, lt-ltb, le-ltb}
 use lib.Dec.{ltb}
 use lib.ListN.{length, getD}
 use Rattle.model.specs.Setup.{acceptable, allFit}
-use Rattle.state.specs.Layout.{size, setupOf, subscriptionAt}
+use Rattle.state.specs.Layout.{size, keyAt, setupOf, subscriptionAt}
 use Rattle.bits.specs.Order.{Octets}
 use Rattle.bits.proofs.Octets.{octets-all}
 use Rattle.state.specs.Sound.{every, placeSound, soundState}
@@ -38,7 +38,7 @@ module _ (m : List ℕ) where
           rw (le-leb size (length m) long, named, length-tabulate (subscriptionAt m) 0 (getD m 1 0), lt-leb (getD m 1 0) 64 h)
 
       module _ (few : getD m 1 0 ≤ 64) (b : Bool) (fit : allFit (setupOf m .subscriptions) ≡ b) where
-        left : Octets m → (b && every (placeSound m) 0 32) ≡ soundState m
+        left : Octets m → (b && every (λ i. placeSound m i false) 0 32) ≡ soundState m
         unfolding soundState acceptable setupOf
         left bytes = rw (whole m bytes long, le-leb size (length m) long, named, length-tabulate (subscriptionAt m) 0 (getD m 1 0), le-leb (getD m 1 0) 64 few, fit)
 
@@ -60,17 +60,21 @@ returns-3 c = let e = c .before .before in too-many _ (e .before .before .if1 .l
 all-fit-requires : tie.Need-all-fit-requires
 all-fit-requires c κs = search needs
 
+get-requires : tie.Need-get-requires
+get-requires c κs = search needs
+
 places-sound-requires : tie.Need-places-sound-requires
-places-sound-requires c κs = search needs
+unfolding keyAt
+places-sound-requires c κs = (omega arith, c .before .get .ensures)
 
 returns-4 : tie.Need-returns-4
 returns-4 c =
-    let a = c .before .before in
+    let a = c .before .before .before .before in
     let e = a .before .before .before in
     let o = e .before .before in
     let m = o .before .before .args .state .now in
     let bytes = octets-all m (λ i. omega (arith, o .before .shared-slice-known .given i)) in
-    c .places-sound .ensures ∙ left m (o .if1 .left) (e .if2 .left) (a .before .if3 .left) true (sym (a .all-fit .ensures) ∙ c .before .if4 .taken) bytes
+    c .places-sound .ensures ∙ left m (o .if1 .left) (e .if2 .left) (a .before .if3 .left) true (sym (a .all-fit .ensures) ∙ c .before .before .before .if4 .taken) bytes
 
 returns-5 : tie.Need-returns-5
 returns-5 c =
@@ -91,6 +95,7 @@ is-sound-spec =
     shared-slice-read-if3
     returns-3
     all-fit-requires
+    get-requires
     places-sound-requires
     returns-4
     returns-5)

@@ -1,33 +1,85 @@
--- `sound::places_sound` meets its contract: the places before i are sound.
+-- `sound::places_sound` meets its contract. The invariant: the keys of the places passed have left their marks, and the sessions passed are
+-- in range, each the first of its stream; `left` sessions are to come.
 use mathlib.Core.Path.{_≡_, refl, sym, ap, _∙_}
-use mathlib.Core.Bool.{Bool, true, false, _&&_}
+use mathlib.Core.Bool.{Bool, true, false, false≢true, not}
 use mathlib.Core.List.{List}
-use Prim.Native.Nat.{ℕ, suc, _-_, _≤_, _<_}
+use Prim.Native.Nat.{ℕ, _+_, _-_, _≤_, _<_}
 use native.Mathlib.Numerals.{add-one}
 use native.Mathlib.Omega.{arith}
-use Rattle.state.specs.Sound.{every, placeSound}
-use Rattle.state.proofs.Every.{every-step}
+use lib.Dec.{eqb}
+use lib.ListN.{length, getD, length-set}
+use Rattle.bits.specs.Keys.{count}
+use Rattle.bits.proofs.Alone.{GoodTo, Marked, key-is, good-step, alone-good, alone-first, good-alone, unmarked, mark}
+use Rattle.bits.proofs.Hits.{hits, hits-le, hits-all, left-step, byte-le}
+use Rattle.bits.proofs.Tabulate.{length-tabulate}
+use Rattle.state.specs.Layout.{keyAt}
+use Rattle.state.specs.Sound.{every, inRange, placeSound, markAt}
+use Rattle.state.proofs.Every.{every-at, every-true}
 use Rattle.state.proofs.sound.places_sound.Statement.{statement}
 use Rattle.state.proofs.sound.places_sound.Tie as tie
 
+-- one place with a fault
+faulty : (m : List ℕ) (i : ℕ) → i < 32 → (first : Bool) → placeSound m i first ≡ false → false ≡ every (λ j. placeSound m j false) 0 32
+faulty m i h first e = go (every (λ j. placeSound m j false) 0 32) refl where
+  go : (b : Bool) → every (λ j. placeSound m j false) 0 32 ≡ b → false ≡ b
+  go false w = refl
+  go true w =
+      let t = every-at (λ j. placeSound m j false) 32 0 w i (omega arith) (omega arith) in
+      absurd (false≢true (sym e ∙ alone-first (keyAt m) (inRange m) 32 i first t))
+
 abbrev Inv-loop : tie.InvT-loop
-Inv-loop state i₀ i = (i ≤ 32) × (every (placeSound state) i (32 - i) ≡ every (placeSound state) 0 32)
+Inv-loop state keys marks₀ left₀ i₀ marks left i =
+    (i ≤ 32) × ((length marks ≡ 128)
+    × (Marked (keyAt state) markAt i marks × ((left + hits (keyAt state) 0 i (32 - i) ≡ 32 - i) × GoodTo (keyAt state) (inRange state) i)))
 
 abbrev μ-loop : tie.MeasureT-loop
-μ-loop state i₀ i = 32 - i
+μ-loop state keys marks₀ left₀ i₀ marks left i = 32 - i
 
-next : (m : List ℕ) (i : ℕ) → i < 32 → (b : Bool) → placeSound m i ≡ b → (b && every (placeSound m) (suc i) (32 - suc i)) ≡ every (placeSound m) i (32 - i)
-next m i h b e = ap (λ (x : Bool). x && every (placeSound m) (suc i) (32 - suc i)) (sym e) ∙ sym (every-step (placeSound m) i 32 h)
+count-requires : tie.Need-count-requires Inv-loop μ-loop
+count-requires c κs =
+    let e = c .before in
+    ap length (e .pre .1) ∙ length-tabulate (keyAt (e .args .state .now)) 0 32
 
-end : (m : List ℕ) (i : ℕ) → 32 ≤ i → true ≡ every (placeSound m) i (32 - i)
-unfolding every
-end m i h = let z : 32 - i ≡ 0 = omega arith in rw z
+sub-left : tie.Need-sub-left Inv-loop μ-loop
+sub-left c =
+    let e = c .before .before in
+    let n = c .count .ensures ∙ ap (count 0) (e .pre .1) in
+    omega (arith, n, hits-le (keyAt (e .args .state .now)) 0 32 0)
 
 loop-holds : tie.Need-loop-holds Inv-loop μ-loop
-loop-holds c = (omega arith, refl)
+loop-holds c =
+    let e = c .before .before in
+    let n = c .count .ensures ∙ ap (count 0) (e .pre .1) in
+    let le = hits-le (keyAt (e .args .state .now)) 0 32 0 in
+    (omega arith, (refl, (λ a h. absurd (omega arith), (omega (arith, n, le), λ i h. absurd (omega arith)))))
+
+mul-k : tie.Need-mul-k Inv-loop μ-loop
+mul-k c = omega arith
+
+element-copy-out-k : tie.Need-element-copy-out-k Inv-loop μ-loop
+element-copy-out-k c = omega arith
+
+mark-at-requires : tie.Need-mark-at-requires Inv-loop μ-loop
+mark-at-requires c κs = tt
+
+array-read-place-sound : tie.Need-array-read-place-sound Inv-loop μ-loop
+array-read-place-sound c = omega arith
 
 place-sound-requires : tie.Need-place-sound-requires Inv-loop μ-loop
-place-sound-requires c κs = omega arith
+place-sound-requires c κs =
+    let e = c .before .before .before .before .before .before in
+    ((omega arith, e .pre .0), e .pre .1)
+
+array-write-marks : tie.Need-array-write-marks Inv-loop μ-loop
+array-write-marks c = omega arith
+
+cast-left : tie.Need-cast-left Inv-loop μ-loop
+cast-left c = tt
+
+sub-left-2 : tie.Need-sub-left-2 Inv-loop μ-loop
+sub-left-2 c =
+    let l = c .before .before .before .before .before in
+    omega (arith, byte-le (not (eqb (getD (l .before .before .before .args .keys .now) (l .loop .i) 0) 0)))
 
 add-i : tie.Need-add-i Inv-loop μ-loop
 add-i c = omega arith
@@ -37,20 +89,39 @@ loop-less c = omega arith
 
 loop-again : tie.Need-loop-again Inv-loop μ-loop
 loop-again c =
-    let p = c .before in
-    let l = p .before .before in
-    (omega arith, rw add-one (next (l .before .before .args .state .now) (l .loop .i) (omega arith) true (sym (p .place-sound .ensures) ∙ c .if1 .taken) ∙ l .loop .inv .1))
+    let l = c .before .before .before .before .before in
+    let e = l .before .before .before in
+    let m = e .args .state .now in
+    let i = l .loop .i in
+    let marks = l .loop .marks in
+    let v = l .loop .inv .1 in
+    let h : i < 32 = omega arith in
+    let k = key-is (keyAt m) 32 (e .args .keys .now) i h (e .pre .1) in
+    let at = c .before .before .mark-at .ensures ∙ ap markAt k in
+    let new = eqb (getD marks (c .before .before .mark-at .result) 0) 0 in
+    let first = unmarked (keyAt m) markAt i marks (v .1 .0) (c .before .before .mark-at .result) at in
+    let good = alone-good (keyAt m) (inRange m) 32 i h new (sym (c .before .place-sound .ensures) ∙ c .if1 .taken) first in
+    let good' = good-step (keyAt m) (inRange m) i (v .1 .1 .1) good in
+    let left' = left-step (keyAt m) i 32 (l .loop .left) h (omega arith) (v .1 .1 .0) in
+    let marks' = mark (keyAt m) markAt i marks (omega (arith, v .0)) (v .1 .0) in
+    (omega arith, (simp length-set (v .0), (rw (add-one, at) marks', (rw (add-one, k) left', rw add-one good'))))
 
 returns : tie.Need-returns Inv-loop μ-loop
 returns c =
-    let p = c .before in
-    let l = p .before .before in
-    next (l .before .before .args .state .now) (l .loop .i) (omega arith) false (sym (p .place-sound .ensures) ∙ c .if1 .left) ∙ l .loop .inv .1
+    let l = c .before .before .before .before .before in
+    let m = l .before .before .before .args .state .now in
+    let new = eqb (getD (l .loop .marks) (c .before .before .mark-at .result) 0) 0 in
+    faulty m (l .loop .i) (omega arith) new (sym (c .before .place-sound .ensures) ∙ c .if1 .left)
 
 returns-2 : tie.Need-returns-2 Inv-loop μ-loop
 returns-2 c =
     let l = c .before in
-    end (l .before .before .args .state .now) (l .loop .i) (omega arith) ∙ l .loop .inv .1
+    let m = l .before .before .before .args .state .now in
+    let i = l .loop .i in
+    let v = l .loop .inv .1 .1 .1 in
+    let none : hits (keyAt m) 0 i (32 - i) ≡ 32 - i = omega arith in
+    let empty : (a : ℕ) → i ≤ a → a < 32 → keyAt m a ≡ 0 = λ a s b. hits-all (keyAt m) 0 (32 - i) i none a s (omega arith) in
+    sym (every-true (λ j. placeSound m j false) 32 0 (λ j a b. good-alone (keyAt m) (inRange m) 32 i (v .1) empty j (omega arith)))
 
 pub places-sound-spec : {M : Type 1} → statement M
 places-sound-spec =
@@ -58,8 +129,17 @@ places-sound-spec =
     (tie.spec
     Inv-loop
     μ-loop
+    count-requires
+    sub-left
     loop-holds
+    mul-k
+    element-copy-out-k
+    mark-at-requires
+    array-read-place-sound
     place-sound-requires
+    array-write-marks
+    cast-left
+    sub-left-2
     add-i
     loop-less
     loop-again

@@ -1,4 +1,4 @@
--- `sound::count` meets its contract: the hits so far and those to come.
+-- `keys::count` meets its contract: the hits so far and those to come.
 use mathlib.Core.Path.{_≡_, _∙_}
 use mathlib.Core.List.{List}
 use Prim.Native.Nat.{ℕ, suc, _+_, _-_, _≤_, _<_}
@@ -9,14 +9,14 @@ use lib.Dec.{eqb}
 use lib.ListN.{length, drop, getD}
 use lib.Seq.{drop-cons, drop-length}
 use mir.Val.{boolByte}
-use Rattle.map.specs.Sound as specs
-use Rattle.map.proofs.Hits.{byte-flag, byte-le}
-use Rattle.map.proofs.sound.count.Statement.{statement}
-use Rattle.map.proofs.sound.count.Tie as tie
+use Rattle.bits.specs.Keys as specs
+use Rattle.bits.proofs.Hits.{byte-le}
+use Rattle.bits.proofs.keys.count.Statement.{statement}
+use Rattle.bits.proofs.keys.count.Tie as tie
 
 turn : (k hits j : ℕ) (keys : List ℕ) → j < length keys → hits + boolByte (eqb (getD keys j 0) k) + specs.count k (drop (suc j) keys) ≡ hits + specs.count k (drop j keys)
 unfolding specs.count
-turn k hits j keys h = rw (drop-cons keys j 0, byte-flag) (omega arith)
+turn k hits j keys h = rw (drop-cons keys j 0) (omega arith)
 
 done : (k hits j : ℕ) (keys : List ℕ) → j ≡ length keys → hits ≡ hits + specs.count k (drop j keys)
 unfolding specs.count
