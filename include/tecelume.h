@@ -1,7 +1,8 @@
 /* Tecelume: UAVCAN v0 (DroneCAN) transfers from CAN 2.0B frames, and frames from transfers. Link libgateway.a.
  *
- * A receiver lives in bytes that the caller lends to every call, and so does the map that a sender counts transfers in. The library allocates nothing, has no globals and keeps no pointer
- * past a call. Every call accepts every input and ends; what it cannot take it answers by number.
+ * A receiver lives in bytes that the caller lends to every call, and so does the map that a sender counts transfers in. The library
+ * allocates nothing, has no globals and keeps no pointer past a call. Every call accepts every input and ends; what it cannot take it
+ * answers by number.
  *
  * A slice is two arguments, a pointer and a length in bytes. An empty slice may be (NULL, 0). No buffer needs an alignment.
  *
@@ -15,7 +16,8 @@
  * Answer 20 is the net under the last rule: tecelume_receive and tecelume_send first check that the state or map is long enough, that
  * each number in it is in its range and that no two entries are alike. One that fails is refused and stays as it was; set it up again.
  * So whatever others wrote there, no call reaches outside the lent buffers. A write that leaves all numbers in range is not noticed: it
- * counts as what was received or sent before. A stream recovers from that with its next start that is taken; the own ID and the subscriptions do not recover.
+ * counts as what was received or sent before. A stream recovers from that with its next start that is taken; the own ID and the
+ * subscriptions do not recover.
  *
  * The archive is for x86-64 Linux only. */
 #ifndef TECELUME_H
@@ -240,7 +242,8 @@ uint32_t tecelume_map_setup(uint8_t *map, size_t map_len);
  * Gives    a result word: 0, with tecelume_frames of it records at the front of out, to be put on the bus in their order. Bytes past
  *          them stay.
  * Refuses  first match of 20, 14, 11, 8 and 9. All leave map and out as they were, and no transfer ID is used up.
- * Costs    the check for 20, which grows with the entries in use; a search of the map; the checksum and a copy of the payload. */
+ * Costs    the check for 20, which grows with the entries in use; a search of the map; the checksum and a copy of the payload. At most
+ *          1024 bytes of stack, besides what memcpy and its like take. */
 uint64_t tecelume_send(uint8_t *map, size_t map_len, uint32_t own, uint32_t transfer_type, uint32_t type_id, uint32_t destination,
                        uint32_t priority, const uint8_t *payload, size_t payload_len, uint64_t signature, uint64_t time,
                        uint32_t transfer_id, uint32_t discriminator, uint8_t *out, size_t out_len);

@@ -4,13 +4,35 @@
 use std::io::{Read, Write};
 
 const OLD: u64 = 2_000_000;
+/// The signatures that the program `signatures` works out, in the order of its lines.
+const SIGNATURES: [u64; 5] = signatures(include_bytes!("../../crates/signatures/stdout"));
 const SUBSCRIPTIONS: [(bool, u16, u64); 5] = [
-    (false, 341, 0x0F0868D0C1A7C6F1),
-    (true, 1, 0xEE468A8121C46A9E),
-    (false, 1, 0x0B2A812620A11D40),
-    (false, 16370, 0xE02F25D6E0C98AE0),
-    (false, 16383, 0xD654A48E0C049D75),
+    (false, 341, SIGNATURES[0]),
+    (true, 1, SIGNATURES[1]),
+    (false, 1, SIGNATURES[2]),
+    (false, 16370, SIGNATURES[3]),
+    (false, 16383, SIGNATURES[4]),
 ];
+
+/// Sixteen hexadecimal digits at the front of each line.
+const fn signatures(text: &[u8]) -> [u64; 5] {
+    let mut found = [0; 5];
+    let (mut line, mut column, mut i) = (0, 0, 0);
+    while i < text.len() {
+        let c = text[i];
+        if c == b'\n' {
+            (line, column) = (line + 1, 0);
+        } else {
+            if column < 16 {
+                let digit = if c <= b'9' { c - b'0' } else { c - b'a' + 10 };
+                found[line] = found[line] << 4 | digit as u64;
+            }
+            column += 1;
+        }
+        i += 1;
+    }
+    found
+}
 
 const TABLE: [u16; 256] = {
     let mut table = [0; 256];
@@ -341,9 +363,9 @@ fn make(bytes: usize) {
             .wrapping_add(1442695040888963407);
         let node = (seed >> 33) as usize % 28;
         let (type_id, signature) = if node < 20 {
-            (341, 0x0F0868D0C1A7C6F1u64)
+            (341, SIGNATURES[0])
         } else {
-            (16383, 0xD654A48E0C049D75)
+            (16383, SIGNATURES[4])
         };
         if queue[node].is_empty() {
             let length = if node < 20 {

@@ -89,14 +89,6 @@ store-store m at xs ys h =
     rw (unpack-bytes (length m) (splice (unpack m) at xs) (length-splice (unpack m) at xs (omega (arith, length-unpack m)) ∙ length-unpack m), length-bytes)
     (ap (λ (l : List Bool). bytes (length m) l) (splice-splice (unpack m) at xs (omega (arith, length-unpack m)) ys))
 
--- what was stored is read back
-pub read-store : (m : List ℕ) (at : ℕ) (bs : List Bool) → at + length bs ≤ length m * 8 → take (length bs) (drop at (unpack (store m at bs))) ≡ bs
-read-store m at bs h =
-    let f : length (take at (unpack m)) ≡ at = length-take-le at (unpack m) (omega (arith, length-unpack m)) in
-    ap (λ (l : List Bool). take (length bs) (drop at l)) (unpack-store m at bs h)
-    ∙ ap (λ (l : List Bool). take (length bs) l) (drop-at (take at (unpack m)) (bs ++ drop (at + length bs) (unpack m)) at f)
-    ∙ take-at bs (drop (at + length bs) (unpack m)) (length bs) refl
-
 -- whole bytes from the front: the rest of the bytes stay
 pub store-front : (m : List ℕ) (n : ℕ) (bs : List Bool) → Octets m → length bs ≡ n * 8 → n ≤ length m → store m 0 bs ≡ bytes n bs ++ drop n m
 unfolding store

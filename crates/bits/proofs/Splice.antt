@@ -1,8 +1,8 @@
 -- Laws of `span` and `splice`: what a store at a place leaves there and elsewhere.
 use mathlib.Core.Path.{_≡_, refl, sym, ap, ap₂, _∙_}
 use mathlib.Core.Bool.{Bool, true, false}
-use mathlib.Core.List.{List, [], _∷_, _++_, append-assoc, append-nil}
-use Prim.Native.Nat.{ℕ, zero, suc, _+_, _-_, _≤_, _<_}
+use mathlib.Core.List.{List, _++_, append-assoc, append-nil}
+use Prim.Native.Nat.{ℕ, _+_, _-_, _≤_, _<_}
 use native.Mathlib.Nat.{add-sub-cancel-left}
 use native.Mathlib.Omega.{arith}
 use borrow.Author.Tests.{ltb-true, ltb-false}
@@ -87,15 +87,6 @@ splice-all m ys e =
     ap (λ (n : ℕ). ys ++ drop n m) z ∙ ap (λ l. ys ++ l) (drop-length m) ∙ append-nil ys
 
 -- ── a part of a part ──
-
-part-of-take : {A : Type 0} (l : List A) (b n k : ℕ) → b + k ≤ n → take k (drop b (take n l)) ≡ take k (drop b l)
-part-of-take l zero n k h = take-take k n l (omega arith)
-part-of-take l (suc b) zero k h = absurd (omega arith)
-part-of-take [] (suc b) (suc n) k h = refl
-part-of-take (x ∷ xs) (suc b) (suc n) k h = part-of-take xs b n k (omega arith)
-
-pub span-span : {A : Type 0} (m : List A) (a n b k : ℕ) → b + k ≤ n → span (span m a n) b k ≡ span m (a + b) k
-span-span m a n b k h = part-of-take (drop a m) b n k h ∙ ap (λ l. take k l) (drop-drop b a m)
 
 -- ── a part of the whole after a store ──
 

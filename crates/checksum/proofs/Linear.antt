@@ -5,7 +5,7 @@ use Prim.Native.Nat.{ℕ, zero, suc, _+_, _*_, _-_, _/_, _%_, _^_, _<_}
 use native.Mathlib.Nat.{zero-mul}
 use native.Mathlib.Numerals.{add-one}
 use native.Mathlib.Omega.{arith}
-use lib.Bits.{bitXor, xor-lt, xor-shr, xor-mod, xor-self, xor-zero-l, xor-zero-r}
+use lib.Bits.{bitXor, xor-shr, xor-mod, xor-self, xor-zero-l, xor-zero-r}
 use lib.ListN.{length, drop, getD}
 use lib.Seq.{drop-cons, drop-length}
 use Rattle.checksum.specs.Crc.{Crc, shift, shifts, crcByte, crcOver}
@@ -71,28 +71,6 @@ module _ (k : Crc) where
   over-done r i p e = rw (e, drop-length)
 
 -- ── the transfer checksum fits 16 bits ──
-
-shift-lt : (c : ℕ) → shift ccitt c < 65536
-unfolding shift
-shift-lt c = xor-lt 16 (c * 2 % 65536) (c / 32768 % 2 * ccitt .polynomial) (omega arith) (omega arith)
-
-shifts-lt : (n c : ℕ) → c < 65536 → shifts ccitt n c < 65536
-unfolding shifts
-shifts-lt zero c h = h
-shifts-lt (suc n) c h = shifts-lt n (shift ccitt c) (shift-lt c)
-
-byte-lt : (c b : ℕ) → crcByte ccitt c b < 65536
-unfolding crcByte shifts
-byte-lt c b = shifts-lt 7 (shift ccitt (bitXor c (b * 256))) (shift-lt (bitXor c (b * 256)))
-
-pub over-lt : (c : ℕ) (p : List ℕ) → c < 65536 → crcOver ccitt c p < 65536
-unfolding crcOver
-over-lt c [] h = h
-over-lt c (x ∷ p) h = over-lt (crcByte ccitt c x) p (byte-lt c x)
-
-pub checksum-lt : (signature : ℕ) (p : List ℕ) → checksum signature p < 65536
-unfolding checksum
-checksum-lt signature p = over-lt 0xFFFF (leBytes 8 signature ++ p) (omega arith)
 
 pub linear-laws : LinearLaws
 unfolding checksum

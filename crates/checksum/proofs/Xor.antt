@@ -5,7 +5,7 @@ use native.Mathlib.Nat.{mod-lt, zero-lt-suc, add-zero}
 use lib.Pow.{pow-pos}
 use native.Mathlib.Omega.{arith}
 use lib.Arith.{bin-ind}
-use lib.Bits.{bitXor, differ, xor-step, xor-comm, xor-self, xor-zero-r, xor-shr, xor-mod, xor-block}
+use lib.Bits.{bitXor, differ, xor-step, xor-comm, xor-shr, xor-mod, xor-block}
 
 -- what holds of 0 and 1 holds of a digit
 pub bit-cases {ℓ} : (P : ℕ → Type ℓ) → P 0 → P 1 → (x : ℕ) → x < 2 → P x
@@ -46,23 +46,6 @@ xor-swap a b c d =
     xor-assoc a b (bitXor c d)
     ∙ ap (bitXor a) (sym (xor-assoc b c d) ∙ ap (λ (x : ℕ). bitXor x d) (xor-comm b c) ∙ xor-assoc c b d)
     ∙ sym (xor-assoc a c (bitXor b d))
-
--- twice the same is nothing
-pub xor-back : (a b : ℕ) → bitXor (bitXor a b) b ≡ a
-xor-back a b = xor-assoc a b b ∙ ap (bitXor a) (xor-self b) ∙ xor-zero-r a
-
-pub xor-none : (a b : ℕ) → bitXor a b ≡ 0 → a ≡ b
-xor-none a b e = sym (xor-back a b) ∙ ap (λ (x : ℕ). bitXor x b) e
-
--- a common part falls out
-pub xor-common : (a b c : ℕ) → bitXor (bitXor c a) (bitXor c b) ≡ bitXor a b
-xor-common a b c = xor-swap c a c b ∙ ap (λ (x : ℕ). bitXor x (bitXor a b)) (xor-self c)
-
-pub xor-cancel : (c a b : ℕ) → bitXor c a ≡ bitXor c b → a ≡ b
-xor-cancel c a b e = xor-none a b (sym (xor-common a b c) ∙ ap (λ (x : ℕ). bitXor x (bitXor c b)) e ∙ xor-self (bitXor c b))
-
-pub xor-cancel-right : (c a b : ℕ) → bitXor a c ≡ bitXor b c → a ≡ b
-xor-cancel-right c a b e = sym (xor-back a c) ∙ ap (λ (x : ℕ). bitXor x c) e ∙ xor-back b c
 
 -- times a power of two
 pub xor-times : (k a b : ℕ) → bitXor a b * 2 ^ k ≡ bitXor (a * 2 ^ k) (b * 2 ^ k)

@@ -1,6 +1,6 @@
 -- `word::of_sent` meets its contract, case by case.
-use mathlib.Core.Path.{_≡_, sym, ap}
-use Prim.Native.Nat.{ℕ, _+_, _*_, _^_, _≤_}
+use mathlib.Core.Path.{sym, ap}
+use Prim.Native.Nat.{ℕ, _+_, _*_, _^_}
 use native.Mathlib.Omega.{arith}
 use Rattle.sender.specs.Send.{numberOf, framesOf}
 use Rattle.sender.specs.declared.Sent.{Sent}
