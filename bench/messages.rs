@@ -24,10 +24,10 @@ type EncodeInfo = unsafe extern "C" fn(
 ) -> u64;
 
 extern "C" {
-    fn probe_status_decode(payload: *const u8, length: usize) -> u64;
-    fn probe_status_encode(v: &[u64; 5], out: *mut u8, room: usize) -> u64;
-    fn probe_info_decode(payload: *const u8, length: usize) -> u64;
-    fn probe_info_encode(
+    fn bench_status_decode(payload: *const u8, length: usize) -> u64;
+    fn bench_status_encode(v: &[u64; 5], out: *mut u8, room: usize) -> u64;
+    fn bench_info_decode(payload: *const u8, length: usize) -> u64;
+    fn bench_info_encode(
         v: &[u64; 12],
         unique_id: *const u8,
         unique_id_length: usize,
@@ -143,21 +143,21 @@ fn check(statuses: &[[u64; 5]], infos: &[Info]) {
             }
             for room in 0..9 {
                 let by = |call| move |out: &mut [u8]| encode_status(call, &strange, out);
-                same_writings(by(probe_status_encode), by(bytewise::status_encode), room);
+                same_writings(by(bench_status_encode), by(bytewise::status_encode), room);
             }
         }
         let mut out = [0; 7];
-        encode_status(probe_status_encode, numbers, &mut out);
-        same_readings(probe_status_decode, bytewise::status_decode, &out);
+        encode_status(bench_status_encode, numbers, &mut out);
+        same_readings(bench_status_decode, bytewise::status_decode, &out);
     }
     for info in infos {
         for room in [0, 40, 41, 60, 300, ROOM] {
             let by = |call| move |out: &mut [u8]| encode_info(call, info, out);
-            same_writings(by(probe_info_encode), by(bytewise::info_encode), room);
+            same_writings(by(bench_info_encode), by(bytewise::info_encode), room);
         }
         let mut out = [0; ROOM];
-        let length = encode_info(probe_info_encode, info, &mut out) as usize;
-        same_readings(probe_info_decode, bytewise::info_decode, &out[..length]);
+        let length = encode_info(bench_info_encode, info, &mut out) as usize;
+        same_readings(bench_info_decode, bytewise::info_decode, &out[..length]);
     }
 }
 
@@ -205,13 +205,13 @@ fn status_rows(statuses: &[[u64; 5]]) {
         "NodeStatus, decode",
         1.5,
         measure(
-            reading(probe_status_decode),
+            reading(bench_status_decode),
             reading(bytewise::status_decode),
         ),
     );
     let mut other = out;
     let writing = measure(
-        |message| encode_status(probe_status_encode, &statuses[message], &mut out),
+        |message| encode_status(bench_status_encode, &statuses[message], &mut out),
         |message| encode_status(bytewise::status_encode, &statuses[message], &mut other),
     );
     row("NodeStatus, encode", 1.5, writing);
@@ -229,7 +229,7 @@ fn info_rows(what: &str, infos: &[Info]) {
         let payloads = &payloads;
         move |message: usize| decode(call, &payloads[message])
     };
-    let figures = measure(reading(probe_info_decode), reading(bytewise::info_decode));
+    let figures = measure(reading(bench_info_decode), reading(bytewise::info_decode));
     row(
         &format!("GetNodeInfo response, {what}, decode"),
         2.0,
@@ -237,7 +237,7 @@ fn info_rows(what: &str, infos: &[Info]) {
     );
     let (mut out, mut other) = ([0; ROOM], [0; ROOM]);
     let figures = measure(
-        |message| encode_info(probe_info_encode, &infos[message], &mut out),
+        |message| encode_info(bench_info_encode, &infos[message], &mut out),
         |message| encode_info(bytewise::info_encode, &infos[message], &mut other),
     );
     row(

@@ -2,7 +2,7 @@
  * allocator, node 1, answers each. Its second and third answer take several frames and a checksum. The receiver is set up as node 1:
  * it hears both sides, since a message is for everyone, its sender included.
  *
- *     gcc -std=c99 -Iinclude -o receive examples/receive.c target/staticlib/libgateway.a && ./receive
+ *     gcc -std=c99 -Iinclude -o receive examples/receive.c target/staticlib/libtecelume.a && ./receive
  *
  * receive.expected holds what this prints. */
 #include <stdio.h>

@@ -1,7 +1,7 @@
 /* Sends a NodeStatus, which fits one frame, and a KeyValue of three frames, and gives the records to a receiver as a bus would: what
  * was sent comes out again.
  *
- *     gcc -std=c99 -Iinclude -o send examples/send.c target/staticlib/libgateway.a && ./send
+ *     gcc -std=c99 -Iinclude -o send examples/send.c target/staticlib/libtecelume.a && ./send
  *
  * send.expected holds what this prints. */
 #include <stdio.h>

@@ -1,4 +1,4 @@
-/* Tecelume: UAVCAN v0 (DroneCAN) transfers from CAN 2.0B frames, and frames from transfers. Link libgateway.a.
+/* Tecelume: UAVCAN v0 (DroneCAN) transfers from CAN 2.0B frames, and frames from transfers. Link libtecelume.a.
  *
  * A receiver lives in bytes that the caller lends to every call, and so does the map that a sender counts transfers in. The library
  * allocates nothing, has no globals and keeps no pointer past a call. Every call accepts every input and ends; what it cannot take it

@@ -12,10 +12,10 @@ fn main() {
         return;
     }
     let Ok(folder) = env::var(FOLDER) else {
-        println!("cargo::error=feature `link`: set {FOLDER} to the folder of libgateway.a");
+        println!("cargo::error=feature `link`: set {FOLDER} to the folder of libtecelume.a");
         return;
     };
-    let archive = Path::new(&folder).join("libgateway.a");
+    let archive = Path::new(&folder).join("libtecelume.a");
     if !archive.is_file() {
         println!("cargo::error=feature `link`: no {}", archive.display());
         return;

@@ -3,7 +3,7 @@
  *     gateway               frames come as lines on standard input (line.h), frames to send go out as lines on standard output
  *     gateway INTERFACE     frames come from a CAN interface of Linux, frames to send go there as well
  *
- * It is built from the C files of this folder and libgateway.a, as examples/run does. node.c has all that concerns the library;
+ * It is built from the C files of this folder and libtecelume.a, as examples/run does. node.c has all that concerns the library;
  * traffic.input, traffic.sent and traffic.told hold a run over lines. */
 #include <stdio.h>
 

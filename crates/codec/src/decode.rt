@@ -171,7 +171,7 @@ fn fields(
     let mut i = 0;
     let mut p = 0;
     while p < names.len() {
-        let e = text::find(names, p, 32);
+        let e = digits::find(names, p, 32);
         o = field(kind, &names[p..e], i, numbers, values, payload, out, o);
         if e == names.len() {
             return o;

@@ -122,7 +122,7 @@ fn with_word(
     requires { ⌜ (numbers ≤ 12) × ((from ≤ to) × ((to ≤ length (now rest)) × (length (now rest) ≤ length (now bytes)))) ⌝ }
 {
     let word = &rest[from..to];
-    let q = text::find(word, 0, 61);
+    let q = digits::find(word, 0, 61);
     if q == word.len() {
         return ill_formed(g);
     }
@@ -139,7 +139,7 @@ fn fields(names: &[u8], numbers: usize, rest: &[u8], from: usize, bytes: &mut [u
     let mut g = nothing();
     let mut p = from;
     while p < rest.len() {
-        let e = text::find(rest, p + 1, 32);
+        let e = digits::find(rest, p + 1, 32);
         g = with_word(g, names, numbers, rest, p + 1, e, bytes);
         p = e;
     }
@@ -257,7 +257,7 @@ fn from(
 ) -> usize
     requires { ⌜ (length (now rest) ≤ length (now bytes)) × (numbers ≤ 12) ⌝ }
 {
-    let e = text::find(rest, 0, 32);
+    let e = digits::find(rest, 0, 32);
     let n = number::digits(&rest[0..e]);
     let g = fields(names, numbers, rest, e, bytes);
     if is_none(n) {

@@ -1,5 +1,5 @@
 // A list in a request: pairs of capital hexadecimal digits, or a dash for none.
-use text::Parsed;
+use digits::Parsed;
 ghost use Prim.Native.Nat.{_+_, _≤_};
 ghost use lib.ListN.{length};
 
@@ -15,7 +15,7 @@ fn pairs(s: &[u8], bytes: &mut [u8], at: usize) -> Length
     let n = s.len() / 2;
     let mut i = 0;
     while i < n {
-        let Parsed::Is(b) = text::number(&s[i * 2..i * 2 + 2], 16) else {
+        let Parsed::Is(b) = digits::number(&s[i * 2..i * 2 + 2], 16) else {
             return Length::Not;
         };
         bytes[at + i] = (b % 256) as u8;

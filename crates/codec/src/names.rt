@@ -10,7 +10,7 @@ pub fn find(names: &[u8], name: &[u8]) -> Found {
     let mut i = 0;
     let mut p = 0;
     while p < names.len() {
-        let e = text::find(names, p, 32);
+        let e = digits::find(names, p, 32);
         if check::same(&names[p..e], name) {
             return Found::At(i);
         }

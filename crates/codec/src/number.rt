@@ -32,7 +32,7 @@ pub fn digits(s: &[u8]) -> Number {
     let mut n = Number::Is(0);
     let mut i = 0;
     while i < s.len() {
-        let d = text::digit(s[i]);
+        let d = digits::digit(s[i]);
         if 9 < d {
             return Number::Not;
         }

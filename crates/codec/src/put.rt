@@ -36,14 +36,14 @@ pub fn bytes(out: &mut [u8], at: usize, s: &[u8]) -> usize {
 
 pub fn decimal(out: &mut [u8], at: usize, v: u64) -> usize {
     let mut d = [0u8; 20];
-    let n = text::count(v);
-    text::put_digits(&mut d, 0, n, v);
+    let n = digits::count(v);
+    digits::put_digits(&mut d, 0, n, v);
     bytes(out, at, &d[0..n])
 }
 
 fn pair(out: &mut [u8], at: usize, s: &[u8; 1]) -> usize {
     let mut d = [0u8; 2];
-    text::put_hexes(&mut d, 0, s);
+    digits::put_hexes(&mut d, 0, s);
     bytes(out, at, &d)
 }
 

@@ -83,7 +83,7 @@ fn named(encodes: bool, name: &[u8], rest: &[u8], out: &mut [u8], at: usize) -> 
 fn of_type(encodes: bool, rest: &[u8], out: &mut [u8], at: usize) -> usize
     requires { ⌜ length (now rest) ≤ 8192 ⌝ }
 {
-    let e = text::find(rest, 0, 32);
+    let e = digits::find(rest, 0, 32);
     if e == rest.len() {
         return put::ill_formed(out, at);
     }
@@ -94,7 +94,7 @@ fn of_type(encodes: bool, rest: &[u8], out: &mut [u8], at: usize) -> usize
 pub fn answer(line: &[u8], out: &mut [u8], at: usize) -> usize
     requires { ⌜ length (now line) ≤ 8192 ⌝ }
 {
-    let e = text::find(line, 0, 32);
+    let e = digits::find(line, 0, 32);
     if e == line.len() {
         return put::ill_formed(out, at);
     }

@@ -1,7 +1,7 @@
-// The log program (01): standard input to standard output. Each line goes through the proved `replay::line`; here are the buffers.
+// The log program (01): standard input to standard output. Each line goes through the proved `log_replay::line`; here are the buffers.
 // Input and output go in blocks of 65,536 bytes, whatever the length of the input or of a line.
-use replay::Counts;
-use replay::Told;
+use log_replay::Counts;
+use log_replay::Told;
 ghost use Prim.Native.Nat.{_≤_};
 ghost use lib.ListN.{length};
 
@@ -40,7 +40,7 @@ fn room(out: &[u8], at: usize) -> usize
 fn line(state: &mut [u8], line: &[u8], out: &mut [u8], pen: Pen) -> Pen {
     let counts = pen.counts;
     let at = room(out, pen.at);
-    match replay::line(state, line, counts, &mut out[at..]) {
+    match log_replay::line(state, line, counts, &mut out[at..]) {
         Told::Small => pen,
         Told::Line(s) => {
             let after = s.counts;
@@ -57,7 +57,7 @@ fn lines(state: &mut [u8], block: &[u8], out: &mut [u8], pen: Pen) -> Rest {
     let mut p = pen;
     let mut from = 0;
     while from < block.len() {
-        let end = text::find(block, from, b'\n');
+        let end = digits::find(block, from, b'\n');
         if end == block.len() {
             return Rest { from: from, pen: p };
         }
@@ -144,7 +144,7 @@ fn finish(out: &mut [u8], pen: Pen) {
     let counts = pen.counts;
     let at = room(out, pen.at);
     if 1200 <= out.len() - at {
-        let n = at + replay::end(&mut out[at..], counts);
+        let n = at + log_replay::end(&mut out[at..], counts);
         io::write_all(1, &out[0..n]);
     }
 }
@@ -154,7 +154,7 @@ fn main() {
     let mut block = [0u8; 65536];
     let mut out = [0u8; 65536];
     io::write_all(1, b"time kind type from to prio id len payload\n");
-    replay::set_up(&mut state);
+    log_replay::set_up(&mut state);
     let pen = run(&mut state, &mut block, &mut out);
     finish(&mut out, pen);
 }

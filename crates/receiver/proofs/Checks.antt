@@ -8,13 +8,13 @@ use native.Mathlib.Omega.{arith}
 use borrow.Author.Tests.{leb-false, eqb-false, ltb-false, lt-ltb, le-ltb}
 use lib.Dec.{eqb, ltb}
 use lib.ListN.{length}
-use Rattle.model.specs.Answer.{refused}
-use Rattle.model.specs.Check.{Reception, check, parsed, largeId, badLength, unnamedService, badTailIn, forAnother, notSubscribed, frameCheck, orZero}
-use Rattle.model.specs.Frame.{Frame, isService, isAnonymous, priorityOf, streamIf, streamOf, tailOf, payloadOf, isStart, isEnd, toggleOf, transferOf}
-use Rattle.model.specs.Reception.{step, stepChecked, stepAnonymous}
-use Rattle.model.specs.Setup.{Setup, signatureFor}
-use Rattle.model.specs.Table.{Places}
-use Rattle.model.specs.Tests.{pick, bit}
+use Rattle.rules.specs.Answer.{refused}
+use Rattle.rules.specs.Check.{Reception, check, parsed, largeId, badLength, unnamedService, badTailIn, forAnother, notSubscribed, frameCheck, orZero}
+use Rattle.rules.specs.Frame.{Frame, isService, isAnonymous, priorityOf, streamIf, streamOf, tailOf, payloadOf, isStart, isEnd, toggleOf, transferOf}
+use Rattle.rules.specs.Reception.{step, stepChecked, stepAnonymous}
+use Rattle.rules.specs.Setup.{Setup, signatureFor}
+use Rattle.rules.specs.Table.{Places}
+use Rattle.rules.specs.Tests.{pick, bit}
 use Rattle.receiver.specs.Check.{shapeCheck, headOf}
 use Rattle.receiver.specs.Receive.{frameOf, arriving}
 use Rattle.session.specs.Session.{parsedOf}

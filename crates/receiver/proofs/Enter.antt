@@ -7,7 +7,7 @@ use native.Mathlib.Omega.{arith}
 use lib.ListN.{length}
 use lib.Seq.{length-take-le}
 use Rattle.bits.proofs.Splice.{length-span}
-use Rattle.model.specs.Session.{Session, restarted}
+use Rattle.rules.specs.Session.{Session, restarted}
 use Rattle.receiver.specs.Place.{entered}
 use Rattle.receiver.specs.declared.place.Way.{Way}
 use Rattle.receiver.specs.declared.place.Way.the-variants.{New, Again, On}

@@ -4,8 +4,8 @@ use mathlib.Core.Bool.{Bool, true, false, not}
 use Prim.Native.Nat.{ℕ, _/_, _%_, _<_}
 use native.Mathlib.Omega.{arith}
 use lib.Dec.{eqb}
-use Rattle.model.specs.Frame.{isService, isAnonymous, streamIf, streamOf}
-use Rattle.model.specs.Tests.{pick}
+use Rattle.rules.specs.Frame.{isService, isAnonymous, streamIf, streamOf}
+use Rattle.rules.specs.Tests.{pick}
 use Rattle.receiver.specs.Check.{serviceUnnamed, serviceFor}
 
 module _ (id : ℕ) (b : Bool) (e : isService id ≡ b) where

@@ -7,11 +7,11 @@ use native.Mathlib.Omega.{arith}
 use native.Mathlib.Nat.{zero-add}
 use lib.ListN.{length, set, length-take}
 use Rattle.bits.specs.Order.{Octets}
-use Rattle.model.specs.Answer as rules
-use Rattle.model.specs.Frame.{Stream}
-use Rattle.model.specs.Reception.{Step, store}
-use Rattle.model.specs.Session.{Session, Out}
-use Rattle.model.specs.Table.{held}
+use Rattle.rules.specs.Answer as rules
+use Rattle.rules.specs.Frame.{Stream}
+use Rattle.rules.specs.Reception.{Step, store}
+use Rattle.rules.specs.Session.{Session, Out}
+use Rattle.rules.specs.Table.{held}
 use Rattle.receiver.specs.Receive.{result, lent}
 use Rattle.session.specs.Answer.{told, outAfter}
 use Rattle.session.specs.Session.{sessionOf, InRange}

@@ -9,9 +9,9 @@ use borrow.Author.Tests.{lt-ltb, le-ltb, eqb-true, ltb-true, ltb-false}
 use lib.Dec.{ltb, eqb}
 use lib.ListN.{length}
 use Rattle.bits.specs.Order.{Octets}
-use Rattle.model.specs.Frame.{Stream}
-use Rattle.model.specs.Table.{Place, empty, held, plus1, seek, holds, isFree, isOld, placeFor}
-use Rattle.model.specs.Tests.{pick}
+use Rattle.rules.specs.Frame.{Stream}
+use Rattle.rules.specs.Table.{Place, empty, held, plus1, seek, holds, isFree, isOld, placeFor}
+use Rattle.rules.specs.Tests.{pick}
 use Rattle.bits.specs.Tabulate.{tabulate}
 use Rattle.state.specs.Layout.{size, keyAt, timeAt, sessionAt, placeAt, placesOf, streamOfKey}
 use Rattle.state.specs.Scan.{fitsAt, lowest}

@@ -3,7 +3,7 @@ use mathlib.Core.Path.{_≡_, refl}
 use mathlib.Core.Bool.{Bool, true, false}
 use Prim.Native.Nat.{ℕ}
 use lib.Dec.{eqb, ltb}
-use Rattle.model.specs.Check.{badTail}
+use Rattle.rules.specs.Check.{badTail}
 
 module _ (n : ℕ) where
   pub whole : (a t : Bool) → t ≡ badTail a true true t n

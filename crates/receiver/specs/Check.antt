@@ -4,8 +4,8 @@ use mathlib.Core.List.{[], _∷_}
 use mathlib.Core.Option.{Option}
 use Prim.Native.Nat.{ℕ}
 use lib.Dec.{eqb}
-use Rattle.model.specs.Check.{largeId, badLength, unnamedService, badTailIn, forAnother, first}
-use Rattle.model.specs.Frame.{Frame, isService, sourceOf, destinationOf, priorityOf, streamOf, isStart, isEnd, toggleOf, transferOf}
+use Rattle.rules.specs.Check.{largeId, badLength, unnamedService, badTailIn, forAnother, first}
+use Rattle.rules.specs.Frame.{Frame, isService, sourceOf, destinationOf, priorityOf, streamOf, isStart, isEnd, toggleOf, transferOf}
 use Rattle.session.specs.declared.Head.{Head}
 
 -- 2 to 6

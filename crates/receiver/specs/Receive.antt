@@ -4,9 +4,9 @@ use mathlib.Core.Bool.{Bool, true, false}
 use mathlib.Core.List.{List}
 use Prim.Native.Nat.{ℕ, _≤_, _<_}
 use lib.ListN.{length}
-use Rattle.model.specs.Check.{Reception}
-use Rattle.model.specs.Frame.{Frame}
-use Rattle.model.specs.Reception.{Step, step}
+use Rattle.rules.specs.Check.{Reception}
+use Rattle.rules.specs.Frame.{Frame}
+use Rattle.rules.specs.Reception.{Step, step}
 use Rattle.session.specs.Answer.{told, outAfter}
 use Rattle.session.specs.declared.Answer.{Answer}
 use Rattle.session.specs.declared.Answer.the-variants.{Faulty}

@@ -2,9 +2,9 @@
 use session::Head;
 ghost use mathlib.Core.Path.{_≡_};
 ghost use Prim.Native.Nat.{_<_};
-ghost use Rattle.model.specs.Check.{orZero, badTail};
-ghost use Rattle.model.specs.Frame.{isService, isAnonymous, streamOf, isStart, isEnd, toggleOf};
-ghost use Rattle.model.specs.Tests.{pick};
+ghost use Rattle.rules.specs.Check.{orZero, badTail};
+ghost use Rattle.rules.specs.Frame.{isService, isAnonymous, streamOf, isStart, isEnd, toggleOf};
+ghost use Rattle.rules.specs.Tests.{pick};
 ghost use Rattle.receiver.specs.Check.{shapeCheck, headOf, serviceUnnamed, serviceFor};
 ghost use Rattle.receiver.specs.Receive.{frameOf};
 

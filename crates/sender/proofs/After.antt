@@ -9,19 +9,19 @@ use borrow.Author.Tests.{le-leb}
 use lib.Dec.{leb}
 use lib.ListN.{length, set}
 use Rattle.bits.specs.Order.{Octets}
-use Rattle.map.specs.Layout.{size, keyOf, mapOf, withSlot, written}
-use Rattle.map.specs.Sound.{soundMap}
-use Rattle.map.proofs.Keys.{topic-key}
-use Rattle.map.proofs.Places.{Holdable, length-withSlot}
-use Rattle.map.proofs.Seek.{length-mapOf}
-use Rattle.map.proofs.Soundness.{long-enough}
-use Rattle.map.proofs.Written.{view-set}
-use Rattle.model.specs.Map as rules
-use Rattle.model.specs.Map.{Map, used}
-use Rattle.model.specs.Sending.{Call, topicOf, sendStep}
-use Rattle.model.specs.SendingLaws.{InRange}
-use Rattle.model.specs.Session.{next}
-use Rattle.model.proofs.Sends.{Leaves, alone, stored, leaves, map-lasts}
+use Rattle.id_map.specs.Layout.{size, keyOf, mapOf, withSlot, written}
+use Rattle.id_map.specs.Sound.{soundMap}
+use Rattle.id_map.proofs.Keys.{topic-key}
+use Rattle.id_map.proofs.Places.{Holdable, length-withSlot}
+use Rattle.id_map.proofs.Seek.{length-mapOf}
+use Rattle.id_map.proofs.Soundness.{long-enough}
+use Rattle.id_map.proofs.Written.{view-set}
+use Rattle.rules.specs.Map as rules
+use Rattle.rules.specs.Map.{Map, used}
+use Rattle.rules.specs.Sending.{Call, topicOf, sendStep}
+use Rattle.rules.specs.SendingLaws.{InRange}
+use Rattle.rules.specs.Session.{next}
+use Rattle.rules.proofs.Sends.{Leaves, alone, stored, leaves, map-lasts}
 use Rattle.sender.specs.Laws.{SendLaws}
 use Rattle.sender.specs.Send.{sendsIf, sends}
 use Rattle.sender.proofs.Lent.{kept, stored-is, key-in}

@@ -12,19 +12,19 @@ use lib.ListN.{length, getD, set}
 use Rattle.bits.specs.Order.{Octets}
 use Rattle.bits.specs.Part.{splice}
 use Rattle.bits.proofs.Tabulate.{tab-at}
-use Rattle.map.specs.Find.{placeOr32}
-use Rattle.map.specs.Layout.{mapOf, slotAt, written, withSlot}
-use Rattle.map.specs.Sound.{soundMap}
-use Rattle.map.proofs.Places.{octets-withSlot}
-use Rattle.map.proofs.Seek.{Below, slot-below, length-mapOf}
-use Rattle.map.proofs.Soundness.{long-enough, slot-fit, keys-odd}
-use Rattle.map.proofs.Written.{written-kept, written-set}
-use Rattle.model.specs.Map.{Topic, free, used, slotFor, drawn}
-use Rattle.model.specs.Sending as rules
-use Rattle.model.specs.Sending.{Call, topicOf, isResponse, misfits, frameCount, Outcome, misfit, long, small, full, anonymousId, idFor, recordsOf, refuse, transmit, sendAt, sendIn, sendAs, sendStep}
-use Rattle.model.specs.SendingLaws.{InRange}
-use Rattle.model.specs.Sent.{sent}
-use Rattle.model.proofs.Draws.{drawn-small}
+use Rattle.id_map.specs.Find.{placeOr32}
+use Rattle.id_map.specs.Layout.{mapOf, slotAt, written, withSlot}
+use Rattle.id_map.specs.Sound.{soundMap}
+use Rattle.id_map.proofs.Places.{octets-withSlot}
+use Rattle.id_map.proofs.Seek.{Below, slot-below, length-mapOf}
+use Rattle.id_map.proofs.Soundness.{long-enough, slot-fit, keys-odd}
+use Rattle.id_map.proofs.Written.{written-kept, written-set}
+use Rattle.rules.specs.Map.{Topic, free, used, slotFor, drawn}
+use Rattle.rules.specs.Sending as rules
+use Rattle.rules.specs.Sending.{Call, topicOf, isResponse, misfits, frameCount, Outcome, misfit, long, small, full, anonymousId, idFor, recordsOf, refuse, transmit, sendAt, sendIn, sendAs, sendStep}
+use Rattle.rules.specs.SendingLaws.{InRange}
+use Rattle.rules.specs.Sent.{sent}
+use Rattle.rules.proofs.Draws.{drawn-small}
 use Rattle.sender.specs.Send.{callOf, Result, result, lent, sendsIf, sends}
 use Rattle.sender.specs.declared.Outgoing.{Outgoing}
 use Rattle.sender.specs.declared.Sent.the-variants.{Done, OutputSmall, MapFull, TooLong, Misfit, Faulty}

@@ -6,7 +6,7 @@ use Prim.Native.Nat.{_≤_, _<_}
 use lib.Dec.{ltb}
 use lib.ListN.{length}
 use borrow.Author.Tests.{eq-eqb, ne-eqb, lt-ltb, le-ltb}
-use Rattle.model.specs.Sending.{Call, isAnonymous, isResponse, typeOver, astray, unfitUnnamed, misfits}
+use Rattle.rules.specs.Sending.{Call, isAnonymous, isResponse, typeOver, astray, unfitUnnamed, misfits}
 
 or-two : (a b r : Bool) → (a || b) ≡ true → true ≡ (a || (b || r))
 or-two true b r e = refl

@@ -17,11 +17,11 @@ use Rattle.bits.proofs.Little.{length-leBytes, leBytes-padded, le-lt}
 use Rattle.bits.proofs.Octets.{octets-append, octets-take}
 use Rattle.bits.proofs.Splice.{splice-splice}
 use Rattle.checksum.specs.Crc16.{checksum}
-use Rattle.model.specs.Sending.{frameCount, recordOf, recordsOf}
-use Rattle.model.specs.Sent.{flag, tailByte, framed, pieces, carrying, withSum, sent}
-use Rattle.model.specs.Tests.{pick, isEmpty}
-use Rattle.model.proofs.Frames.{framed-length, carried-long, sent-laws}
-use Rattle.model.proofs.Records.{length-record}
+use Rattle.rules.specs.Sending.{frameCount, recordOf, recordsOf}
+use Rattle.rules.specs.Sent.{flag, tailByte, framed, pieces, carrying, withSum, sent}
+use Rattle.rules.specs.Tests.{pick, isEmpty}
+use Rattle.rules.proofs.Frames.{framed-length, carried-long, sent-laws}
+use Rattle.rules.proofs.Records.{length-record}
 
 -- ── one record ──
 

@@ -5,9 +5,9 @@ use mathlib.Core.List.{List}
 use Prim.Native.Nat.{ℕ, _^_, _<_}
 use lib.ListN.{length}
 use Rattle.bits.specs.Order.{Octets}
-use Rattle.map.specs.Layout.{mapOf}
-use Rattle.map.specs.Sound.{soundMap}
-use Rattle.model.specs.Sending.{Call, sendStep}
+use Rattle.id_map.specs.Layout.{mapOf}
+use Rattle.id_map.specs.Sound.{soundMap}
+use Rattle.rules.specs.Sending.{Call, sendStep}
 use Rattle.sender.specs.Send.{sends}
 
 -- of a map m without a fault, whose elements are bytes, and a call at a time of 64 bits

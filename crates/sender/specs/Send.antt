@@ -4,10 +4,10 @@ use mathlib.Core.List.{List}
 use Prim.Native.Nat.{ℕ}
 use lib.ListN.{length}
 use Rattle.bits.specs.Part.{splice}
-use Rattle.map.specs.Layout.{mapOf, written}
-use Rattle.map.specs.Sound.{soundMap}
-use Rattle.model.specs.Sending as rules
-use Rattle.model.specs.Sending.{Call, Step, sendStep}
+use Rattle.id_map.specs.Layout.{mapOf, written}
+use Rattle.id_map.specs.Sound.{soundMap}
+use Rattle.rules.specs.Sending as rules
+use Rattle.rules.specs.Sending.{Call, Step, sendStep}
 use Rattle.sender.specs.declared.Outgoing.{Outgoing}
 use Rattle.sender.specs.declared.Sent.{Sent}
 use Rattle.sender.specs.declared.Sent.the-variants.{Done, OutputSmall, MapFull, TooLong, Misfit, Faulty}

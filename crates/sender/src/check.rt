@@ -3,7 +3,7 @@ use super::Outgoing;
 ghost use mathlib.Core.Path.{_≡_};
 ghost use mathlib.Core.Bool.{_&&_, _||_};
 ghost use lib.Dec.{ltb, eqb};
-ghost use Rattle.model.specs.Sending.{typeOver, astray, unfitUnnamed, misfits};
+ghost use Rattle.rules.specs.Sending.{typeOver, astray, unfitUnnamed, misfits};
 ghost use Rattle.sender.specs.Send.{callOf};
 
 // The type ID or the destination does not go with the transfer type.

@@ -8,10 +8,10 @@ ghost use lib.Dec.{leb};
 ghost use lib.ListN.{length, take, drop};
 ghost use Rattle.bits.specs.Little.{le, leBytes};
 ghost use Rattle.bits.specs.Part.{splice};
-ghost use Rattle.model.specs.Sending.{frameCount, idFor, recordOf, recordsOf};
-ghost use Rattle.model.specs.SendingLaws.{InRange};
-ghost use Rattle.model.specs.Sent.{framed, pieces, sent};
-ghost use Rattle.model.specs.Tests.{pick};
+ghost use Rattle.rules.specs.Sending.{frameCount, idFor, recordOf, recordsOf};
+ghost use Rattle.rules.specs.SendingLaws.{InRange};
+ghost use Rattle.rules.specs.Sent.{framed, pieces, sent};
+ghost use Rattle.rules.specs.Tests.{pick};
 ghost use Rattle.sender.specs.Send.{callOf};
 
 // How many frames n payload bytes make.

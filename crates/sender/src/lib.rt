@@ -7,11 +7,11 @@ ghost use mathlib.Core.Path.{_≡_};
 ghost use mathlib.Core.Bool.{true};
 ghost use Prim.Native.Nat.{_*_, _≤_};
 ghost use lib.ListN.{length};
-ghost use Rattle.map.specs.Layout.{mapOf};
-ghost use Rattle.map.specs.Sound.{soundMap};
-ghost use Rattle.model.specs.Map.{slotFor};
-ghost use Rattle.model.specs.Sending.{frameCount, topicOf, sendIn, sendStep};
-ghost use Rattle.model.specs.SendingLaws.{InRange};
+ghost use Rattle.id_map.specs.Layout.{mapOf};
+ghost use Rattle.id_map.specs.Sound.{soundMap};
+ghost use Rattle.rules.specs.Map.{slotFor};
+ghost use Rattle.rules.specs.Sending.{frameCount, topicOf, sendIn, sendStep};
+ghost use Rattle.rules.specs.SendingLaws.{InRange};
 ghost use Rattle.sender.specs.Send.{callOf, result, lent, sends};
 
 // What is to be sent, but for its payload. The transfer ID is for a response and the discriminator for an anonymous message; elsewhere they are ignored.
@@ -43,13 +43,13 @@ fn number(map: &mut [u8], c: Outgoing, payload: &[u8], out: &mut [u8]) -> Sent
     requires { ⌜ (c .kind ≡ 2 → ⊥) × ((length (now payload) ≤ 512) × (13 * frameCount (length (now payload)) ≤ length (now out))) ⌝ }
     ensures { λ r. ⌜ result r (now (map .exit)) (now (out .exit)) ≡ lent (now (map .entry)) (now (out .entry)) (sendIn (slotFor (topicOf (callOf c (now (payload .entry)))) (c .time) (mapOf (now (map .entry)))) (callOf c (now (payload .entry))) (mapOf (now (map .entry)))) ⌝ }
 {
-    let k = map::entry::key_of(c.kind, c.type_id, c.destination);
-    let i = map::find::place(map, k, c.time);
+    let k = id_map::entry::key_of(c.kind, c.type_id, c.destination);
+    let i = id_map::find::place(map, k, c.time);
     if 31 < i {
         return Sent::MapFull;
     }
-    let transfer = map::entry::drawn(map, i, k);
-    map::entry::store(map, i, k, (transfer + 1) % 32, c.time);
+    let transfer = id_map::entry::drawn(map, i, k);
+    id_map::entry::store(map, i, k, (transfer + 1) % 32, c.time);
     frame::write(out, frame::id(c), transfer, c.signature, payload);
     Sent::Done(frame::count(payload.len()))
 }
@@ -81,7 +81,7 @@ fn dispatch(map: &mut [u8], c: Outgoing, payload: &[u8], out: &mut [u8]) -> Sent
 pub fn send(map: &mut [u8], c: Outgoing, payload: &[u8], out: &mut [u8]) -> Sent
     ensures { λ r. ⌜ result r (now (map .exit)) (now (out .exit)) ≡ sends (now (map .entry)) (callOf c (now (payload .entry))) (now (out .entry)) ⌝ }
 {
-    if map::sound::is_sound(map) {
+    if id_map::sound::is_sound(map) {
         return dispatch(map, c, payload, out);
     }
     Sent::Faulty

@@ -9,8 +9,8 @@ use lib.ListN.{length, getD, take, drop}
 use lib.Seq.{paste, take-paste, take-length}
 use Rattle.bits.specs.Part.{span}
 use Rattle.checksum.specs.Crc16.{checksum}
-use Rattle.model.specs.Session.{sumOk}
-use Rattle.model.specs.Tests.{isEmpty}
+use Rattle.rules.specs.Session.{sumOk}
+use Rattle.rules.specs.Tests.{isEmpty}
 
 pub empty-length : (g : List ℕ) → isEmpty g ≡ eqb (length g) 0
 empty-length [] = refl

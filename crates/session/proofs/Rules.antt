@@ -8,11 +8,11 @@ use native.Mathlib.Omega.{arith}
 use borrow.Author.Tests.{eqb-true, lt-ltb, le-ltb, eq-eqb, ne-eqb}
 use lib.Dec.{ltb, eqb, lit≤}
 use lib.ListN.{length, take, drop, length-append}
-use Rattle.model.specs.Answer.{Reason, taken, handed, passed, long, differs, noTransfer}
-use Rattle.model.specs.Check.{Parsed}
-use Rattle.model.specs.Session as rules
-use Rattle.model.specs.Session.{distance, next, sumOk, over, overIf, closed, closing, takes, takeLong, takeEnd, sinceOf, proceed, proceedIf, react, reactIf, restarts, restarted, fresh}
-use Rattle.model.specs.Tests.{pick, sameBool, isEmpty}
+use Rattle.rules.specs.Answer.{Reason, taken, handed, passed, long, differs, noTransfer}
+use Rattle.rules.specs.Check.{Parsed}
+use Rattle.rules.specs.Session as rules
+use Rattle.rules.specs.Session.{distance, next, sumOk, over, overIf, closed, closing, takes, takeLong, takeEnd, sinceOf, proceed, proceedIf, react, reactIf, restarts, restarted, fresh}
+use Rattle.rules.specs.Tests.{pick, sameBool, isEmpty}
 use Rattle.session.specs.Answer.{told, outAfter, HandsOut, Closes}
 use Rattle.session.specs.Session.{sessionOf, InRange, parsedOf, added, restartsAt, awaitedAt}
 use Rattle.session.specs.declared.Answer.{Answer}

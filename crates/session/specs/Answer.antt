@@ -4,8 +4,8 @@ use mathlib.Core.List.{List, []}
 use Prim.Native.Nat.{ℕ}
 use lib.ListN.{length}
 use Rattle.bits.specs.Part.{splice}
-use Rattle.model.specs.Answer as rules
-use Rattle.model.specs.Session.{closing, sumOk}
+use Rattle.rules.specs.Answer as rules
+use Rattle.rules.specs.Session.{closing, sumOk}
 use Rattle.session.specs.Session.{streamOf, parsedOf}
 use Rattle.session.specs.declared.Answer.{Answer}
 use Rattle.session.specs.declared.Answer.the-variants.{Taken, Handed, Refused, Full, Passed, TooLong, BadChecksum, Faulty}

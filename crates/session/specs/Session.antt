@@ -1,13 +1,13 @@
--- The code's session and frame head, as the rules of `model` see them.
+-- The code's session and frame head, as the rules of `rules` see them.
 use mathlib.Core.List.{List, _++_}
 use mathlib.Core.Bool.{Bool, false, not, _&&_, _||_}
 use Prim.Native.Nat.{ℕ, _-_, _≤_, _<_}
 use lib.Dec.{ltb, eqb}
 use lib.ListN.{length, take, replicate}
-use Rattle.model.specs.Check.{Parsed}
-use Rattle.model.specs.Frame.{Stream}
-use Rattle.model.specs.Session as rules
-use Rattle.model.specs.Tests.{pick, sameBool}
+use Rattle.rules.specs.Check.{Parsed}
+use Rattle.rules.specs.Frame.{Stream}
+use Rattle.rules.specs.Session as rules
+use Rattle.rules.specs.Tests.{pick, sameBool}
 use Rattle.session.specs.declared.Head.{Head}
 use Rattle.session.specs.declared.Progress.{Progress}
 use Rattle.session.specs.declared.Session.{Session}

@@ -5,8 +5,8 @@ ghost use Prim.Native.Nat.{_+_, _-_, _≤_, _<_};
 ghost use lib.Dec.{ltb};
 ghost use lib.ListN.{length, take};
 ghost use Rattle.bits.specs.Part.{span};
-ghost use Rattle.model.specs.Session.{next, sumOk};
-ghost use Rattle.model.specs.Tests.{pick};
+ghost use Rattle.rules.specs.Session.{next, sumOk};
+ghost use Rattle.rules.specs.Tests.{pick};
 ghost use Rattle.session.specs.Session.{sessionOf, freshOf, added, restartsAt, awaitedAt};
 ghost use Rattle.session.specs.Answer.{HandsOut, Closes};
 

@@ -6,7 +6,7 @@ use Prim.Native.Nat.{ℕ, _/_, _%_, _≤_, _<_}
 use borrow.Author.Tests.{lt-ltb, le-ltb}
 use lib.Dec.{ltb, leb, eqb}
 use lib.ListN.{length, drop}
-use Rattle.model.specs.Setup.{allFit, acceptable}
+use Rattle.rules.specs.Setup.{allFit, acceptable}
 use Rattle.setup.specs.Setup.{recordAt, given, accepted, stateOf, result, setUp}
 use Rattle.setup.specs.declared.Outcome.the-variants.{Done, Unacceptable, Short}
 use Rattle.bits.proofs.Tabulate.{length-tabulate}

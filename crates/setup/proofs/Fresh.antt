@@ -14,10 +14,10 @@ use Rattle.bits.proofs.Splice.{length-span, span-middle}
 use Rattle.bits.specs.Little.{le, leBytes}
 use Rattle.bits.specs.Order.{Octets}
 use Rattle.bits.specs.Part.{span}
-use Rattle.model.specs.Setup.{Subscription, Setup, typeFits, unlike, allFit, acceptable}
-use Rattle.model.specs.Sound.{sound}
-use Rattle.model.specs.Table.{empty, begun}
-use Rattle.model.specs.Tests.{pick}
+use Rattle.rules.specs.Setup.{Subscription, Setup, typeFits, unlike, allFit, acceptable}
+use Rattle.rules.specs.Sound.{sound}
+use Rattle.rules.specs.Table.{empty, begun}
+use Rattle.rules.specs.Tests.{pick}
 use Rattle.setup.proofs.Laid.{zeros, laid, head, toKeys, toPlaces, at-signatures, at-keys, at-places, length-toKeys, length-signatures, length-keys, signatures-append, keys-append, laidOut, laid-last, given-laid, places-at, length-laid}
 use Rattle.setup.specs.Laws.{Fresh}
 use Rattle.setup.specs.Setup.{recordAt, given, accepted, signatures, keys, filled, stateOf}

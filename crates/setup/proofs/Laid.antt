@@ -10,7 +10,7 @@ use Rattle.bits.proofs.Little.{length-leBytes}
 use Rattle.bits.proofs.Splice.{splice-middle}
 use Rattle.bits.specs.Little.{leBytes}
 use Rattle.bits.specs.Part.{splice}
-use Rattle.model.specs.Setup.{Subscription, Setup}
+use Rattle.rules.specs.Setup.{Subscription, Setup}
 use Rattle.setup.specs.Setup.{recordAt, given, signatures, keys, filled, stateOf}
 use Rattle.setup.specs.Subscription.{withSubscription}
 use Rattle.bits.proofs.Tabulate.{tab-append, length-tabulate}

@@ -11,7 +11,7 @@ use lib.ListN.{length, getD}
 use lib.Seq.{drop-cons}
 use Rattle.bits.specs.Little.{le}
 use Rattle.bits.specs.Part.{span}
-use Rattle.model.specs.Setup.{Subscription, typeFits, alike, unlike, allFit}
+use Rattle.rules.specs.Setup.{Subscription, typeFits, alike, unlike, allFit}
 use Rattle.setup.specs.Setup.{recordAt}
 use Rattle.setup.specs.Subscription.{Keyed}
 use Rattle.bits.proofs.Tabulate.{tab-step}

@@ -5,8 +5,8 @@ use mathlib.Core.List.{List, _++_}
 use Prim.Native.Nat.{ℕ}
 use lib.ListN.{length}
 use Rattle.bits.specs.Order.{Octets}
-use Rattle.model.specs.Setup.{Setup, acceptable}
-use Rattle.model.specs.Table.{begun}
+use Rattle.rules.specs.Setup.{Setup, acceptable}
+use Rattle.rules.specs.Table.{begun}
 use Rattle.setup.specs.Setup.{given, accepted, stateOf}
 use Rattle.state.specs.Layout.{size, setupOf, placesOf}
 use Rattle.state.specs.Sound.{soundState}

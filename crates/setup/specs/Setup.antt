@@ -7,8 +7,8 @@ use lib.Dec.{ltb, eqb}
 use lib.ListN.{length, getD, drop, replicate}
 use Rattle.bits.specs.Little.{le, leBytes}
 use Rattle.bits.specs.Part.{span}
-use Rattle.model.specs.Setup.{Subscription, Setup, acceptable}
-use Rattle.model.specs.Tests.{pick}
+use Rattle.rules.specs.Setup.{Subscription, Setup, acceptable}
+use Rattle.rules.specs.Tests.{pick}
 use Rattle.setup.specs.declared.Outcome.{Outcome}
 use Rattle.setup.specs.declared.Outcome.the-variants.{Done, Unacceptable, Short}
 use Rattle.bits.specs.Tabulate.{tabulate}

@@ -4,7 +4,7 @@ use mathlib.Core.List.{List}
 use Prim.Native.Nat.{ℕ, _+_, _*_, _/_, _%_}
 use Rattle.bits.specs.Little.{leBytes}
 use Rattle.bits.specs.Part.{splice}
-use Rattle.model.specs.Setup.{Subscription}
+use Rattle.rules.specs.Setup.{Subscription}
 
 -- the kind is one byte, the type stands above it
 pub record Keyed (a : Subscription) (k : ℕ) : Type 0 where

@@ -5,7 +5,7 @@ ghost use mathlib.Core.Path.{_≡_};
 ghost use mathlib.Core.List.{_++_};
 ghost use Prim.Native.Nat.{_+_, _*_, _-_, _/_, _≤_, _<_};
 ghost use lib.ListN.{length, drop, replicate};
-ghost use Rattle.model.specs.Setup.{typeFits, unlike, allFit};
+ghost use Rattle.rules.specs.Setup.{typeFits, unlike, allFit};
 ghost use Rattle.setup.specs.Setup.{recordAt, given, stateOf, setUp, result};
 ghost use Rattle.setup.specs.Subscription.{Keyed, withSubscription};
 ghost use Rattle.bits.specs.Tabulate.{tabulate};

@@ -7,9 +7,9 @@ use native.Mathlib.Omega.{arith}
 use borrow.Author.Tests.{leb-true, ltb-true, ne-eqb}
 use lib.Dec.{eqb, ltb, leb}
 use lib.ListN.{length}
-use Rattle.model.specs.Setup.{acceptable}
-use Rattle.model.specs.Sound.{streamFits, sessionFits, placeFits, placesFit, apart, sound}
-use Rattle.model.specs.Table.{held}
+use Rattle.rules.specs.Setup.{acceptable}
+use Rattle.rules.specs.Sound.{streamFits, sessionFits, placeFits, placesFit, apart, sound}
+use Rattle.rules.specs.Table.{held}
 use Rattle.state.specs.Layout.{size, setupOf, keyAt, countAt, expectedAt, toggleAt, sessionAt, placeAt, placesOf, streamOfKey}
 use Rattle.state.specs.Sound.{every, rawFits, soundState}
 use Rattle.state.proofs.Bools.{and-left, and-right}

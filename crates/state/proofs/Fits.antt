@@ -6,7 +6,7 @@ use Prim.Native.Nat.{ℕ, _/_, _%_, _≤_, _<_}
 use native.Mathlib.Omega.{arith}
 use borrow.Author.Tests.{lt-ltb, le-ltb, le-leb, lt-leb, eq-eqb, ne-eqb}
 use lib.Dec.{ltb, leb, eqb}
-use Rattle.model.specs.Sound.{streamFits}
+use Rattle.rules.specs.Sound.{streamFits}
 use Rattle.state.specs.Layout.{countAt, expectedAt, toggleAt, streamOfKey}
 use Rattle.state.specs.Sound.{controlFits}
 

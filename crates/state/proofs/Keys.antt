@@ -5,7 +5,7 @@ use Prim.Native.Nat.{ℕ, _+_, _*_, _-_, _/_, _%_, _<_}
 use native.Mathlib.Omega.{arith}
 use borrow.Author.Tests.{eqb-true, eqb-false, eq-eqb}
 use lib.Dec.{eqb}
-use Rattle.model.specs.Frame.{Stream, sameStream}
+use Rattle.rules.specs.Frame.{Stream, sameStream}
 use Rattle.state.specs.Layout.{keyOf, streamOfKey}
 
 pub key-stream : (k : ℕ) → k < 4294967296 → keyOf (streamOfKey k) ≡ k

@@ -14,10 +14,10 @@ use Rattle.bits.specs.Part.{span, splice}
 use Rattle.bits.proofs.Little.{length-leBytes, le-leBytes, leBytes-le, le-one}
 use Rattle.bits.proofs.Octets.{octets-span}
 use Rattle.bits.proofs.Splice.{length-span, span-same, splice-same}
-use Rattle.model.specs.Frame.{Stream}
-use Rattle.model.specs.Session.{Session}
-use Rattle.model.specs.Table.{Place, empty, held}
-use Rattle.model.specs.Tests.{pick}
+use Rattle.rules.specs.Frame.{Stream}
+use Rattle.rules.specs.Session.{Session}
+use Rattle.rules.specs.Table.{Place, empty, held}
+use Rattle.rules.specs.Tests.{pick}
 use Rattle.state.specs.Layout.{size, keyAt, countAt, expectedAt, toggleAt, timeAt, gatheredAt, sessionAt, placeAt, keyOf, streamOfKey}
 use Rattle.state.specs.Place.{one, controlOf, withKey, withSession, withPlace}
 use Rattle.state.specs.Sound.{rawFits}

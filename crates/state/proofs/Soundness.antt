@@ -13,9 +13,9 @@ use Rattle.bits.specs.Part.{span}
 use Rattle.bits.proofs.Little.{le-lt}
 use Rattle.bits.proofs.Octets.{octets-span}
 use Rattle.bits.proofs.Splice.{length-span}
-use Rattle.model.specs.Sound.{streamFits, sessionFits, placeFits, placesFit, noneHolds, notAgain, apart, sound}
-use Rattle.model.specs.Table.{Place, empty, held, holds}
-use Rattle.model.specs.Tests.{pick, isEmpty}
+use Rattle.rules.specs.Sound.{streamFits, sessionFits, placeFits, placesFit, noneHolds, notAgain, apart, sound}
+use Rattle.rules.specs.Table.{Place, empty, held, holds}
+use Rattle.rules.specs.Tests.{pick, isEmpty}
 use Rattle.bits.specs.Tabulate.{tabulate}
 use Rattle.state.specs.Layout.{size, keyAt, countAt, expectedAt, toggleAt, gatheredAt, sessionAt, placeAt, placesOf, streamOfKey}
 use mir.Val.{boolByte}

@@ -12,8 +12,8 @@ use Rattle.bits.specs.Little.{leBytes}
 use Rattle.bits.specs.Part.{span, splice}
 use Rattle.bits.proofs.Little.{length-leBytes, le-one}
 use Rattle.bits.proofs.Splice.{length-splice, splice-splice, splice-all, length-span}
-use Rattle.model.specs.Session as rules
-use Rattle.model.specs.Table.{held}
+use Rattle.rules.specs.Session as rules
+use Rattle.rules.specs.Table.{held}
 use Rattle.session.specs.Session.{sessionOf, progressOf, whole}
 use Rattle.session.specs.declared.Progress.{Progress}
 use Rattle.session.specs.declared.Session.{Session}

@@ -6,7 +6,7 @@ use Prim.Native.Nat.{ℕ, zero, suc, _+_, _*_, _-_, _/_, _%_, _≤_, _<_}
 use native.Mathlib.Omega.{arith}
 use borrow.Author.Tests.{eqb-true, eqb-false, eq-eqb, ne-eqb, ltb-true, ltb-false, lt-ltb, le-ltb}
 use lib.Dec.{eqb, ltb}
-use Rattle.model.specs.Setup.{Subscription, typeFits, alike, unlike, allFit, subscribed}
+use Rattle.rules.specs.Setup.{Subscription, typeFits, alike, unlike, allFit, subscribed}
 use Rattle.bits.specs.Little.{le}
 use Rattle.bits.specs.Part.{span}
 use Rattle.bits.specs.Tabulate.{tabulate}

@@ -9,9 +9,9 @@ use Rattle.bits.specs.Little.{leBytes}
 use Rattle.bits.specs.Order.{Octets}
 use Rattle.bits.specs.Part.{splice}
 use Rattle.bits.proofs.Octets.{octets-append, octets-splice, octets-leBytes}
-use Rattle.model.specs.Session.{Session}
-use Rattle.model.specs.Frame.{Stream}
-use Rattle.model.specs.Table.{Place, empty, held, Places}
+use Rattle.rules.specs.Session.{Session}
+use Rattle.rules.specs.Frame.{Stream}
+use Rattle.rules.specs.Table.{Place, empty, held, Places}
 use Rattle.bits.specs.Tabulate.{tabulate}
 use Rattle.state.specs.Layout.{size, placeAt, placesOf, keyOf}
 use Rattle.state.specs.Place.{one, controlOf, withKey, withSession, withPlace, written}

@@ -14,7 +14,7 @@ use Rattle.bits.proofs.Splice.{length-splice, span-same, span-apart, span-insid
 use Rattle.state.specs.Layout.{size}
 use Rattle.state.specs.Layout.{countAt, expectedAt, toggleAt, timeAt, gatheredAt, sessionAt}
 use Rattle.state.specs.Place.{one, controlOf, withKey, withSession}
-use Rattle.model.specs.Session.{Session}
+use Rattle.rules.specs.Session.{Session}
 
 length-control : (s : Session) → length (controlOf s) ≡ 4
 unfolding controlOf

@@ -12,8 +12,8 @@ use Rattle.bits.specs.Little.{le}
 use Rattle.bits.specs.Order.{Octets}
 use Rattle.bits.specs.Part.{span}
 use Rattle.bits.proofs.Little.{le-one}
-use Rattle.model.specs.Setup.{allFit, acceptable}
-use Rattle.model.specs.Table.{Place, empty, held, Places}
+use Rattle.rules.specs.Setup.{allFit, acceptable}
+use Rattle.rules.specs.Table.{Place, empty, held, Places}
 use Rattle.bits.specs.Tabulate.{tabulate}
 use Rattle.state.specs.Layout.{size, subscriptionKeyAt, subscriptionAt, setupOf, placeAt, placesOf}
 use Rattle.state.specs.Place.{withPlace, written}

@@ -6,11 +6,11 @@ use lib.ListN.{getD}
 use Rattle.bits.specs.Little.{le}
 use Rattle.bits.specs.Part.{span}
 use Rattle.bits.specs.Tabulate.{tabulate}
-use Rattle.model.specs.Frame.{Stream}
-use Rattle.model.specs.Session.{Session}
-use Rattle.model.specs.Setup.{Subscription, Setup}
-use Rattle.model.specs.Table.{Place, empty, held, Places}
-use Rattle.model.specs.Tests.{pick}
+use Rattle.rules.specs.Frame.{Stream}
+use Rattle.rules.specs.Session.{Session}
+use Rattle.rules.specs.Setup.{Subscription, Setup}
+use Rattle.rules.specs.Table.{Place, empty, held, Places}
+use Rattle.rules.specs.Tests.{pick}
 
 -- the bytes of the whole layout
 abbrev pub size : ℕ

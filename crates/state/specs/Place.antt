@@ -5,8 +5,8 @@ use Prim.Native.Nat.{ℕ, suc, _+_, _*_}
 use lib.ListN.{length}
 use Rattle.bits.specs.Little.{leBytes}
 use Rattle.bits.specs.Part.{splice}
-use Rattle.model.specs.Session.{Session}
-use Rattle.model.specs.Table.{Place, empty, held, Places}
+use Rattle.rules.specs.Session.{Session}
+use Rattle.rules.specs.Table.{Place, empty, held, Places}
 use Rattle.state.specs.Layout.{keyOf}
 
 abbrev pub one : Bool → ℕ

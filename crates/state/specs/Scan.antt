@@ -3,7 +3,7 @@ use mathlib.Core.Bool.{Bool, not, _&&_}
 use mathlib.Core.List.{List}
 use Prim.Native.Nat.{ℕ, zero, suc, _-_}
 use lib.Dec.{ltb, eqb}
-use Rattle.model.specs.Tests.{pick}
+use Rattle.rules.specs.Tests.{pick}
 use Rattle.state.specs.Layout.{keyAt, timeAt}
 use Rattle.state.specs.declared.scan.Want.{Want}
 use Rattle.state.specs.declared.scan.Want.the-variants.{Key, Old}

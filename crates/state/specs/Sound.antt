@@ -4,8 +4,8 @@ use mathlib.Core.List.{List}
 use Prim.Native.Nat.{ℕ, zero, suc, _*_, _/_, _%_}
 use lib.Dec.{ltb, leb, eqb}
 use lib.ListN.{length}
-use Rattle.model.specs.Sound.{streamFits, sound}
-use Rattle.model.specs.Setup.{acceptable}
+use Rattle.rules.specs.Sound.{streamFits, sound}
+use Rattle.rules.specs.Setup.{acceptable}
 use Rattle.bits.specs.Keys.{alone}
 use Rattle.bits.specs.Tabulate.{tabulate}
 use Rattle.state.specs.Layout.{size, setupOf, keyAt, countAt, expectedAt, toggleAt, streamOfKey, placesOf}

@@ -5,7 +5,7 @@ use mathlib.Core.Option.{Option, none, some}
 use Prim.Native.Nat.{ℕ, _-_, _/_, _%_}
 use lib.Dec.{ltb}
 use Rattle.bits.specs.Tabulate.{tabulate}
-use Rattle.model.specs.Setup.{Subscription, unlike}
+use Rattle.rules.specs.Setup.{Subscription, unlike}
 use Rattle.state.specs.Layout.{subscriptionAt}
 use Rattle.state.specs.declared.subscription.Subscribed.{Subscribed}
 use Rattle.state.specs.declared.subscription.Subscribed.the-variants.{Under, Not}

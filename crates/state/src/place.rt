@@ -4,7 +4,7 @@ use session::Session;
 ghost use mathlib.Core.Path.{_≡_};
 ghost use Prim.Native.Nat.{_≤_, _<_};
 ghost use lib.ListN.{length};
-ghost use Rattle.model.specs.Table.{held};
+ghost use Rattle.rules.specs.Table.{held};
 ghost use Rattle.session.specs.Session.{sessionOf, progressOf, whole};
 ghost use Rattle.state.specs.Layout.{size, keyAt, timeAt, countAt, sessionAt, streamOfKey};
 ghost use Rattle.state.specs.Place.{withPlace};

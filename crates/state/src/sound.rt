@@ -4,7 +4,7 @@ ghost use mathlib.Core.Bool.{false};
 ghost use mathlib.Core.Path.{_≡_};
 ghost use Prim.Native.Nat.{_≤_, _<_};
 ghost use lib.ListN.{length};
-ghost use Rattle.model.specs.Sound.{streamFits};
+ghost use Rattle.rules.specs.Sound.{streamFits};
 ghost use Rattle.state.specs.Layout.{size, streamOfKey};
 ghost use Rattle.state.specs.Sound.{every, controlFits, keysOf, placeSound, markAt, soundState};
 

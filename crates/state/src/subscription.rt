@@ -2,7 +2,7 @@
 ghost use mathlib.Core.Path.{_≡_};
 ghost use Prim.Native.Nat.{_-_, _≤_, _<_};
 ghost use lib.ListN.{length};
-ghost use Rattle.model.specs.Setup.{allFit, subscribed, unlike};
+ghost use Rattle.rules.specs.Setup.{allFit, subscribed, unlike};
 ghost use Rattle.bits.specs.Tabulate.{tabulate};
 ghost use Rattle.state.specs.Layout.{size, subscriptionKeyAt, subscriptionAt, setupOf};
 ghost use Rattle.state.specs.Subscription.{asked, ofKey, keyFits, markAt};

@@ -1,6 +1,6 @@
 // The transport in one place: the public calls of its crates, and their types. It decides nothing and adds nothing.
-pub use map::set_up as map_setup;
-pub use map::size as map_size;
+pub use id_map::set_up as map_setup;
+pub use id_map::size as map_size;
 pub use receiver::receive;
 pub use sender::Outgoing;
 pub use sender::Sent;

@@ -2,8 +2,8 @@
 use mathlib.Core.List.{List, [], _∷_, _++_}
 use Prim.Native.Nat.{ℕ}
 use Rattle.bits.specs.Little.{leBytes}
-use Rattle.model.specs.Check.{orZero}
-use Rattle.model.specs.Setup.{Subscription, subscribed}
+use Rattle.rules.specs.Check.{orZero}
+use Rattle.rules.specs.Setup.{Subscription, subscribed}
 
 abbrev pub standard : List Subscription
 standard =

@@ -1,5 +1,5 @@
 -- `line` meets its contract.
-use Rattle.replay.specs.Replay.{lenOf}
+use Rattle.log_replay.specs.Replay.{lenOf}
 use lib.ListN.{length-take, length-drop}
 use native.Mathlib.Omega.{arith}
 use mathlib.Core.Path.{ap}

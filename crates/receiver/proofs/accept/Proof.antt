@@ -9,11 +9,11 @@ use lib.ListN.{length, take}
 use lib.Seq.{length-take-le}
 use Rattle.bits.proofs.Octets.{octets-all}
 use Rattle.bits.specs.Part.{span, splice}
-use Rattle.model.specs.Answer as rules
-use Rattle.model.specs.Check.{Parsed, parsed}
-use Rattle.model.specs.Frame.{isAnonymous, tailOf, payloadOf}
-use Rattle.model.specs.Reception.{stepAnonymous, stepSeek}
-use Rattle.model.specs.Table.{seek, holds}
+use Rattle.rules.specs.Answer as rules
+use Rattle.rules.specs.Check.{Parsed, parsed}
+use Rattle.rules.specs.Frame.{isAnonymous, tailOf, payloadOf}
+use Rattle.rules.specs.Reception.{stepAnonymous, stepSeek}
+use Rattle.rules.specs.Table.{seek, holds}
 use Rattle.receiver.specs.Check.{headOf}
 use Rattle.receiver.specs.Receive.{frameOf, lent, Called}
 use Rattle.session.specs.Answer.{told}

@@ -7,13 +7,13 @@ use Prim.Native.Nat.{ℕ, _<_}
 use native.Mathlib.Omega.{arith}
 use Rattle.bits.specs.Order.{Octets}
 use Rattle.bits.proofs.Octets.{octets-all}
-use Rattle.model.specs.Answer.{refused}
-use Rattle.model.specs.Check.{check}
-use Rattle.model.specs.Frame.{isService}
-use Rattle.model.specs.Frame as rules
-use Rattle.model.specs.Reception.{step}
-use Rattle.model.specs.Setup.{subscribed, signatureFor}
-use Rattle.model.specs.Tests.{pick}
+use Rattle.rules.specs.Answer.{refused}
+use Rattle.rules.specs.Check.{check}
+use Rattle.rules.specs.Frame.{isService}
+use Rattle.rules.specs.Frame as rules
+use Rattle.rules.specs.Reception.{step}
+use Rattle.rules.specs.Setup.{subscribed, signatureFor}
+use Rattle.rules.specs.Tests.{pick}
 use Rattle.receiver.specs.Receive.{result, frameOf, arriving, lent}
 use Rattle.session.specs.declared.Answer.the-variants.{Refused}
 use Rattle.state.specs.Layout.{setupOf, placesOf}

@@ -8,10 +8,10 @@ use lib.ListN.{length}
 use Rattle.bits.specs.Order.{Octets}
 use Rattle.bits.specs.Part.{splice}
 use Rattle.bits.proofs.Octets.{octets-all}
-use Rattle.model.specs.Sending.{Call, misfits, frameCount, recordsOf}
-use Rattle.model.specs.SendingLaws.{InRange}
-use Rattle.model.specs.Sent.{sent}
-use Rattle.model.proofs.Calls.{in-range}
+use Rattle.rules.specs.Sending.{Call, misfits, frameCount, recordsOf}
+use Rattle.rules.specs.SendingLaws.{InRange}
+use Rattle.rules.specs.Sent.{sent}
+use Rattle.rules.proofs.Calls.{in-range}
 use Rattle.sender.specs.Send.{callOf, result}
 use Rattle.sender.proofs.Pieces.{count-most}
 use Rattle.sender.proofs.Lent.{misfitting, too-long, too-small, responded, numbered, without-payload, same-id}

@@ -7,14 +7,14 @@ use lib.ListN.{length}
 use Rattle.bits.specs.Order.{Octets}
 use Rattle.bits.specs.Part.{splice}
 use Rattle.bits.proofs.Octets.{octets-all}
-use Rattle.map.specs.Find.{placeOr32}
-use Rattle.map.specs.Layout.{size, mapOf, slotAt, withSlot}
-use Rattle.map.proofs.Soundness.{long-enough}
-use Rattle.model.specs.Map as rules
-use Rattle.model.specs.Map.{slotFor, used}
-use Rattle.model.specs.Sending.{Call, topicOf, recordsOf}
-use Rattle.model.specs.Sent.{sent}
-use Rattle.model.specs.Session.{next}
+use Rattle.id_map.specs.Find.{placeOr32}
+use Rattle.id_map.specs.Layout.{size, mapOf, slotAt, withSlot}
+use Rattle.id_map.proofs.Soundness.{long-enough}
+use Rattle.rules.specs.Map as rules
+use Rattle.rules.specs.Map.{slotFor, used}
+use Rattle.rules.specs.Sending.{Call, topicOf, recordsOf}
+use Rattle.rules.specs.Sent.{sent}
+use Rattle.rules.specs.Session.{next}
 use Rattle.sender.specs.Send.{callOf}
 use Rattle.sender.proofs.Lent.{drawn-lt, no-place, stored, without-payload, same-id, key-in}
 use borrow.Author.Needs.{needs}

@@ -4,7 +4,7 @@ use mathlib.Core.Bool.{true, false}
 use Prim.Native.Nat.{ℕ, _-_}
 use native.Mathlib.Nat.{sub-zero}
 use native.Mathlib.Omega.{arith}
-use Rattle.model.specs.Setup.{allFit}
+use Rattle.rules.specs.Setup.{allFit}
 use Rattle.setup.specs.Setup.{recordAt}
 use Rattle.setup.proofs.Records.{fit-turn}
 use Rattle.bits.proofs.Tabulate.{tab-end}

@@ -4,7 +4,7 @@ use mathlib.Core.Bool.{true, false}
 use Prim.Native.Nat.{_+_, _-_}
 use native.Mathlib.Omega.{arith}
 use borrow.Author.Tests.{eq-eqb, ne-eqb}
-use Rattle.model.specs.Setup.{unlike}
+use Rattle.rules.specs.Setup.{unlike}
 use Rattle.setup.specs.Setup.{recordAt}
 use Rattle.setup.proofs.Records.{unlike-turn}
 use Rattle.bits.proofs.Tabulate.{tab-end}

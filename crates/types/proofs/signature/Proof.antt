@@ -1,6 +1,6 @@
 -- `signature` meets its contract.
 use Rattle.types.specs.Types.{signatureOf}
-use Rattle.model.specs.Setup.{subscribed}
+use Rattle.rules.specs.Setup.{subscribed}
 use borrow.Author.Tests.{ne-eqb}
 use Prim.Native.Nat.{ℕ}
 use mathlib.Core.Path.{_≡_, sym, ap, ap₂, _∙_}

@@ -5,7 +5,7 @@ use Prim.Native.Nat.{ℕ, _*_}
 use lib.ListN.{replicate}
 use Rattle.bits.specs.Little.{leBytes}
 use Rattle.bits.specs.Part.{splice}
-use Rattle.model.specs.Setup.{subscribed}
+use Rattle.rules.specs.Setup.{subscribed}
 use Rattle.types.specs.Types.{signatureOf, record13, records, standard}
 use borrow.Author.Needs.{needs}
 use Rattle.types.proofs.subscriptions.Statement.{statement}

@@ -3,7 +3,7 @@
 use crate::entry_points::{Arrival, Departure, EntryPoints, Reception, Sending};
 use crate::lent::Lent;
 
-#[link(name = "gateway", kind = "static")]
+#[link(name = "tecelume", kind = "static")]
 extern "C" {
     fn tecelume_receiver_size() -> u64;
     fn tecelume_setup(

@@ -1,7 +1,7 @@
 -- `check::destination` meets its contract.
 use mathlib.Core.Path.{sym, ap, _∙_}
 use mathlib.Core.Bool.{true, false}
-use Rattle.model.specs.Frame.{Stream}
+use Rattle.rules.specs.Frame.{Stream}
 use Rattle.receiver.proofs.Heads.{stream-is}
 use borrow.Author.Needs.{needs}
 use Rattle.receiver.proofs.check.destination.Statement.{statement}

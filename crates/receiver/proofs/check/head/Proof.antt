@@ -4,7 +4,7 @@ use mathlib.Core.Bool.{Bool}
 use Prim.Native.Nat.{ℕ, _/_, _%_}
 use native.Mathlib.Nat.{mod-eq-of-lt}
 use native.Mathlib.Omega.{arith}
-use Rattle.model.specs.Frame.{priorityOf}
+use Rattle.rules.specs.Frame.{priorityOf}
 use Rattle.receiver.specs.Check.{headOf}
 use Rattle.session.specs.declared.Head.{Head}
 use Rattle.receiver.proofs.Heads.{source-is, type-lt}

@@ -3,8 +3,8 @@ use mathlib.Core.Path.{_≡_, refl, _∙_}
 use mathlib.Core.Bool.{Bool}
 use Prim.Native.Nat.{ℕ, _/_, _%_}
 use borrow.Author.Tests.{eq-eqb, ne-eqb, lt-ltb, le-ltb}
-use Rattle.model.specs.Check.{badTail}
-use Rattle.model.specs.Frame.{isStart, isEnd, toggleOf}
+use Rattle.rules.specs.Check.{badTail}
+use Rattle.rules.specs.Frame.{isStart, isEnd, toggleOf}
 use Rattle.receiver.proofs.Tails.{whole, end-anonymous, end-only, open-anonymous, short, full-start, full-other}
 use Rattle.receiver.proofs.check.is_bad_tail.Statement.{statement}
 use Rattle.receiver.proofs.check.is_bad_tail.Tie as tie

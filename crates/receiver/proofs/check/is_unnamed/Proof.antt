@@ -4,7 +4,7 @@ use mathlib.Core.Bool.{Bool, true, false}
 use Prim.Native.Nat.{_/_, _%_}
 use borrow.Author.Tests.{eq-eqb, ne-eqb}
 use lib.Dec.{eqb}
-use Rattle.model.specs.Tests.{pick}
+use Rattle.rules.specs.Tests.{pick}
 use Rattle.receiver.proofs.Heads.{unnamed-is}
 use borrow.Author.Needs.{needs}
 use Rattle.receiver.proofs.check.is_unnamed.Statement.{statement}

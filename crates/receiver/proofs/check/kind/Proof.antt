@@ -1,7 +1,7 @@
 -- `check::kind` meets its contract.
 use mathlib.Core.Path.{sym, ap, _∙_}
 use mathlib.Core.Bool.{Bool}
-use Rattle.model.specs.Tests.{pick}
+use Rattle.rules.specs.Tests.{pick}
 use borrow.Author.Needs.{needs}
 use Rattle.receiver.proofs.check.kind.Statement.{statement}
 use Rattle.receiver.proofs.check.kind.Tie as tie

@@ -6,8 +6,8 @@ use Prim.Native.Nat.{ℕ, _-_, _^_, _≤_, _<_}
 use borrow.Author.Tests.{le-leb, lt-leb, eq-eqb, ne-eqb, lt-ltb, le-ltb}
 use lib.Dec.{leb}
 use lib.ListN.{length, getD}
-use Rattle.model.specs.Check.{orZero, badTail}
-use Rattle.model.specs.Frame.{isAnonymous, isStart, isEnd, toggleOf}
+use Rattle.rules.specs.Check.{orZero, badTail}
+use Rattle.rules.specs.Frame.{isAnonymous, isStart, isEnd, toggleOf}
 use Rattle.receiver.specs.Check.{shapeCheck, serviceUnnamed, serviceFor}
 use Rattle.receiver.specs.Receive.{frameOf}
 use borrow.Author.Needs.{needs}

@@ -3,8 +3,8 @@ use mathlib.Core.Path.{sym, ap, _∙_}
 use mathlib.Core.Bool.{Bool, true, false}
 use Prim.Native.Nat.{_/_, _%_}
 use borrow.Author.Tests.{eq-eqb, ne-eqb}
-use Rattle.model.specs.Tests.{pick}
-use Rattle.model.specs.Frame.{Stream}
+use Rattle.rules.specs.Tests.{pick}
+use Rattle.rules.specs.Frame.{Stream}
 use Rattle.receiver.proofs.Heads.{stream-is}
 use borrow.Author.Needs.{needs}
 use Rattle.receiver.proofs.check.type_id.Statement.{statement}

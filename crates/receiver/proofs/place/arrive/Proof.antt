@@ -8,10 +8,10 @@ use native.Mathlib.Omega.{arith}
 use lib.ListN.{getD}
 use Rattle.bits.proofs.Octets.{octets-all}
 use mathlib.Core.Bool.{Bool, true, false}
-use Rattle.model.specs.Check.{Parsed}
-use Rattle.model.specs.Reception.{store, stepSeek, stepStart, sessionIn}
-use Rattle.model.specs.Session.{Session, react}
-use Rattle.model.specs.Table.{Place, empty}
+use Rattle.rules.specs.Check.{Parsed}
+use Rattle.rules.specs.Reception.{store, stepSeek, stepStart, sessionIn}
+use Rattle.rules.specs.Session.{Session, react}
+use Rattle.rules.specs.Table.{Place, empty}
 use Rattle.receiver.specs.Receive.{lent}
 use Rattle.session.specs.Session.{streamOf, parsedOf}
 use Rattle.session.specs.declared.Head.{Head}

@@ -4,7 +4,7 @@ use Prim.Native.Nat.{_≤_}
 use native.Mathlib.Omega.{arith}
 use lib.ListN.{length}
 use Rattle.bits.proofs.Octets.{octets-all}
-use Rattle.model.specs.Session.{Session, Out, takes}
+use Rattle.rules.specs.Session.{Session, Out, takes}
 use Rattle.receiver.specs.Place.{entered}
 use Rattle.session.specs.Answer.{told, outAfter}
 use Rattle.session.specs.Session.{sessionOf, streamOf, parsedOf, added, InRange}

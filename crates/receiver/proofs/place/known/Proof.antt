@@ -6,9 +6,9 @@ use Prim.Native.Nat.{ℕ, _<_}
 use native.Mathlib.Omega.{arith}
 use lib.ListN.{length}
 use Rattle.bits.proofs.Octets.{octets-all}
-use Rattle.model.specs.Reception.{store}
-use Rattle.model.specs.Session.{Out, next, restarted, react}
-use Rattle.model.specs.Table.{held}
+use Rattle.rules.specs.Reception.{store}
+use Rattle.rules.specs.Session.{Out, next, restarted, react}
+use Rattle.rules.specs.Table.{held}
 use Rattle.receiver.specs.Receive.{lent}
 use Rattle.session.specs.Answer.{told, outAfter}
 use Rattle.session.specs.Session.{streamOf, parsedOf}

@@ -1,8 +1,8 @@
 -- `place::reset` meets its contract: the session is restarted and written back.
 use mathlib.Core.Path.{ap, _∙_}
 use native.Mathlib.Omega.{arith}
-use Rattle.model.specs.Session.{Session, restarted}
-use Rattle.model.specs.Table.{held}
+use Rattle.rules.specs.Session.{Session, restarted}
+use Rattle.rules.specs.Table.{held}
 use Rattle.session.specs.Session.{sessionOf}
 use Rattle.state.specs.Layout.{streamOfKey}
 use Rattle.state.specs.Place.{withPlace}

@@ -5,8 +5,8 @@ use mathlib.Core.Option.{Option, none}
 use Prim.Native.Nat.{ℕ}
 use native.Mathlib.Omega.{arith}
 use Rattle.bits.proofs.Octets.{octets-all}
-use Rattle.model.specs.Reception.{store, stepNew}
-use Rattle.model.specs.Session.{Out, fresh, takes, proceed}
+use Rattle.rules.specs.Reception.{store, stepNew}
+use Rattle.rules.specs.Session.{Out, fresh, takes, proceed}
 use Rattle.receiver.specs.Place.{Enters}
 use Rattle.receiver.specs.Receive.{lent}
 use Rattle.receiver.specs.declared.place.Way.the-variants.{New}

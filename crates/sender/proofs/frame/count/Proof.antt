@@ -1,6 +1,6 @@
 -- `frame::count` meets its contract.
 use borrow.Author.Tests.{le-leb, lt-leb}
-use Rattle.model.specs.Sending.{frameCount}
+use Rattle.rules.specs.Sending.{frameCount}
 use borrow.Author.Needs.{needs}
 use Rattle.sender.proofs.frame.count.Statement.{statement}
 use Rattle.sender.proofs.frame.count.Tie as tie

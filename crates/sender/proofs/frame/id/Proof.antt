@@ -7,9 +7,9 @@ use native.Mathlib.Omega.{arith}
 use borrow.Author.Tests.{eq-eqb, ne-eqb}
 use lib.Dec.{eqb}
 use mir.Val.{boolByte}
-use Rattle.model.specs.Sending.{anonymousId}
-use Rattle.model.specs.SendingLaws.{InRange}
-use Rattle.model.specs.Sent.{flag, idOf}
+use Rattle.rules.specs.Sending.{anonymousId}
+use Rattle.rules.specs.SendingLaws.{InRange}
+use Rattle.rules.specs.Sent.{flag, idOf}
 use Rattle.sender.specs.Send.{callOf}
 use borrow.Author.Needs.{needs}
 use Rattle.sender.proofs.frame.id.Statement.{statement}

@@ -7,7 +7,7 @@ use native.Mathlib.Omega.{arith}
 use lib.ListN.{length, drop, length-drop}
 use mir.Val.{boolByte}
 use Rattle.bits.specs.Part.{splice}
-use Rattle.model.specs.Sending.{recordsOf}
+use Rattle.rules.specs.Sending.{recordsOf}
 use Rattle.sender.proofs.Pieces.{onward, onward-end, splice-none, others-turn, others-are}
 use Rattle.sender.proofs.frame.others.Statement.{statement}
 use Rattle.sender.proofs.frame.others.Tie as tie

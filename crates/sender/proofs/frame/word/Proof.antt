@@ -9,8 +9,8 @@ use lib.ListN.{length, take, drop, getD, List·getD-append}
 use lib.Seq.{drop-at, drop-cons, length-take-le, getD-take}
 use Rattle.bits.specs.Little.{le}
 use Rattle.bits.proofs.Little.{seven-bytes}
-use Rattle.model.specs.Sent.{framed}
-use Rattle.model.proofs.Frames.{framed-length}
+use Rattle.rules.specs.Sent.{framed}
+use Rattle.rules.proofs.Frames.{framed-length}
 use Rattle.sender.proofs.frame.word.Statement.{statement}
 use Rattle.sender.proofs.frame.word.Tie as tie
 

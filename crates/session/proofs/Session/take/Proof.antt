@@ -8,7 +8,7 @@ use native.Mathlib.Omega.{arith}
 use borrow.Author.Needs.{needs}
 use lib.ListN.{length, getD, set}
 use lib.Seq.{paste, paste-zero, paste-suc}
-use Rattle.model.specs.Tests.{pick}
+use Rattle.rules.specs.Tests.{pick}
 use Rattle.session.specs.Session.{sessionOf, added}
 use Rattle.session.specs.declared.Session.{Session}
 use Rattle.session.proofs.Gathered.{take-added}

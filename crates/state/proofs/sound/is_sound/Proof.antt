@@ -7,7 +7,7 @@ use native.Mathlib.Omega.{arith}
 use borrow.Author.Tests.{lt-leb, le-leb, lt-ltb, le-ltb}
 use lib.Dec.{ltb}
 use lib.ListN.{length, getD}
-use Rattle.model.specs.Setup.{acceptable, allFit}
+use Rattle.rules.specs.Setup.{acceptable, allFit}
 use Rattle.state.specs.Layout.{size, keyAt, setupOf, subscriptionAt}
 use Rattle.bits.specs.Order.{Octets}
 use Rattle.bits.proofs.Octets.{octets-all}

@@ -9,7 +9,7 @@ use lib.ListN.{length, getD}
 use Rattle.bits.specs.Keys.{count, alone}
 use Rattle.bits.proofs.Alone.{key-is}
 use Rattle.bits.proofs.Tabulate.{length-tabulate}
-use Rattle.model.specs.Sound.{streamFits}
+use Rattle.rules.specs.Sound.{streamFits}
 use Rattle.state.specs.Layout.{keyAt, streamOfKey}
 use Rattle.state.specs.Sound.{controlFits, inRange, keysOf, placeSound}
 use borrow.Author.Needs.{needs}

@@ -9,7 +9,7 @@ use lib.Dec.{eqb}
 use lib.ListN.{length, getD, set, length-set}
 use Rattle.bits.proofs.Alone.{Marked, unmarked, mark}
 use Rattle.bits.proofs.Tabulate.{tab-end}
-use Rattle.model.specs.Setup.{allFit}
+use Rattle.rules.specs.Setup.{allFit}
 use Rattle.state.specs.Layout.{subscriptionKeyAt, subscriptionAt, setupOf}
 use Rattle.state.specs.Subscription.{keyFits, markAt}
 use Rattle.state.proofs.Subscriptions.{fitFrom, backwards, first-unlike, key-good, key-faulty, fault-stays}

@@ -6,7 +6,7 @@ use native.Mathlib.Nat.{sub-zero}
 use native.Mathlib.Numerals.{add-one}
 use native.Mathlib.Omega.{arith}
 use lib.ListN.{getD}
-use Rattle.model.specs.Setup.{subscribed}
+use Rattle.rules.specs.Setup.{subscribed}
 use Rattle.bits.specs.Tabulate.{tabulate}
 use Rattle.state.specs.Layout.{subscriptionAt, setupOf}
 use Rattle.state.specs.Subscription.{asked}

@@ -5,7 +5,7 @@ use native.Mathlib.Numerals.{add-one}
 use native.Mathlib.Omega.{arith}
 use mathlib.Core.Bool.{true, false}
 use borrow.Author.Tests.{eq-eqb, ne-eqb}
-use Rattle.model.specs.Setup.{unlike}
+use Rattle.rules.specs.Setup.{unlike}
 use Rattle.bits.specs.Tabulate.{tabulate}
 use Rattle.state.specs.Layout.{subscriptionKeyAt, subscriptionAt}
 use Rattle.state.specs.Subscription.{ofKey}

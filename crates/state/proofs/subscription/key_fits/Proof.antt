@@ -6,7 +6,7 @@ use Prim.Native.Nat.{ℕ, _-_, _≤_, _<_}
 use native.Mathlib.Omega.{arith}
 use borrow.Author.Tests.{lt-ltb, le-ltb}
 use Rattle.bits.specs.Tabulate.{tabulate}
-use Rattle.model.specs.Setup.{unlike}
+use Rattle.rules.specs.Setup.{unlike}
 use Rattle.state.specs.Layout.{subscriptionAt}
 use Rattle.state.specs.Subscription.{ofKey, keyFits}
 use borrow.Author.Needs.{needs}

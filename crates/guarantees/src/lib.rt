@@ -1,0 +1,36 @@
+// What `receiver::receive` makes of a lent state, as theorems about its contract. The functions here have no body: each one's contract is a theorem.
+ghost use Rattle.guarantees.specs.Condition3.{Condition3Lent};
+ghost use Rattle.guarantees.specs.Example.{LentExample};
+ghost use Rattle.guarantees.specs.Received.{ViewLaw, SoundLaw};
+ghost use Rattle.guarantees.specs.Run.{RunLaw};
+ghost use Rattle.guarantees.specs.Written.{TableLaw};
+
+// Every table without a fault, with times and data in range, is that of a lent state.
+pub fn tables_held()
+    ensures { λ _. ⌜ TableLaw ⌝ }
+{}
+
+// The state after a reception stands for the table that the rules' step leaves, under the same setup.
+pub fn reception_by_view()
+    ensures { λ _. ⌜ ViewLaw ⌝ }
+{}
+
+// A lent state without a fault stays one.
+pub fn state_lasts()
+    ensures { λ _. ⌜ SoundLaw ⌝ }
+{}
+
+// A list of receptions is answered as the rules answer it, and leaves what stands for the rules' table after it.
+pub fn run_by_view()
+    ensures { λ _. ⌜ RunLaw ⌝ }
+{}
+
+// Condition 3 of 00, over lent states.
+pub fn condition3_lent()
+    ensures { λ _. ⌜ Condition3Lent ⌝ }
+{}
+
+// A case that meets its premises, with the theorem applied.
+pub fn condition3_lent_example()
+    ensures { λ _. ⌜ LentExample ⌝ }
+{}

@@ -1,0 +1,34 @@
+// The transfer-ID map in lent bytes: its layout, setting one up, finding and storing an entry, and the faults that answer 20.
+pub mod entry;
+pub mod find;
+pub mod laws;
+pub mod sound;
+
+ghost use mathlib.Core.Path.{_≡_};
+ghost use Rattle.id_map.specs.Layout as layout;
+ghost use Rattle.id_map.specs.SetUp.{result, setUp};
+
+// What setting a map up answers.
+pub enum Outcome {
+    Done,
+    Short,
+}
+
+// The bytes that a map takes.
+pub fn size() -> usize
+    ensures { λ r. ⌜ r ≡ layout.size ⌝ }
+{
+    416
+}
+
+// Makes the lent bytes a map without an entry.
+pub fn set_up(map: &mut [u8]) -> Outcome
+    ensures { λ r. ⌜ result r (now (map .exit)) ≡ setUp (now (map .entry)) ⌝ }
+{
+    if map.len() < 416 {
+        return Outcome::Short;
+    }
+    let zeros = [0u8; 416];
+    bits::part::copy_at(map, 0, &zeros);
+    Outcome::Done
+}

@@ -1,0 +1,41 @@
+-- 01, The log program: the text of an answer, behind the time.
+use mathlib.Core.List.{List, [], _∷_, _++_}
+use Prim.Native.Nat.{ℕ}
+use lib.Dec.{eqb}
+use lib.ListN.{take}
+use Rattle.rules.specs.Tests.{pick}
+use Rattle.session.specs.Answer.{numberOf}
+use Rattle.session.specs.declared.Answer.{Answer}
+use Rattle.session.specs.declared.Answer.the-variants.{Taken, Handed, Refused, Full, Passed, TooLong, BadChecksum, Faulty}
+use Rattle.session.specs.declared.Transfer.{Transfer}
+use Rattle.digits.specs.Digits.{words, hexes}
+
+-- "+ 0" or "-" and a number
+unfoldable pub numbered : ℕ → ℕ → List ℕ
+numbered sign n = 32 ∷ sign ∷ (words (n ∷ []) ++ (10 ∷ []))
+
+-- M, Q, R
+abbrev pub letterOf : ℕ → ℕ
+letterOf kind = pick (eqb kind 0) 77 (pick (eqb kind 1) 81 82)
+
+-- an empty payload prints a dash
+abbrev pub payloadText : List ℕ → List ℕ
+payloadText [] = 45 ∷ []
+payloadText (b ∷ bs) = hexes (b ∷ bs)
+
+-- kind, type, source, destination, priority, transfer ID, length, payload
+unfoldable pub transferText : Transfer → List ℕ → List ℕ
+transferText t p =
+    32 ∷ letterOf (t .kind) ∷ (words (t .«type_id» ∷ t .source ∷ t .destination ∷ t .priority ∷ t .transfer ∷ t .len ∷ [])
+    ++ (32 ∷ (payloadText p ++ (10 ∷ []))))
+
+-- of the receiver's output buffer, where the payload stands in front
+unfoldable pub answerText : Answer → List ℕ → List ℕ
+answerText Taken out = numbered 43 (numberOf Taken)
+answerText (Handed t) out = transferText t (take (t .len) out)
+answerText (Refused n) out = numbered 45 (numberOf (Refused n))
+answerText Full out = numbered 45 (numberOf Full)
+answerText Passed out = numbered 45 (numberOf Passed)
+answerText TooLong out = numbered 45 (numberOf TooLong)
+answerText BadChecksum out = numbered 45 (numberOf BadChecksum)
+answerText Faulty out = numbered 45 (numberOf Faulty)

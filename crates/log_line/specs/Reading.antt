@@ -1,0 +1,75 @@
+-- Reading a line, in the steps that the code takes. specs/Laws.antt says what it comes to: a line that reads is the line of what was read.
+use mathlib.Core.Path.{_≡_}
+use mathlib.Core.Bool.{Bool, true, _&&_}
+use mathlib.Core.List.{List, [], _∷_}
+use mathlib.Core.Option.{Option, none, some}
+use Prim.Native.Nat.{ℕ, zero, suc, _+_, _*_, _-_, _/_, _%_, _≤_}
+use lib.Dec.{ltb, leb, eqb}
+use lib.ListN.{length, getD, take, drop}
+use Rattle.bits.specs.Part.{span}
+use Rattle.log_line.specs.declared.read.Bytes.{Bytes}
+use Rattle.log_line.specs.declared.read.Line.{Line}
+use Rattle.rules.specs.Frame.{Frame}
+use Rattle.rules.specs.Tests.{pick}
+use Rattle.digits.specs.Digits.{countOf, number}
+use Rattle.digits.specs.Find.{before}
+
+-- ── data bytes ──
+
+-- a space and two digits
+unfoldable pub pairOf : List ℕ → Option ℕ
+pairOf l = pick (eqb (getD l 0 0) 32) (number 16 (span l 1 2)) none
+
+abbrev pub paired : Option ℕ → Option (List ℕ) → Option (List ℕ)
+paired none bs = none
+paired (some b) none = none
+paired (some b) (some bs) = some (b ∷ bs)
+
+unfoldable pub pairs : ℕ → List ℕ → Option (List ℕ)
+pairs zero l = some []
+pairs (suc k) l = paired (pairOf l) (pairs k (drop 3 l))
+
+-- ── the line: s characters of seconds stand before the first dot ──
+
+-- 1 to 9 of them; the length is that of a line with 0 to 8 bytes; the space and the line feed are in their places
+unfoldable pub shaped : ℕ → List ℕ → Bool
+shaped s l =
+    ltb 0 s && (leb s 9 && (leb (s + 14) (length l) && (leb (length l) (s + 38) && (eqb ((length l - (s + 14)) % 3) 0
+    && (eqb (getD l (s + 4) 0) 32 && eqb (getD l (length l - 1) 0) 10)))))
+
+-- seconds, milliseconds, ID and bytes; seconds of s digits have no needless zero in front
+unfoldable pub framed : ℕ → Option ℕ → Option ℕ → Option ℕ → Option (List ℕ) → Option Frame
+framed s none ms id bs = none
+framed s (some sec) none id bs = none
+framed s (some sec) (some ms) none bs = none
+framed s (some sec) (some ms) (some id) none = none
+framed s (some sec) (some ms) (some id) (some bs) =
+    pick (eqb (countOf sec) s) (some (record { id = id; bytes = bs; time = sec * 1000000 + ms * 1000 })) none
+
+unfoldable pub fieldsOf : ℕ → List ℕ → Option Frame
+fieldsOf s l =
+    framed s (number 10 (span l 0 s)) (number 10 (span l (s + 1) 3)) (number 16 (span l (s + 5) 8))
+    (pairs ((length l - (s + 14)) / 3) (drop (s + 13) l))
+
+-- what a line says; none: it is not well formed
+unfoldable pub said : List ℕ → Option Frame
+said l = pick (shaped (before 46 l) l) (fieldsOf (before 46 l) l) none
+
+-- ── as the code tells it ──
+
+-- 256 for none
+abbrev pub orBad : Option ℕ → ℕ
+orBad none = 256
+orBad (some b) = b
+
+abbrev pub bytesIn : Bytes → ℕ → Option (List ℕ)
+bytesIn r k = pick (r .ok) (some (take k (r .bytes))) none
+
+abbrev pub frameIn : Line → Option Frame
+frameIn r = pick (r .ok) (some (record { id = r .id; bytes = take (r .len) (r .bytes); time = r .time })) none
+
+-- the frame, and how many characters its time takes; the bytes lie in the array
+pub record Reads (s : ℕ) (says : Option Frame) (r : Line) : Type 0 where
+  pub frame : frameIn r ≡ says
+  pub head : r .ok ≡ true → r .head ≡ s + 4
+  pub few : r .len ≤ length (r .bytes)

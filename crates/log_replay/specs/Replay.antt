@@ -1,0 +1,92 @@
+-- 01, The log program: what one line gives. A line is read, its frame goes to the receiver, and the answer is written behind the time.
+use mathlib.Core.Bool.{Bool, true, false}
+use mathlib.Core.List.{List, [], _∷_, _++_}
+use mathlib.Core.Option.{Option, none, some}
+use Prim.Native.Nat.{ℕ, _+_, _-_, _^_}
+use lib.Dec.{ltb}
+use lib.ListN.{length, replicate}
+use Rattle.bits.specs.Part.{splice}
+use Rattle.log_line.specs.Line.{timeText}
+use Rattle.log_line.specs.Reading.{said}
+use Rattle.rules.specs.Frame.{Frame}
+use Rattle.rules.specs.Tests.{pick}
+use Rattle.receiver.specs.Receive as receive
+use Rattle.receiver.specs.Receive.{received}
+use Rattle.log_replay.specs.declared.Counts.{Counts}
+use Rattle.log_replay.specs.declared.Told.{Told}
+use Rattle.log_replay.specs.declared.Told.the-variants.{Small, Line}
+use Rattle.log_answer.specs.Answer.{numbered, answerText}
+use Rattle.session.specs.declared.Answer.{Answer}
+use Rattle.session.specs.declared.Answer.the-variants.{Taken, Handed, Refused, Full, Passed, TooLong, BadChecksum, Faulty}
+use Rattle.digits.specs.Digits.{words}
+
+-- ── counting ──
+
+-- a counter stays at the largest number of 64 bits
+unfoldable pub up : ℕ → ℕ
+up n = pick (ltb n (2 ^ 64 - 1)) (n + 1) n
+
+-- one more line, and with a payload one more transfer
+unfoldable pub counted : Counts → Bool → Counts
+counted c handed = record { lines = up (c .lines); transfers = pick handed (up (c .transfers)) (c .transfers) }
+
+abbrev pub isHanded : Answer → Bool
+isHanded Taken = false
+isHanded (Handed t) = true
+isHanded (Refused n) = false
+isHanded Full = false
+isHanded Passed = false
+isHanded TooLong = false
+isHanded BadChecksum = false
+isHanded Faulty = false
+
+-- the last line: "end", lines read, transfers handed out
+unfoldable pub endText : Counts → List ℕ
+endText c = 101 ∷ 110 ∷ 100 ∷ (words (c .lines ∷ c .transfers ∷ []) ++ (10 ∷ []))
+
+-- ── one line ──
+
+-- what a line gives: the text for it, the receiver's state after, and whether a transfer was handed out
+pub record Reply : Type 0 where
+  pub text : List ℕ
+  pub state : List ℕ
+  pub handed : Bool
+
+unfoldable pub answered : ℕ → receive.Result → Reply
+answered time r = record { text = timeText time ++ answerText (r .answer) (r .out); state = r .state; handed = isHanded (r .answer) }
+
+-- a line that is not well formed leaves the receiver as it was; the receiver is lent 512 bytes
+unfoldable pub reply : List ℕ → Option Frame → Reply
+reply m none = record { text = 63 ∷ numbered 45 18; state = m; handed = false }
+reply m (some f) = answered (f .time) (received m f (replicate 512 0))
+
+-- ── the call ──
+
+-- 01, Numbers answered
+abbrev pub numberOf : Told → ℕ
+numberOf Small = 8
+numberOf (Line s) = 0
+
+-- how many bytes of text there are
+abbrev pub lenOf : Told → ℕ
+lenOf Small = 0
+lenOf (Line s) = s .len
+
+-- room for the longest text, with some to spare
+abbrev pub room : ℕ
+room = 1200
+
+pub record Result : Type 0 where
+  pub number : ℕ
+  pub answer : Told
+  pub state : List ℕ
+  pub out : List ℕ
+
+abbrev pub result : Told → List ℕ → List ℕ → Result
+result a m out = record { number = numberOf a; answer = a; state = m; out = out }
+
+abbrev pub given : Counts → List ℕ → Reply → Result
+given c out r = result (Line (record { len = length (r .text); counts = counted c (r .handed) })) (r .state) (splice out 0 (r .text))
+
+unfoldable pub replayed : List ℕ → List ℕ → Counts → List ℕ → Result
+replayed m l c out = pick (ltb (length out) room) (result Small m out) (given c out (reply m (said l)))

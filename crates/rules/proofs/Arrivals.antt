@@ -1,0 +1,291 @@
+-- The frames of a payload at a receiver that they are for: the start passes the checks and is sorted, and at one time they are all that the stream brings.
+use mathlib.Core.Path.{_≡_, refl, sym, ap, _∙_}
+use mathlib.Core.Bool.{Bool, true, false, true≢false, not, _&&_, _||_}
+use mathlib.Core.List.{List, [], _∷_, _++_, map}
+use mathlib.Core.Option.{Option, none, some}
+use mathlib.Mathlib.Data.Bool.Basic.{and-intro}
+use Prim.Native.Nat.{ℕ, zero, suc, _+_, _^_, _≤_, _<_}
+use native.Mathlib.Omega.{arith}
+use lib.Dec.{ltb, eqb}
+use lib.ListN.{length, getD, take, drop}
+use lib.Seq.{length-take-le}
+use borrow.Author.Tests.{eq-eqb, ne-eqb, lt-ltb, le-ltb, le-leb, lt-leb}
+use Rattle.rules.specs.Answer.{Answer, Reason}
+use Rattle.rules.specs.Answer as answer
+use Rattle.rules.specs.Check.{Reception, Parsed, parsed, badTail, isNone}
+use Rattle.rules.specs.Condition3.{ofStream, startOf, framesWith, answersTo, upTo, forward, roomy, Brings, done, next}
+use Rattle.rules.specs.Frame.{Frame, Stream, sameStream, isService, sourceOf, destinationOf, streamIf, streamOf, tailOf, isStart, isEnd, toggleOf}
+use Rattle.rules.specs.Reception.{stepNew, stepStart, sessionIn, stepSeek, stepAnonymous, stepChecked, step, run}
+use Rattle.rules.specs.Sending as sending
+use Rattle.rules.specs.Sending.{Call, any}
+use Rattle.rules.specs.SendingLaws.{Hears}
+use Rattle.rules.specs.Sent.{tailByte, framed, pieces, carrying, frameAt}
+use Rattle.rules.specs.Session.{Session, overIf, over, sumOk, closing, takeEnd, takeLong, takes, proceedIf, proceed, reactIf, react, restarts, restarted, fresh}
+use Rattle.rules.specs.Setup.{Setup, subscribed, signatureFor}
+use Rattle.rules.specs.Table.{empty, Places, seek, holds, placeFor}
+use Rattle.rules.specs.Tests.{pick, bit, isEmpty, sameBool}
+use Rattle.rules.proofs.Checks.{Accepted, none-of, roomy-check, named-not-anonymous}
+use Rattle.rules.proofs.Frames.{framed-length, framed-tail, framed-payload, fulls}
+use Rattle.rules.proofs.Ids.{bit-is, flag-le}
+use Rattle.rules.proofs.Table.{same-refl}
+
+-- ── the frames of a payload: a start, and no other ──
+
+abbrev pub NoStart : List (List ℕ) → Type 0
+NoStart [] = Unit {0}
+NoStart (c ∷ more) = (isStart (tailOf c) ≡ false) × NoStart more
+
+module _ (t : ℕ) (small : t < 32) where
+  pub starts : (xs : List ℕ) (s l g : Bool) → isStart (tailOf (framed xs (tailByte s l g t))) ≡ s
+  starts xs s l g =
+      ap isStart (framed-tail xs (tailByte s l g t)) ∙ bit-is (tailByte s l g t) 128 s (omega (arith, flag-le s, flag-le l, flag-le g))
+
+  ends : (xs : List ℕ) (s l g : Bool) → isEnd (tailOf (framed xs (tailByte s l g t))) ≡ l
+  ends xs s l g = ap isEnd (framed-tail xs (tailByte s l g t)) ∙ bit-is (tailByte s l g t) 64 l (omega (arith, flag-le s, flag-le l, flag-le g))
+
+  toggles : (xs : List ℕ) (s l g : Bool) → toggleOf (tailOf (framed xs (tailByte s l g t))) ≡ g
+  toggles xs s l g = ap toggleOf (framed-tail xs (tailByte s l g t)) ∙ bit-is (tailByte s l g t) 32 g (omega (arith, flag-le s, flag-le l, flag-le g))
+
+  later : (n : ℕ) (g : Bool) (xs : List ℕ) → NoStart (pieces n false g t xs)
+  unfolding pieces
+  later zero g xs = (starts xs false true g, tt)
+  later (suc n) g xs = (starts (take 7 xs) false false g, later n (not g) (drop 7 xs))
+
+  pub record Opening (l : List (List ℕ)) : Type 0 where
+    pub bytes : List ℕ
+    pub last : Bool
+    pub rest : List (List ℕ)
+    pub is : l ≡ framed bytes (tailByte true last false t) ∷ rest
+    pub most : length bytes ≤ 7
+    pub whole : last ≡ false → length bytes ≡ 7
+    pub later : NoStart rest
+
+  pub opening : (xs : List ℕ) → Opening (carrying t xs)
+  unfolding carrying pieces
+  opening xs = go (fulls xs) refl
+    where
+      go : (n : ℕ) → fulls xs ≡ n → Opening (pieces n true false t xs)
+      go zero e = record { bytes = xs; last = true; rest = []; is = refl; most = omega arith; whole = λ z. absurd (true≢false z); later = tt }
+      go (suc n) e =
+          let l : length (take 7 xs) ≡ 7 = length-take-le 7 xs (omega arith) in
+          record {
+            bytes = take 7 xs;
+            last = false;
+            rest = pieces n false true t (drop 7 xs);
+            is = refl;
+            most = omega arith;
+            whole = λ z. l;
+            later = later n true (drop 7 xs);
+          }
+
+-- ── a start that passed the checks: taken, refused by 9 or passed over ──
+
+abbrev pub Sorted : Answer → Type 0
+Sorted a = any (eqb (answer.numberOf a) 0 ∷ eqb (answer.numberOf a) 1 ∷ eqb (answer.numberOf a) 9 ∷ eqb (answer.numberOf a) 10 ∷ []) ≡ true
+
+over-empty : (a b c : Bool) → overIf true a b c ≡ none → b ≡ true
+over-empty true true c e = refl
+over-empty true false c e = let z : _≡_ {A = ℕ} 0 1 = cc in absurd (omega arith)
+over-empty false b c e = let z : _≡_ {A = ℕ} 0 1 = cc in absurd (omega arith)
+
+none-in-hand : (l xs : List ℕ) → isEmpty l ≡ true → length (l ++ xs) ≡ length xs
+none-in-hand [] xs e = refl
+none-in-hand (x ∷ l) xs e = absurd (true≢false (sym e))
+
+module _ (v : Parsed) (st : v .start ≡ true) (few : length (v .payload) ≤ 7) where
+  sorts-closing : (b ok : Bool) (all : List ℕ) → b ≡ true → Sorted (closing b ok all v)
+  unfolding closing
+  sorts-closing true ok all e = refl
+  sorts-closing false ok all e = absurd (true≢false (sym e))
+
+  sorts-end : (s : Session) (all : List ℕ) (l : Bool) → Sorted (takeEnd l s v all .answer)
+  unfolding takeEnd
+  sorts-end s all false = refl
+  sorts-end s all true = sorts-closing (v .start) (sumOk (v .signature) all) all st
+
+  sorts-taken : (s : Session) → over s v ≡ none → Sorted (takes s v .answer)
+  unfolding takes takeLong over
+  sorts-taken s e =
+      let h = over-empty (eqb (v .transfer) (s .expected)) (isEmpty (s .gathered)) (sameBool (v .toggle) (s .toggle))
+      (ap (λ b. overIf b (eqb (v .transfer) (s .expected)) (isEmpty (s .gathered)) (sameBool (v .toggle) (s .toggle))) (sym st) ∙ e) in
+      let n = none-in-hand (s .gathered) (v .payload) h in
+      long (ltb 514 (length (s .gathered ++ v .payload))) (le-ltb 514 (length (s .gathered ++ v .payload)) (omega arith))
+    where
+      all : List ℕ
+      all = s .gathered ++ v .payload
+
+      long : (b : Bool) → b ≡ false → Sorted (takeLong b s v all .answer)
+      long true q = absurd (true≢false q)
+      long false q = sorts-end s all (v .last)
+
+  sorts-proceed : (s : Session) → Sorted (proceed s v .answer)
+  unfolding proceed proceedIf
+  sorts-proceed s = go (over s v) refl
+    where
+      go : (o : Option Reason) → over s v ≡ o → Sorted (proceedIf o s v .answer)
+      go (some r) e = refl
+      go none e = sorts-taken s e
+
+  sorts-react : (s : Session) → Sorted (react s v .answer)
+  unfolding react reactIf
+  sorts-react s = go (restarts s v) (v .start) st
+    where
+      go : (b c : Bool) → c ≡ true → Sorted (reactIf b c s v .answer)
+      go true true e = sorts-proceed (restarted s (v .transfer))
+      go true false e = absurd (true≢false (sym e))
+      go false c e = sorts-proceed s
+
+  sorts-new : (ps : Places) (o : Option ℕ) → Sorted (stepNew o ps v .answer)
+  unfolding stepNew
+  sorts-new ps none = refl
+  sorts-new ps (some i) = sorts-proceed (fresh v)
+
+  sorts-seek : (ps : Places) (o : Option ℕ) → Sorted (stepSeek o ps v .answer)
+  unfolding stepSeek stepStart
+  sorts-seek ps (some i) = sorts-react (sessionIn (getD ps i empty) v)
+  sorts-seek ps none = go (v .start) st
+    where
+      go : (b : Bool) → b ≡ true → Sorted (stepStart b ps v .answer)
+      go true e = sorts-new ps (placeFor (v .time) ps)
+      go false e = absurd (true≢false (sym e))
+
+-- ── receptions of one stream's frames, at one time ──
+
+-- one reception of each
+abbrev pub each : ℕ → ℕ → ℕ → List (List ℕ) → List Reception
+each id time space l = map (λ c. record { frame = frameAt id c time; room = space }) l
+
+abbrev pub framesAt : ℕ → ℕ → List (List ℕ) → List Frame
+framesAt id time l = map (λ c. frameAt id c time) l
+
+module _ (id time space : ℕ) (d : Stream) (small : id < 2 ^ 29) (stream : streamOf id ≡ d) where
+  pub of-it : (c : List ℕ) → ofStream d (frameAt id c time) ≡ true
+  of-it c = and-intro (lt-ltb id (2 ^ 29) small) (ap (λ x. sameStream x d) stream ∙ same-refl d)
+
+  pub frames-each : (l : List (List ℕ)) → framesWith (ofStream d) (each id time space l) ≡ framesAt id time l
+  unfolding framesWith
+  frames-each [] = refl
+  frames-each (c ∷ l) = rw (of-it c) (ap (λ fs. frameAt id c time ∷ fs) (frames-each l))
+
+  pub answers-each : (u : Setup) (ps : Places) (l : List (List ℕ)) → answersTo (ofStream d) u ps (each id time space l) ≡ run u ps (each id time space l)
+  unfolding answersTo run
+  answers-each u ps [] = refl
+  answers-each u ps (c ∷ l) =
+      let r : Reception = record { frame = frameAt id c time; room = space } in
+      rw (of-it c) (ap (λ l. step u ps r .answer ∷ l) (answers-each u (step u ps r .places) l))
+
+  pub upto-each : (l : List (List ℕ)) → upTo (ofStream d) (each id time space l) (length l) ≡ each id time space l
+  unfolding upTo
+  upto-each [] = refl
+  upto-each (c ∷ l) = rw (of-it c) (ap (λ rs. record { frame = frameAt id c time; room = space } ∷ rs) (upto-each l))
+
+  pub no-starts : (u : Setup) (ps : Places) (l : List (List ℕ)) → NoStart l → answersTo (startOf d) u ps (each id time space l) ≡ []
+  unfolding answersTo
+  no-starts u ps [] h = refl
+  no-starts u ps (c ∷ l) h = rw (of-it c, h .0) (no-starts u (step u ps (record { frame = frameAt id c time; room = space }) .places) l (h .1))
+
+  pub roomy-each : 512 ≤ space → (l : List (List ℕ)) → roomy d (each id time space l) ≡ true
+  roomy-each h [] = refl
+  roomy-each h (c ∷ l) = rw (of-it c, le-leb 512 space h) (roomy-each h l)
+
+pub forward-each : (id time space : ℕ) (l : List (List ℕ)) → forward time (each id time space l) ≡ true
+forward-each id time space [] = refl
+forward-each id time space (c ∷ l) = rw (le-leb time time (omega arith)) (forward-each id time space l)
+
+pub brings-each : (id time : ℕ) (l : List (List ℕ)) → Brings id (time + 2000000) l (framesAt id time l)
+brings-each id time [] = done
+brings-each id time (c ∷ l) = next time (omega arith) (brings-each id time l)
+
+-- ── the receiver that a call is for ──
+
+kind-of : (id : ℕ) → pick {A = ℕ} (isService id) 1 0 ≡ pick (eqb (streamOf id .kind) 0) 0 1
+unfolding streamOf
+kind-of id = go (isService id)
+  where
+    request : (r : Bool) → eqb (pick r 1 2) 0 ≡ false
+    request true = refl
+    request false = refl
+
+    go : (b : Bool) → pick {A = ℕ} b 1 0 ≡ pick (eqb (streamIf b id .kind) 0) 0 1
+    go true = rw (request (bit id 32768))
+    go false = refl
+
+source-of : (id : ℕ) → streamOf id .source ≡ sourceOf id
+unfolding streamOf
+source-of id = go (isService id)
+  where
+    go : (b : Bool) → streamIf b id .source ≡ sourceOf id
+    go true = refl
+    go false = refl
+
+destination-of : (id : ℕ) → isService id ≡ true → streamOf id .destination ≡ destinationOf id
+unfolding streamOf
+destination-of id e = ap (λ b. streamIf b id .destination) e
+
+service-kind : (id : ℕ) → isService id ≡ true → streamOf id .kind ≡ 0 → ⊥
+service-kind id e z =
+    let q : pick {A = ℕ} true 1 0 ≡ pick (eqb 0 0) 0 1 = ap (λ b. pick b 1 0) (sym e) ∙ kind-of id ∙ ap (λ k. pick (eqb k 0) 0 1) z in
+    omega arith
+
+module _ (u : Setup) (c : Call) (hears : Hears u c) (id : ℕ) (small : id < 2 ^ 29) (stream : streamOf id ≡ sending.streamOf c) (named : 0 < c .own)
+    (aimed : (c .kind ≡ 0 → ⊥) → 0 < c .destination) where
+  pub signed : signatureFor u id ≡ some (c .signature)
+  signed =
+      ap (λ k. subscribed k (streamOf id .type) (u .subscriptions)) (kind-of id)
+      ∙ ap (λ s. subscribed (pick (eqb (s .kind) 0) 0 1) (s .type) (u .subscriptions)) stream
+      ∙ hears .subscribes
+
+  service : isService id ≡ true → c .kind ≡ 0 → ⊥
+  service e z = service-kind id e (ap (λ s. s .kind) stream ∙ z)
+
+  to : isService id ≡ true → destinationOf id ≡ c .destination
+  to e = sym (destination-of id e) ∙ ap (λ s. s .destination) stream
+
+  module _ (t : ℕ) (t-small : t < 32) (xs : List ℕ) (last : Bool) (most : length xs ≤ 7) (whole : last ≡ false → length xs ≡ 7) (time : ℕ) where
+    abbrev bytes : List ℕ
+    bytes = framed xs (tailByte true last false t)
+
+    abbrev f : Frame
+    f = frameAt id bytes time
+
+    start-is : parsed u f .start ≡ true
+    unfolding parsed
+    start-is = starts t t-small xs true last false
+
+    accepts : Accepted u f
+    accepts =
+        let n = framed-length xs (tailByte true last false t) in
+        record {
+          id = lt-leb (2 ^ 29) id small;
+          length = rw (ne-eqb (length bytes) 0 (λ e. omega arith), le-ltb 8 (length bytes) (omega arith));
+          service = served (isService id) refl;
+          tail = rw (named-not-anonymous id (rw stream named), starts t t-small xs true last false, ends t t-small xs true last false, toggles t t-small xs true last false)
+              (tail last refl);
+          mine = mine (isService id) refl;
+          subscribed = ap (λ o. isNone o) signed;
+        }
+      where
+        tail : (b : Bool) → last ≡ b → badTail false true b false (length bytes) ≡ false
+        tail true e = refl
+        tail false e = rw (le-ltb (length bytes) 8 (omega (arith, framed-length xs (tailByte true last false t), whole e)))
+
+        served : (b : Bool) → isService id ≡ b → (b && (eqb (sourceOf id) 0 || eqb (destinationOf id) 0)) ≡ false
+        served false e = refl
+        served true e =
+            let s : sourceOf id ≡ c .own = sym (source-of id) ∙ ap (λ s. s .source) stream in
+            let a = aimed (service e) in
+            let q = to e in
+            rw (ne-eqb (sourceOf id) 0 (λ z. omega arith), ne-eqb (destinationOf id) 0 (λ z. omega arith))
+
+        mine : (b : Bool) → isService id ≡ b → (b && not (eqb (destinationOf id) (u .own))) ≡ false
+        mine false e = refl
+        mine true e = rw (eq-eqb (destinationOf id) (u .own) (to e ∙ sym (hears .addressed (service e))))
+
+    -- ── its start ──
+
+    pub sorts-start : (ps : Places) (space : ℕ) → 512 ≤ space → Sorted (step u ps (record { frame = f; room = space }) .answer)
+    unfolding step stepChecked stepAnonymous parsed
+    sorts-start ps space h =
+        let few : length (parsed u f .payload) ≤ 7 = rw (framed-payload xs (tailByte true last false t)) most in
+        rw (roomy-check u (record { frame = f; room = space }) h ∙ none-of u f accepts, named-not-anonymous id (rw stream named))
+        (sorts-seek (parsed u f) start-is few ps (seek (holds (parsed u f .stream)) ps))

@@ -1,0 +1,89 @@
+-- What the frame checks tell of a frame that passes them.
+use mathlib.Core.Path.{_≡_, refl}
+use mathlib.Core.Bool.{Bool, true, false, not, _&&_, and-false}
+use mathlib.Core.Option.{Option, none, some}
+use mathlib.Mathlib.Data.Bool.Basic.{and-elim-right, or-eq-false-eq-eq-false-and-eq-false as or-off}
+use Prim.Native.Nat.{ℕ, _^_, _≤_, _<_}
+use native.Mathlib.Omega.{arith}
+use lib.Dec.{ltb}
+use borrow.Author.Tests.{ne-eqb, le-ltb}
+use Rattle.rules.specs.Check.{Reception, parsed, largeId, badLength, unnamedService, badTailIn, forAnother, notSubscribed, frameCheck, roomCheck, check}
+use Rattle.rules.specs.Condition3.{ofStream}
+use Rattle.rules.specs.Frame.{Frame, Stream, isService, sourceOf, isAnonymous, streamIf, streamOf}
+use Rattle.rules.specs.Sent.{frameAt}
+use Rattle.rules.specs.Setup.{Setup}
+use Rattle.rules.specs.Tests.{pick}
+use Rattle.rules.proofs.Table.{same-eq}
+
+-- ── passed, check by check ──
+
+pub record Accepted (u : Setup) (f : Frame) : Type 0 where
+  pub id : largeId f ≡ false
+  pub length : badLength f ≡ false
+  pub service : unnamedService f ≡ false
+  pub tail : badTailIn f ≡ false
+  pub mine : forAnother u f ≡ false
+  pub subscribed : notSubscribed u f ≡ false
+
+pick-none : (b : Bool) (n : ℕ) (o : Option ℕ) → pick b (some n) o ≡ none → (b ≡ false) × (o ≡ none)
+pick-none true n o e = let z : _≡_ {A = ℕ} 0 1 = cc in absurd (omega arith)
+pick-none false n o e = (refl, e)
+
+pub accepted : (u : Setup) (f : Frame) → frameCheck u f ≡ none → Accepted u f
+unfolding frameCheck
+accepted u f e =
+    let e2 = pick-none (largeId f) 2 _ e in
+    let e3 = pick-none (badLength f) 3 _ (e2 .1) in
+    let e4 = pick-none (unnamedService f) 4 _ (e3 .1) in
+    let e5 = pick-none (badTailIn f) 5 _ (e4 .1) in
+    let e6 = pick-none (forAnother u f) 6 _ (e5 .1) in
+    let e7 = pick-none (notSubscribed u f) 7 _ (e6 .1) in
+    record { id = e2 .0; length = e3 .0; service = e4 .0; tail = e5 .0; mine = e6 .0; subscribed = e7 .0 }
+
+pub none-of : (u : Setup) (f : Frame) → Accepted u f → frameCheck u f ≡ none
+unfolding frameCheck
+none-of u f a = rw (a .id, a .length, a .service, a .tail, a .mine, a .subscribed)
+
+pub checked : (u : Setup) (r : Reception) → check u r ≡ none → frameCheck u (r .frame) ≡ none
+unfolding check
+checked u r e = go (frameCheck u (r .frame)) (ltb (r .room) 512) e
+  where
+    go : (o : Option ℕ) (b : Bool) → roomCheck o b ≡ none → o ≡ none
+    go none b k = refl
+    go (some n) b k = k
+
+-- enough room is no matter
+pub roomy-check : (u : Setup) (r : Reception) → 512 ≤ r .room → check u r ≡ frameCheck u (r .frame)
+unfolding check
+roomy-check u r h = rw (le-ltb (r .room) 512 h) (go (frameCheck u (r .frame)))
+  where
+    go : (o : Option ℕ) → roomCheck o false ≡ o
+    go none = refl
+    go (some n) = refl
+
+-- the checks look at no time
+pub check-time : (u : Setup) (f : Frame) (x : ℕ) → frameCheck u (frameAt (f .id) (f .bytes) x) ≡ frameCheck u f
+unfolding frameCheck
+check-time u f x = refl
+
+pub start-toggle : (u : Setup) (f : Frame) → frameCheck u f ≡ none → parsed u f .start ≡ true → parsed u f .toggle ≡ false
+unfolding parsed
+start-toggle u f e st =
+    let k : (parsed u f .start && parsed u f .toggle) ≡ false = or-off _ _ .0 (accepted u f e .tail) .0 in
+    rw st at k
+
+-- ── the stream ──
+
+source-is : (id : ℕ) → streamOf id .source ≡ sourceOf id
+unfolding streamOf
+source-is id = go (isService id)
+  where
+    go : (b : Bool) → streamIf b id .source ≡ sourceOf id
+    go true = refl
+    go false = refl
+
+pub named-not-anonymous : (id : ℕ) → 0 < streamOf id .source → isAnonymous id ≡ false
+named-not-anonymous id h = rw (ne-eqb (sourceOf id) 0 (λ e. omega (arith, source-is id))) (and-false (not (isService id)))
+
+pub of-stream : (d : Stream) (f : Frame) → ofStream d f ≡ true → streamOf (f .id) ≡ d
+of-stream d f e = same-eq (streamOf (f .id)) d (and-elim-right (ltb (f .id) (2 ^ 29)) _ e)

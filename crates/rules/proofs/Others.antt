@@ -1,0 +1,153 @@
+-- What a step does to sessions: that of another stream stays as it was, or was old; and no stream comes to have two.
+use mathlib.Core.Path.{_≡_, refl, sym, ap, _∙_}
+use mathlib.Core.Logic.{_⊎_, inl, inr}
+use mathlib.Core.Bool.{Bool, true, false, false≢true}
+use mathlib.Core.List.{List, [], _∷_}
+use mathlib.Core.Option.{Option, none, some}
+use Prim.Native.Nat.{ℕ, _+_, _-_, _<_, _^_}
+use native.Mathlib.Omega.{arith}
+use lib.Dec.{ltb}
+use lib.ListN.{length, getD, set}
+use borrow.Author.Tests.{ltb-true, lt-ltb, leb-false}
+use Rattle.rules.specs.Check.{Reception, Parsed, parsed, check}
+use Rattle.rules.specs.Condition3.{ofStream}
+use Rattle.rules.specs.Frame.{Stream, sameStream, isAnonymous}
+use Rattle.rules.specs.Reception.{stepNew, stepStart, sessionIn, stepSeek, stepAnonymous, stepChecked, step}
+use Rattle.rules.specs.Session.{Session, old, fresh, proceed, react}
+use Rattle.rules.specs.Setup.{Setup}
+use Rattle.rules.specs.Table.{Place, empty, held, Places, seek, holds, isFree, isOld, orElse, placeFor}
+use Rattle.rules.proofs.Checks.{accepted, checked}
+use Rattle.rules.proofs.Table.{same-eq, Found, seek-spec, sessionsOf, fails-none, AtMostOne, Sole, kept, only, sole-store}
+
+-- ── old sessions ──
+
+abbrev pub Old : ℕ → Session → Type 0
+Old t s = s .since + 2000000 < t
+
+old-true : (t : ℕ) (s : Session) → old t s ≡ true → Old t s
+old-true t s e = omega (arith, ltb-true 2000000 (t - s .since) e)
+
+pub true-old : (t : ℕ) (s : Session) → Old t s → old t s ≡ true
+true-old t s h = lt-ltb 2000000 (t - s .since) (omega arith)
+
+abbrev pub AllOld : ℕ → List Session → Type 0
+AllOld t [] = Unit {0}
+AllOld t (s ∷ l) = Old t s × AllOld t l
+
+pub data Kept (d : Stream) (t : ℕ) (ps qs : Places) : Type 0 where
+  still : sessionsOf d qs ≡ sessionsOf d ps → Kept d t ps qs
+  aged : AllOld t (sessionsOf d ps) → AllOld t (sessionsOf d qs) → Kept d t ps qs
+
+-- ── the place for a new session ──
+
+abbrev pub FoundPlace : ℕ → Places → Option ℕ → Type 0
+FoundPlace t ps none = Unit {0}
+FoundPlace t ps (some i) = (i < length ps) × ((isFree (getD ps i empty) ≡ true) ⊎ (isOld t (getD ps i empty) ≡ true))
+
+pub place-spec : (t : ℕ) (ps : Places) → FoundPlace t ps (placeFor t ps)
+unfolding placeFor
+place-spec t ps = go (seek isFree ps) (seek-spec isFree ps) (seek (isOld t) ps) (seek-spec (isOld t) ps)
+  where
+    go : (a : Option ℕ) → Found isFree ps a → (b : Option ℕ) → Found (isOld t) ps b → FoundPlace t ps (orElse a b)
+    go (some i) h b k = (h .inside, inl (h .passes))
+    go none h none k = tt
+    go none h (some i) k = (k .inside, inr (k .passes))
+
+-- ── a store for another stream ──
+
+free-not-held : (d : Stream) (p : Place) → isFree p ≡ true → holds d p ≡ false
+free-not-held d empty h = refl
+free-not-held d (held e x) h = absurd (false≢true h)
+
+-- who holds one stream does not hold another
+not-both : (d e : Stream) (p : Place) → sameStream e d ≡ false → holds e p ≡ true → holds d p ≡ false
+not-both d e empty n h = refl
+not-both d e (held c x) n h = ap (λ k. sameStream k d) (same-eq c e h) ∙ n
+
+module _ (d : Stream) (t : ℕ) (ps : Places) (one : AtMostOne (sessionsOf d ps)) (i : ℕ) (q : Place) (inside : i < length ps) (foreign : holds d q ≡ false) where
+  -- the place is not the stream's, or what it holds is old
+  kept-at : (holds d (getD ps i empty) ≡ false) ⊎ (isOld t (getD ps i empty) ≡ true) → Kept d t ps (set ps i q)
+  kept-at (inl h) = still (kept d ps i q inside h foreign)
+  kept-at (inr h) = go (holds d (getD ps i empty)) refl
+    where
+      go : (b : Bool) → holds d (getD ps i empty) ≡ b → Kept d t ps (set ps i q)
+      go false k = still (kept d ps i q inside k foreign)
+      go true k =
+          let o = only d ps i (record { inside = inside; passes = k }) one in
+          aged (rw (o .sole) (old-true t (o .holder) (ap (isOld t) (sym (o .here)) ∙ h), tt)) (rw (o .freed q foreign) tt)
+
+-- ── a frame of another stream ──
+
+module _ (d : Stream) (ps : Places) (v : Parsed) (one : AtMostOne (sessionsOf d ps)) (foreign : sameStream (v .stream) d ≡ false) where
+  kept-new : (o : Option ℕ) → FoundPlace (v .time) ps o → Kept d (v .time) ps (stepNew o ps v .places)
+  unfolding stepNew
+  kept-new none h = still refl
+  kept-new (some i) h = kept-at d (v .time) ps one i (held (v .stream) (proceed (fresh v) v .session)) (h .0) foreign (go (h .1))
+    where
+      go : (isFree (getD ps i empty) ≡ true) ⊎ (isOld (v .time) (getD ps i empty) ≡ true)
+          → (holds d (getD ps i empty) ≡ false) ⊎ (isOld (v .time) (getD ps i empty) ≡ true)
+      go (inl k) = inl (free-not-held d (getD ps i empty) k)
+      go (inr k) = inr k
+
+  kept-start : (b : Bool) → Kept d (v .time) ps (stepStart b ps v .places)
+  unfolding stepStart
+  kept-start true = kept-new (placeFor (v .time) ps) (place-spec (v .time) ps)
+  kept-start false = still refl
+
+  kept-seek : (o : Option ℕ) → Found (holds (v .stream)) ps o → Kept d (v .time) ps (stepSeek o ps v .places)
+  unfolding stepSeek
+  kept-seek none h = kept-start (v .start)
+  kept-seek (some i) h =
+      kept-at d (v .time) ps one i (held (v .stream) (react (sessionIn (getD ps i empty) v) v .session)) (h .inside) foreign
+      (inl (not-both d (v .stream) (getD ps i empty) foreign (h .passes)))
+
+  kept-anonymous : (b : Bool) → Kept d (v .time) ps (stepAnonymous b ps v .places)
+  unfolding stepAnonymous
+  kept-anonymous true = still refl
+  kept-anonymous false = kept-seek (seek (holds (v .stream)) ps) (seek-spec (holds (v .stream)) ps)
+
+pub others-kept : (u : Setup) (d : Stream) (ps : Places) (r : Reception) → AtMostOne (sessionsOf d ps) → ofStream d (r .frame) ≡ false
+    → Kept d (r .frame .time) ps (step u ps r .places)
+unfolding step parsed stepChecked
+others-kept u d ps r one foreign = go (check u r) refl
+  where
+    apart : check u r ≡ none → sameStream (parsed u (r .frame) .stream) d ≡ false
+    apart e =
+        let k : ltb (r .frame .id) (2 ^ 29) ≡ true = lt-ltb (r .frame .id) (2 ^ 29) (leb-false (2 ^ 29) (r .frame .id) (accepted u (r .frame) (checked u r e) .id)) in
+        rw k at foreign
+
+    go : (o : Option ℕ) → check u r ≡ o → Kept d (r .frame .time) ps (stepChecked o (isAnonymous (r .frame .id)) ps (parsed u (r .frame)) .places)
+    go none e = kept-anonymous d ps (parsed u (r .frame)) one (apart e) (isAnonymous (r .frame .id))
+    go (some n) e = still refl
+
+-- ── no step gives a stream a second session ──
+
+module _ (ps : Places) (v : Parsed) (sole : Sole ps) where
+  sole-new : (o : Option ℕ) → FoundPlace (v .time) ps o → sessionsOf (v .stream) ps ≡ [] → Sole (stepNew o ps v .places)
+  unfolding stepNew
+  sole-new none h e = sole
+  sole-new (some i) h e = sole-store ps i (v .stream) (proceed (fresh v) v .session) (h .0) (inr e) sole
+
+  sole-start : (b : Bool) → sessionsOf (v .stream) ps ≡ [] → Sole (stepStart b ps v .places)
+  unfolding stepStart
+  sole-start true e = sole-new (placeFor (v .time) ps) (place-spec (v .time) ps) e
+  sole-start false e = sole
+
+  sole-seek : (o : Option ℕ) → Found (holds (v .stream)) ps o → Sole (stepSeek o ps v .places)
+  unfolding stepSeek
+  sole-seek none h = sole-start (v .start) (fails-none (v .stream) ps h)
+  sole-seek (some i) h = sole-store ps i (v .stream) (react (sessionIn (getD ps i empty) v) v .session) (h .inside) (inl (h .passes)) sole
+
+  sole-anonymous : (b : Bool) → Sole (stepAnonymous b ps v .places)
+  unfolding stepAnonymous
+  sole-anonymous true = sole
+  sole-anonymous false = sole-seek (seek (holds (v .stream)) ps) (seek-spec (holds (v .stream)) ps)
+
+  sole-checked : (o : Option ℕ) (b : Bool) → Sole (stepChecked o b ps v .places)
+  unfolding stepChecked
+  sole-checked none b = sole-anonymous b
+  sole-checked (some n) b = sole
+
+pub sole-step : (u : Setup) (ps : Places) (r : Reception) → Sole ps → Sole (step u ps r .places)
+unfolding step
+sole-step u ps r sole = sole-checked ps (parsed u (r .frame)) sole (check u r) (isAnonymous (r .frame .id))

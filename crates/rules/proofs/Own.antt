@@ -1,0 +1,186 @@
+-- One receiver beside a reference, a session that hears its stream alone and keeps its place: both answer a frame of the stream alike.
+use mathlib.Core.Path.{_≡_, refl, sym, ap, _∙_, subst}
+use mathlib.Core.Bool.{Bool, true, false}
+use mathlib.Core.List.{List, [], _∷_, cons≢nil, head-eq-of-cons-eq}
+use mathlib.Core.Option.{Option, none, some}
+use Prim.Native.Nat.{ℕ, _≤_, _<_}
+use native.Mathlib.Omega.{arith}
+use lib.Dec.{ltb}
+use lib.ListN.{length, getD, set}
+use borrow.Author.Tests.{eq-eqb}
+use Rattle.rules.specs.Answer.{Answer, refused, full, passed, noTransfer}
+use Rattle.rules.specs.Check.{Reception, Parsed, parsed, frameCheck}
+use Rattle.rules.specs.Condition3.{ofStream}
+use Rattle.rules.specs.Frame.{Frame, Stream, streamOf}
+use Rattle.rules.specs.Reception.{Step, store, stepNew, stepStart, sessionIn, stepSeek, stepAnonymous, stepChecked, step}
+use Rattle.rules.specs.Session.{Session, Out, next, restarts, restarted, over, takeEnd, takeLong, takes, proceedIf, proceed, reactIf, react, fresh}
+use Rattle.rules.specs.Setup.{Setup}
+use Rattle.rules.specs.Table.{empty, held, Places, seek, holds, placeFor}
+use Rattle.rules.proofs.Checks.{roomy-check, start-toggle, named-not-anonymous, of-stream}
+use Rattle.rules.proofs.Others.{Old, true-old, AllOld, Kept, still, aged, FoundPlace, place-spec}
+use Rattle.rules.proofs.Table.{Found, seek-spec, sessionsOf, fails-none, Sole, only, new-at}
+
+-- ── the reference ──
+
+unfoldable pub refIf : Option ℕ → Session → Parsed → Out
+refIf (some n) s v = record { answer = refused n; session = s }
+refIf none s v = react s v
+
+unfoldable pub ref : Setup → Session → Frame → Out
+ref u s f = refIf (frameCheck u f) s (parsed u f)
+
+unfoldable pub refRun : Setup → Session → List Frame → List Answer
+refRun u s [] = []
+refRun u s (f ∷ fs) = ref u s f .answer ∷ refRun u (ref u s f .session) fs
+
+-- the table holds the reference's session; or that is old, and so is what the table holds, if it holds one
+pub data Beside (d : Stream) (t : ℕ) (ps : Places) (s : Session) : Type 0 where
+  same : sessionsOf d ps ≡ s ∷ [] → Beside d t ps s
+  past : AllOld t (sessionsOf d ps) → Old t s → Beside d t ps s
+
+all-later : (t t' : ℕ) → t ≤ t' → (l : List Session) → AllOld t l → AllOld t' l
+all-later t t' h [] o = tt
+all-later t t' h (s ∷ l) o = (omega (arith, o .0), all-later t t' h l (o .1))
+
+pub later : {d : Stream} {t : ℕ} {ps : Places} {s : Session} (t' : ℕ) → t ≤ t' → Beside d t ps s → Beside d t' ps s
+later t' h (same e) = same e
+later {d} {t} {ps} t' h (past o os) = past (all-later t t' h (sessionsOf d ps) o) (omega arith)
+
+-- a frame of another stream keeps it
+pub beside-kept : {d : Stream} {t : ℕ} {ps qs : Places} {s : Session} → Kept d t ps qs → Beside d t ps s → Beside d t qs s
+beside-kept (still q) (same e) = same (q ∙ e)
+beside-kept {t = t} (still q) (past o os) = past (subst (AllOld t) (sym q) o) os
+beside-kept {t = t} (aged o n) (same e) = past n (subst (AllOld t) e o .0)
+beside-kept (aged o n) (past o' os) = past n os
+
+-- ── a session that a start begins: nothing of the past is left ──
+
+abbrev pub began : ℕ → Parsed → Session
+began x v = record { expected = v .transfer; gathered = []; toggle = false; since = x }
+
+end-free : (b : Bool) (x y : ℕ) (v : Parsed) (all : List ℕ) → v .start ≡ true → takeEnd b (began x v) v all ≡ takeEnd b (began y v) v all
+unfolding takeEnd
+end-free true x y v all e = rw e
+end-free false x y v all e = rw e
+
+pub long-free : (b : Bool) (x y : ℕ) (v : Parsed) (all : List ℕ) → v .start ≡ true → takeLong b (began x v) v all ≡ takeLong b (began y v) v all
+unfolding takeLong
+long-free true x y v all e = rw e
+long-free false x y v all e = end-free (v .last) x y v all e
+
+pub proceed-taken : (s : Session) (v : Parsed) → over s v ≡ none → proceed s v ≡ takes s v
+unfolding proceed proceedIf
+proceed-taken s v e = ap (λ o. proceedIf o s v) e
+
+began-taken : (x : ℕ) (v : Parsed) → v .start ≡ true → v .toggle ≡ false → over (began x v) v ≡ none
+unfolding over
+began-taken x v e g = rw (e, g, eq-eqb (v .transfer) (v .transfer) refl)
+
+pub begins : (x : ℕ) (v : Parsed) → v .start ≡ true → v .toggle ≡ false → proceed (began x v) v ≡ takes (fresh v) v
+unfolding takes
+begins x v e g =
+    proceed-taken (began x v) v (began-taken x v e g) ∙ long-free (ltb 514 (length (v .payload))) x (v .time) v (v .payload) e
+
+-- ── an old session ──
+
+old-restarts : (s : Session) (v : Parsed) → Old (v .time) s → restarts s v ≡ true
+unfolding restarts
+old-restarts s v o = rw (true-old (v .time) s o)
+
+pub react-is : (s : Session) (v : Parsed) (a b : Bool) → restarts s v ≡ a → v .start ≡ b → react s v ≡ reactIf a b s v
+unfolding react
+react-is s v a b e k = ap (λ c. reactIf c (v .start) s v) e ∙ ap (λ c. reactIf a c s v) k
+
+react-old-start : (s : Session) (v : Parsed) → Old (v .time) s → v .start ≡ true → v .toggle ≡ false → react s v ≡ takes (fresh v) v
+unfolding reactIf
+react-old-start s v o e g = react-is s v true true (old-restarts s v o) e ∙ begins (s .since) v e g
+
+react-old-other : (s : Session) (v : Parsed) → Old (v .time) s → v .start ≡ false
+    → react s v ≡ record { answer = passed noTransfer; session = restarted s (next (v .transfer)) }
+unfolding reactIf
+react-old-other s v o e = react-is s v true false (old-restarts s v o) e
+
+-- ── a frame of the stream ──
+
+pub record Agree (d : Stream) (t : ℕ) (a : Step) (o : Out) : Type 0 where
+  pub answer : a .answer ≡ o .answer
+  pub beside : Beside d t (a .places) (o .session)
+
+module _ (ps : Places) (s : Session) (v : Parsed) (proper : v .start ≡ true → v .toggle ≡ false) (sole : Sole ps) where
+  -- two old sessions go on alike
+  both-old : (x : Session) (i : ℕ) → Old (v .time) x → Old (v .time) s
+      → ((y : Session) → sessionsOf (v .stream) (set ps i (held (v .stream) y)) ≡ y ∷ [])
+      → Agree (v .stream) (v .time) (store ps i (v .stream) (react x v)) (react s v)
+  both-old x i ox os stored = go (v .start) refl
+    where
+      go : (b : Bool) → v .start ≡ b → Agree (v .stream) (v .time) (store ps i (v .stream) (react x v)) (react s v)
+      go true e =
+          let q : react x v ≡ react s v = react-old-start x v ox e (proper e) ∙ sym (react-old-start s v os e (proper e)) in
+          record { answer = ap (λ o. o .answer) q; beside = same (stored (react x v .session) ∙ ap (λ o. o .session ∷ []) q) }
+      go false e =
+          rw (react-old-other x v ox e, react-old-other s v os e)
+          (record { answer = refl; beside = past (rw (stored (restarted x (next (v .transfer)))) (ox, tt)) os })
+
+  own-found : (i : ℕ) → Found (holds (v .stream)) ps (some i) → Beside (v .stream) (v .time) ps s
+      → Agree (v .stream) (v .time) (stepSeek (some i) ps v) (react s v)
+  unfolding stepSeek Sole
+  own-found i h (same e) =
+      let m = only (v .stream) ps i h (sole (v .stream)) in
+      let q : m .holder ≡ s = head-eq-of-cons-eq (sym (m .sole) ∙ e) in
+      let k : react (sessionIn (getD ps i empty) v) v ≡ react s v = ap (λ p. react (sessionIn p v) v) (m .here) ∙ ap (λ x. react x v) q in
+      record { answer = ap (λ o. o .answer) k; beside = same (m .stored (react (sessionIn (getD ps i empty) v) v .session) ∙ ap (λ o. o .session ∷ []) k) }
+  own-found i h (past o os) =
+      let m = only (v .stream) ps i h (sole (v .stream)) in
+      rw (m .here) (both-old (m .holder) i (subst (AllOld (v .time)) (m .sole) o .0) os (m .stored))
+
+  own-new : (o : Option ℕ) → FoundPlace (v .time) ps o → sessionsOf (v .stream) ps ≡ [] → Old (v .time) s → v .start ≡ true
+      → (stepNew o ps v .answer ≡ full → ⊥) → Agree (v .stream) (v .time) (stepNew o ps v) (react s v)
+  unfolding stepNew
+  own-new none h e os st nf = absurd (nf refl)
+  own-new (some i) h e os st nf =
+      let q : proceed (fresh v) v ≡ react s v = begins (v .time) v st (proper st) ∙ sym (react-old-start s v os st (proper st)) in
+      record {
+        answer = ap (λ o. o .answer) q;
+        beside = same (new-at (v .stream) ps i (proceed (fresh v) v .session) (h .0) e ∙ ap (λ o. o .session ∷ []) q);
+      }
+
+  own-start : (b : Bool) → v .start ≡ b → sessionsOf (v .stream) ps ≡ [] → Old (v .time) s
+      → (b ≡ true → stepStart b ps v .answer ≡ full → ⊥) → Agree (v .stream) (v .time) (stepStart b ps v) (react s v)
+  unfolding stepStart
+  own-start true st e os nf = own-new (placeFor (v .time) ps) (place-spec (v .time) ps) e os st (nf refl)
+  own-start false st e os nf = rw (react-old-other s v os st) (record { answer = refl; beside = past (rw e tt) os })
+
+  own-none : sessionsOf (v .stream) ps ≡ [] → Beside (v .stream) (v .time) ps s
+      → (v .start ≡ true → stepStart (v .start) ps v .answer ≡ full → ⊥) → Agree (v .stream) (v .time) (stepStart (v .start) ps v) (react s v)
+  own-none e (same k) nf = absurd (cons≢nil (sym k ∙ e))
+  own-none e (past o os) nf = own-start (v .start) refl e os nf
+
+  own-seek : (o : Option ℕ) → Found (holds (v .stream)) ps o → Beside (v .stream) (v .time) ps s
+      → (v .start ≡ true → stepSeek o ps v .answer ≡ full → ⊥) → Agree (v .stream) (v .time) (stepSeek o ps v) (react s v)
+  unfolding stepSeek
+  own-seek none h b nf = own-none (fails-none (v .stream) ps h) b nf
+  own-seek (some i) h b nf = own-found i h b
+
+own-stream : (u : Setup) (ps : Places) (s : Session) (r : Reception) → Sole ps
+    → 0 < streamOf (r .frame .id) .source → 512 ≤ r .room → Beside (streamOf (r .frame .id)) (r .frame .time) ps s
+    → (parsed u (r .frame) .start ≡ true → step u ps r .answer ≡ full → ⊥)
+    → Agree (streamOf (r .frame .id)) (r .frame .time) (step u ps r) (ref u s (r .frame))
+unfolding step parsed stepChecked stepAnonymous ref refIf
+own-stream u ps s r sole named room beside nf =
+    rw (roomy-check u r room, named-not-anonymous (r .frame .id) named)
+    (go (frameCheck u (r .frame)) refl (rw (roomy-check u r room, named-not-anonymous (r .frame .id) named) at nf))
+  where
+    v : Parsed
+    v = parsed u (r .frame)
+
+    go : (o : Option ℕ) → frameCheck u (r .frame) ≡ o → (v .start ≡ true → stepChecked o false ps v .answer ≡ full → ⊥)
+        → Agree (streamOf (r .frame .id)) (r .frame .time) (stepChecked o false ps v) (refIf o s v)
+    go none e n = own-seek ps s v (start-toggle u (r .frame) e) sole (seek (holds (v .stream)) ps) (seek-spec (holds (v .stream)) ps) beside n
+    go (some n) e k = record { answer = refl; beside = beside }
+
+pub own : (u : Setup) (d : Stream) (t : ℕ) (ps : Places) (s : Session) (r : Reception) → Sole ps
+    → 0 < d .source → ofStream d (r .frame) ≡ true → t ≤ r .frame .time → 512 ≤ r .room → Beside d t ps s
+    → (parsed u (r .frame) .start ≡ true → step u ps r .answer ≡ full → ⊥) → Agree d (r .frame .time) (step u ps r) (ref u s (r .frame))
+own u d t ps s r sole named e h room beside nf =
+    subst (λ k. 0 < k .source → Beside k (r .frame .time) ps s → Agree k (r .frame .time) (step u ps r) (ref u s (r .frame)))
+    (of-stream d (r .frame) e) (λ n l. own-stream u ps s r sole n room l nf) named (later (r .frame .time) h beside)

@@ -1,0 +1,194 @@
+-- What a reception answers is in its range.
+use mathlib.Core.Path.{_≡_, refl}
+use mathlib.Core.Bool.{Bool, true, false}
+use mathlib.Core.List.{List, [], _∷_, _++_}
+use mathlib.Core.Option.{Option, none, some}
+use mathlib.Mathlib.Data.Bool.Basic.{or-eq-false-eq-eq-false-and-eq-false as or-off}
+use Prim.Native.Nat.{ℕ, _/_, _%_, _^_, _-_, _≤_, _<_}
+use native.Mathlib.Omega.{arith}
+use lib.Dec.{ltb, eqb}
+use lib.ListN.{length, take, drop, getD, length-take, length-drop}
+use borrow.Author.Tests.{ltb-false, leb-false}
+use Rattle.rules.specs.Answer.{Reason}
+use Rattle.rules.specs.Check.{Reception, Parsed, parsed, largeId, badLength, unnamedService, badTailIn, forAnother, notSubscribed, frameCheck, roomCheck, check}
+use Rattle.rules.specs.Frame.{Frame, isService, isAnonymous, sourceOf, streamIf, streamOf}
+use Rattle.rules.specs.Range.{HandedRange, Ranged, RangeLaw}
+use Rattle.rules.specs.Reception.{sessionIn, stepNew, stepStart, stepSeek, stepAnonymous, stepChecked, step}
+use Rattle.rules.specs.Session.{Session, sumOk, closing, takeEnd, takeLong, takes, overIf, over, proceedIf, proceed, reactIf, react, restarts, restarted, fresh}
+use Rattle.rules.specs.Setup.{Setup}
+use Rattle.rules.specs.Table.{Places, empty, seek, holds, placeFor}
+use Rattle.rules.specs.Tests.{bit, pick, isEmpty, sameBool}
+use Rattle.rules.proofs.Checks.{Accepted, accepted, checked}
+
+-- ── a frame that passes the checks ──
+
+abbrev Headed : Parsed → Type 0
+Headed v = HandedRange (v .payload) (v .stream) (v .priority) (v .transfer) × (length (v .payload) ≤ 7)
+
+headed : (u : Setup) (f : Frame) → Accepted u f → Headed (parsed u f)
+unfolding parsed streamOf
+headed u f a = go (isService (f .id))
+  where
+    id-lt : f .id < 2 ^ 29
+    id-lt = leb-false (2 ^ 29) (f .id) (a .id)
+
+    short : length (take (length (f .bytes) - 1) (f .bytes)) ≤ 7
+    short =
+        let l = ltb-false 8 (length (f .bytes)) (or-off (eqb (length (f .bytes)) 0) (ltb 8 (length (f .bytes))) .0 (a .length) .1) in
+        omega (arith, length-take (length (f .bytes) - 1) (f .bytes), l)
+
+    kinds : (b : Bool) → pick {A = ℕ} b 1 2 < 3
+    kinds true = omega arith
+    kinds false = omega arith
+
+    types : (b : Bool) → pick b (f .id / 256 % 4) (f .id / 256 % 65536) < 65536
+    types true = omega arith
+    types false = omega arith
+
+    go : (b : Bool) → HandedRange (take (length (f .bytes) - 1) (f .bytes)) (streamIf b (f .id)) (f .id / 16777216) (getD (f .bytes) (length (f .bytes) - 1) 0 % 32)
+        × (length (take (length (f .bytes) - 1) (f .bytes)) ≤ 7)
+    go true = (
+      record {
+        length = omega (arith, short);
+        kind = kinds (bit (f .id) 32768);
+        type = omega arith;
+        source = omega arith;
+        destination = omega arith;
+        priority = omega (arith, id-lt);
+        transfer = omega arith;
+      },
+      short,
+    )
+    go false = (
+      record {
+        length = omega (arith, short);
+        kind = omega arith;
+        type = types (eqb (sourceOf (f .id)) 0);
+        source = omega arith;
+        destination = omega arith;
+        priority = omega (arith, id-lt);
+        transfer = omega arith;
+      },
+      short,
+    )
+
+-- ── a session ──
+
+module _ (v : Parsed) (h : Headed v) where
+  with-payload : (p : List ℕ) → length p ≤ 512 → HandedRange p (v .stream) (v .priority) (v .transfer)
+  with-payload p n =
+      let r = h .0 in
+      record {
+        length = n;
+        kind = r .kind;
+        type = r .type;
+        source = r .source;
+        destination = r .destination;
+        priority = r .priority;
+        transfer = r .transfer;
+      }
+
+  closed-range : (start ok : Bool) (all : List ℕ) → length all ≤ 514 → (start ≡ true → length all ≤ 7) → Ranged (closing start ok all v)
+  unfolding closing
+  closed-range true ok all n k = with-payload all (omega (arith, k refl))
+  closed-range false true all n k = with-payload (drop 2 all) (omega (arith, length-drop 2 all, n))
+  closed-range false false all n k = tt
+
+  end-range : (last : Bool) (s : Session) (all : List ℕ) → length all ≤ 514 → (v .start ≡ true → length all ≤ 7) → Ranged (takeEnd last s v all .answer)
+  unfolding takeEnd
+  end-range false s all n k = tt
+  end-range true s all n k = closed-range (v .start) (sumOk (v .signature) all) all n k
+
+  long-range : (b : Bool) (s : Session) (all : List ℕ) → ltb 514 (length all) ≡ b → (v .start ≡ true → length all ≤ 7) → Ranged (takeLong b s v all .answer)
+  unfolding takeLong
+  long-range true s all e k = tt
+  long-range false s all e k = end-range (v .last) s all (ltb-false 514 (length all) e) k
+
+  take-range : (s : Session) → (v .start ≡ true → length (s .gathered ++ v .payload) ≤ 7) → Ranged (takes s v .answer)
+  unfolding takes
+  take-range s k = long-range (ltb 514 (length (s .gathered ++ v .payload))) s (s .gathered ++ v .payload) refl k
+
+  -- a start that is taken meets nothing in hand
+  start-empty : (start expected hand toggle : Bool) → overIf start expected hand toggle ≡ none → start ≡ true → hand ≡ true
+  start-empty true true true toggle e k = refl
+  start-empty true true false toggle e k = let z : _≡_ {A = ℕ} 0 1 = cc in absurd (omega arith)
+  start-empty true false hand toggle e k = let z : _≡_ {A = ℕ} 0 1 = cc in absurd (omega arith)
+  start-empty false expected hand toggle e k = let z : _≡_ {A = ℕ} 0 1 = cc in absurd (omega arith)
+
+  from-empty : (g : List ℕ) → isEmpty g ≡ true → length (g ++ v .payload) ≤ 7
+  from-empty [] e = h .1
+  from-empty (x ∷ g) e = let z : _≡_ {A = ℕ} 0 1 = cc in absurd (omega arith)
+
+  proceed-range : (s : Session) → Ranged (proceed s v .answer)
+  unfolding proceed over proceedIf
+  proceed-range s = go (over s v) refl
+    where
+      go : (o : Option Reason) → over s v ≡ o → Ranged (proceedIf o s v .answer)
+      go (some r) e = tt
+      go none e =
+          take-range s (λ k. from-empty (s .gathered) (start-empty (v .start) (eqb (v .transfer) (s .expected)) (isEmpty (s .gathered)) (sameBool (v .toggle) (s .toggle)) e k))
+
+  react-range : (s : Session) → Ranged (react s v .answer)
+  unfolding react reactIf
+  react-range s = go (restarts s v) (v .start)
+    where
+      go : (a b : Bool) → Ranged (reactIf a b s v .answer)
+      go true true = proceed-range (restarted s (v .transfer))
+      go true false = tt
+      go false b = proceed-range s
+
+  -- ── the table ──
+
+  find-range : (ps : Places) (o : Option ℕ) → Ranged (stepSeek o ps v .answer)
+  unfolding stepSeek stepStart stepNew
+  find-range ps (some i) = react-range (sessionIn (getD ps i empty) v)
+  find-range ps none = start (v .start)
+    where
+      new : (o : Option ℕ) → Ranged (stepNew o ps v .answer)
+      new none = tt
+      new (some i) = proceed-range (fresh v)
+
+      start : (b : Bool) → Ranged (stepStart b ps v .answer)
+      start false = tt
+      start true = new (placeFor (v .time) ps)
+
+  named-range : (anonymous : Bool) (ps : Places) → Ranged (stepAnonymous anonymous ps v .answer)
+  unfolding stepAnonymous
+  named-range true ps = h .0
+  named-range false ps = find-range ps (seek (holds (v .stream)) ps)
+
+-- ── the checks ──
+
+abbrev Small : Option ℕ → Type 0
+Small none = Unit {0}
+Small (some n) = n ≤ 8
+
+or-next : (b : Bool) (n : ℕ) (o : Option ℕ) → n ≤ 8 → Small o → Small (pick b (some n) o)
+or-next true n o h k = h
+or-next false n o h k = k
+
+frame-small : (u : Setup) (f : Frame) → Small (frameCheck u f)
+unfolding frameCheck
+frame-small u f =
+    or-next (largeId f) 2 _ (omega arith)
+    (or-next (badLength f) 3 _ (omega arith)
+    (or-next (unnamedService f) 4 _ (omega arith)
+    (or-next (badTailIn f) 5 _ (omega arith) (or-next (forAnother u f) 6 _ (omega arith) (or-next (notSubscribed u f) 7 none (omega arith) tt)))))
+
+check-small : (u : Setup) (r : Reception) → Small (check u r)
+unfolding check
+check-small u r = go (frameCheck u (r .frame)) (ltb (r .room) 512) (frame-small u (r .frame))
+  where
+    go : (o : Option ℕ) (b : Bool) → Small o → Small (roomCheck o b)
+    go (some n) b k = k
+    go none true k = omega arith
+    go none false k = tt
+
+pub ranges : RangeLaw
+unfolding step stepChecked
+ranges u ps r = go (check u r) refl (check-small u r)
+  where
+    go : (o : Option ℕ) → check u r ≡ o → Small o → Ranged (stepChecked o (isAnonymous (r .frame .id)) ps (parsed u (r .frame)) .answer)
+    go (some n) e k = k
+    go none e k =
+        named-range (parsed u (r .frame)) (headed u (r .frame) (accepted u (r .frame) (checked u r e))) (isAnonymous (r .frame .id)) ps

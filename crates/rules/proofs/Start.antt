@@ -1,0 +1,135 @@
+-- A start that is taken leaves nothing of the past: the session is as the start alone would begin it.
+use mathlib.Core.Path.{_≡_, refl, sym, ap, _∙_, subst}
+use mathlib.Core.Bool.{Bool, true, false, false≢true, true≢false}
+use mathlib.Core.List.{List, [], _∷_}
+use mathlib.Core.Option.{Option, none, some}
+use Prim.Native.Nat.{ℕ, _<_}
+use native.Mathlib.Omega.{arith}
+use lib.Dec.{ltb, eqb}
+use lib.ListN.{length, getD}
+use borrow.Author.Tests.{eqb-true}
+use Rattle.rules.specs.Answer.{Reason}
+use Rattle.rules.specs.Check.{Reception, Parsed, parsed, frameCheck, check}
+use Rattle.rules.specs.Condition3.{ofStream, took}
+use Rattle.rules.specs.Frame.{Stream, streamOf, isAnonymous}
+use Rattle.rules.specs.Reception.{Step, stepNew, stepStart, sessionIn, stepSeek, stepAnonymous, stepChecked, step}
+use Rattle.rules.specs.Session.{Session, Out, restarts, overStart, overIf, over, takes, proceedIf, proceed, reactIf, react, fresh}
+use Rattle.rules.specs.Setup.{Setup}
+use Rattle.rules.specs.Table.{empty, Places, seek, holds, placeFor}
+use Rattle.rules.specs.Tests.{sameBool, isEmpty}
+use Rattle.rules.proofs.Checks.{checked, start-toggle, named-not-anonymous, of-stream}
+use Rattle.rules.proofs.Others.{FoundPlace, place-spec}
+use Rattle.rules.proofs.Own.{began, long-free, begins, react-is}
+use Rattle.rules.proofs.Table.{Found, seek-spec, sessionsOf, fails-none, Sole, only, new-at}
+
+-- ── one session ──
+
+start-taken : (a b c : Bool) → overStart a b c ≡ none → (a ≡ true) × (b ≡ true) × (c ≡ true)
+start-taken true true true e = (refl, refl, refl)
+start-taken true true false e = let z : _≡_ {A = ℕ} 0 1 = cc in absurd (omega arith)
+start-taken true false c e = let z : _≡_ {A = ℕ} 0 1 = cc in absurd (omega arith)
+start-taken false b c e = let z : _≡_ {A = ℕ} 0 1 = cc in absurd (omega arith)
+
+same-false : (a b : Bool) → sameBool a b ≡ true → a ≡ false → b ≡ false
+same-false true b e k = absurd (true≢false k)
+same-false false true e k = sym e
+same-false false false e k = refl
+
+is-empty : (l : List ℕ) → isEmpty l ≡ true → l ≡ []
+is-empty [] e = refl
+is-empty (b ∷ l) e = absurd (false≢true e)
+
+-- a session that takes a start was as one that the start begins
+took-began : (s : Session) (v : Parsed) → v .start ≡ true → v .toggle ≡ false → over s v ≡ none → s ≡ began (s .since) v
+unfolding over
+took-began s v st g e =
+    let k = start-taken (eqb (v .transfer) (s .expected)) (isEmpty (s .gathered)) (sameBool (v .toggle) (s .toggle))
+    (ap (λ b. overIf b (eqb (v .transfer) (s .expected)) (isEmpty (s .gathered)) (sameBool (v .toggle) (s .toggle))) (sym st) ∙ e) in
+    let a = eqb-true (v .transfer) (s .expected) (k .0) in
+    let b = is-empty (s .gathered) (k .1) in
+    let c = same-false (v .toggle) (s .toggle) (k .2) g in
+    λ i. record { expected = sym a i; gathered = b i; toggle = c i; since = s .since }
+
+-- and takes it as such
+module _ (v : Parsed) (st : v .start ≡ true) (g : v .toggle ≡ false) where
+  took-proceed : (s : Session) (o : Option Reason) → over s v ≡ o → took (proceedIf o s v .answer) ≡ true → proceedIf o s v ≡ takes (fresh v) v
+  unfolding proceedIf takes
+  took-proceed s (some r) e t = absurd (false≢true t)
+  took-proceed s none e t =
+      ap (λ x. takes x v) (took-began s v st g e) ∙ long-free (ltb 514 (length (v .payload))) (s .since) (v .time) v (v .payload) st
+
+  took-react : (s : Session) → took (react s v .answer) ≡ true → react s v ≡ takes (fresh v) v
+  unfolding reactIf proceed
+  took-react s t = go (restarts s v) refl
+    where
+      go : (b : Bool) → restarts s v ≡ b → react s v ≡ takes (fresh v) v
+      go true e = react-is s v true true e st ∙ begins (s .since) v st g
+      go false e =
+          let q = react-is s v false true e st in
+          q ∙ took-proceed s (over s v) refl (subst (λ o. took (o .answer) ≡ true) q t)
+
+-- ── the table ──
+
+-- the answer, and the one session of the stream after it
+pub record Began (d : Stream) (a : Step) (o : Out) : Type 0 where
+  pub answer : a .answer ≡ o .answer
+  pub session : sessionsOf d (a .places) ≡ o .session ∷ []
+
+module _ (ps : Places) (v : Parsed) (st : v .start ≡ true) (g : v .toggle ≡ false) (sole : Sole ps) where
+  began-new : (o : Option ℕ) → FoundPlace (v .time) ps o → sessionsOf (v .stream) ps ≡ [] → took (stepNew o ps v .answer) ≡ true
+      → Began (v .stream) (stepNew o ps v) (takes (fresh v) v)
+  unfolding stepNew
+  began-new none h e t = absurd (false≢true t)
+  began-new (some i) h e t =
+      let q = begins (v .time) v st g in
+      record {
+        answer = ap (λ o. o .answer) q;
+        session = new-at (v .stream) ps i (proceed (fresh v) v .session) (h .0) e ∙ ap (λ o. o .session ∷ []) q;
+      }
+
+  began-start : (b : Bool) → b ≡ true → sessionsOf (v .stream) ps ≡ [] → took (stepStart b ps v .answer) ≡ true
+      → Began (v .stream) (stepStart b ps v) (takes (fresh v) v)
+  unfolding stepStart
+  began-start true k e t = began-new (placeFor (v .time) ps) (place-spec (v .time) ps) e t
+  began-start false k e t = absurd (false≢true t)
+
+  began-seek : (o : Option ℕ) → Found (holds (v .stream)) ps o → took (stepSeek o ps v .answer) ≡ true
+      → Began (v .stream) (stepSeek o ps v) (takes (fresh v) v)
+  unfolding stepSeek Sole
+  began-seek none h t = began-start (v .start) st (fails-none (v .stream) ps h) t
+  began-seek (some i) h t =
+      let q = took-react v st g (sessionIn (getD ps i empty) v) t in
+      record {
+        answer = ap (λ o. o .answer) q;
+        session = only (v .stream) ps i h (sole (v .stream)) .stored (react (sessionIn (getD ps i empty) v) v .session) ∙ ap (λ o. o .session ∷ []) q;
+      }
+
+-- what is taken passed the checks
+pub took-checked : (u : Setup) (ps : Places) (r : Reception) → took (step u ps r .answer) ≡ true → frameCheck u (r .frame) ≡ none
+unfolding step stepChecked
+took-checked u ps r t = go (check u r) refl t
+  where
+    go : (o : Option ℕ) → check u r ≡ o → took (stepChecked o (isAnonymous (r .frame .id)) ps (parsed u (r .frame)) .answer) ≡ true → frameCheck u (r .frame) ≡ none
+    go none e k = checked u r e
+    go (some n) e k = absurd (false≢true k)
+
+began-stream : (u : Setup) (ps : Places) (r : Reception) → 0 < streamOf (r .frame .id) .source → parsed u (r .frame) .start ≡ true → Sole ps
+    → took (step u ps r .answer) ≡ true → Began (streamOf (r .frame .id)) (step u ps r) (takes (fresh (parsed u (r .frame))) (parsed u (r .frame)))
+unfolding step stepChecked stepAnonymous parsed
+began-stream u ps r named st sole t =
+    rw (named-not-anonymous (r .frame .id) named) (go (check u r) refl (rw (named-not-anonymous (r .frame .id) named) at t))
+  where
+    v : Parsed
+    v = parsed u (r .frame)
+
+    go : (o : Option ℕ) → check u r ≡ o → took (stepChecked o false ps v .answer) ≡ true
+        → Began (streamOf (r .frame .id)) (stepChecked o false ps v) (takes (fresh v) v)
+    go none e k =
+        began-seek ps v st (start-toggle u (r .frame) (checked u r e) st) sole (seek (holds (v .stream)) ps) (seek-spec (holds (v .stream)) ps) k
+    go (some n) e k = absurd (false≢true k)
+
+pub began-by : (u : Setup) (d : Stream) (ps : Places) (r : Reception) → 0 < d .source → ofStream d (r .frame) ≡ true → parsed u (r .frame) .start ≡ true
+    → Sole ps → took (step u ps r .answer) ≡ true → Began d (step u ps r) (takes (fresh (parsed u (r .frame))) (parsed u (r .frame)))
+began-by u d ps r named e st sole t =
+    subst (λ k. 0 < k .source → Began k (step u ps r) (takes (fresh (parsed u (r .frame))) (parsed u (r .frame))))
+    (of-stream d (r .frame) e) (λ n. began-stream u ps r n st sole t) named

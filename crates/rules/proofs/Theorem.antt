@@ -1,0 +1,175 @@
+-- Condition 3: the theorem.
+use mathlib.Core.Path.{_≡_, refl, sym, ap, _∙_, subst}
+use mathlib.Core.Bool.{Bool, true, false}
+use mathlib.Core.List.{List, [], _∷_}
+use mathlib.Core.Option.{some}
+use mathlib.Mathlib.Data.Bool.Basic.{and-elim-left, and-elim-right}
+use Prim.Native.Nat.{ℕ, suc, _+_, _*_, _/_, _%_, _≤_, _<_}
+use native.Mathlib.Omega.{arith}
+use lib.Dec.{eqb, leb}
+use lib.ListN.{length, take}
+use lib.Seq.{take-all, take-length}
+use borrow.Author.Tests.{eq-eqb, lt-leb, leb-true, leb-false}
+use Rattle.checksum.specs.Crc16.{checksum}
+use Rattle.rules.specs.Answer.{Answer, taken, handed, refused, full, passed, long, differs}
+use Rattle.rules.specs.Check.{Reception, parsed}
+use Rattle.rules.specs.Condition3.{Past, setUp, lent, heard, ofStream, startOf, keep, framesWith, answersTo, Receiver, startIn, started, frames, answers, took, front, While, Brings, next, again, Transfer, handouts, Condition3}
+use Rattle.rules.specs.Frame.{Frame, Stream, streamOf, priorityOf, isAnonymous, isStart, tailOf}
+use Rattle.rules.specs.Reception.{step, after}
+use Rattle.rules.specs.Sent.{withSum, carried, carrying, sent, idOf}
+use Rattle.rules.specs.Session.{Out, closing, takes, fresh}
+use Rattle.rules.specs.Setup.{Setup, signatureFor}
+use Rattle.rules.specs.Sound.{streamFits, placesFit, sound}
+use Rattle.rules.specs.Table.{Places}
+use Rattle.rules.proofs.Checks.{Accepted, accepted, named-not-anonymous, of-stream}
+use Rattle.rules.proofs.Delivery.{closings, verdict, closes-once}
+use Rattle.rules.proofs.Follow.{frames-upto, answers-upto, answers-length, follow}
+use Rattle.rules.proofs.Frames.{carried-short, carried-long}
+use Rattle.rules.proofs.Ids.{id-priority}
+use Rattle.rules.proofs.Lasting.{apart-sole, stream-fits, lasting}
+use Rattle.rules.proofs.Others.{sole-step}
+use Rattle.rules.proofs.Own.{refRun, same}
+use Rattle.rules.proofs.Start.{took-checked, began-by}
+use Rattle.rules.proofs.Table.{Sole}
+
+-- ── pasts ──
+
+sound-after : (u : Setup) (ps : Places) (l : List Reception) → sound ps ≡ true → sound (after u ps l) ≡ true
+unfolding after
+sound-after u ps [] h = h
+sound-after u ps (r ∷ rs) h = sound-after u (step u ps r .places) rs (lasting .reception u ps r h)
+
+past-sound : (u : Setup) (ps : Places) → Past u ps → sound ps ≡ true
+past-sound u ps setUp = lasting .setup
+past-sound u ps (lent h) = h
+past-sound u ps (heard {ps = qs} h l) = sound-after u qs l (past-sound u qs h)
+
+past-sole : (u : Setup) (ps : Places) → Past u ps → Sole ps
+unfolding sound
+past-sole u ps h = apart-sole ps (and-elim-right (placesFit ps) _ (and-elim-right (eqb (length ps) 32) _ (past-sound u ps h)))
+
+-- ── the frames of a payload ──
+
+sender : {id till : ℕ} {ms : List (List ℕ)} {f : Frame} {fs : List Frame} → Brings id till ms (f ∷ fs) → f .id ≡ id
+sender (next t h b) = refl
+sender (again t h b) = refl
+
+carried-most : (signature : ℕ) (p : List ℕ) → length p ≤ 512 → length (carried signature p) ≤ 514
+carried-most signature p h = go (leb (length p) 7) refl
+  where
+    go : (b : Bool) → leb (length p) 7 ≡ b → length (carried signature p) ≤ 514
+    go true e = rw (carried-short signature p (leb-true (length p) 7 e)) (omega arith)
+    go false e = rw (carried-long signature p (leb-false (length p) 7 e)) (omega arith)
+
+-- what a correctly sent payload closes with is the payload
+unaltered : (u : Setup) (id t signature : ℕ) (p : List ℕ) → signatureFor u id ≡ some signature
+    → verdict u id t (carried signature p) (leb (length (carried signature p)) 7) ≡ handed p (streamOf id) (priorityOf id) t
+unfolding closing
+unaltered u id t signature p e = go (leb (length p) 7) refl
+  where
+    go : (b : Bool) → leb (length p) 7 ≡ b
+        → verdict u id t (carried signature p) (leb (length (carried signature p)) 7) ≡ handed p (streamOf id) (priorityOf id) t
+    go true k = rw (carried-short signature p (leb-true (length p) 7 k), k)
+    go false k =
+        let h = leb-false (length p) 7 k in
+        rw (
+          carried-long signature p h,
+          lt-leb (length (withSum signature p)) 7 (omega arith),
+          e,
+          eq-eqb (checksum signature p % 256 + 256 * (checksum signature p / 256)) (checksum signature p) (omega arith),
+        )
+
+handouts-closings : (l : List Answer) → handouts l ≡ handouts (closings l)
+handouts-closings [] = refl
+handouts-closings (taken ∷ l) = handouts-closings l
+handouts-closings (handed p d priority t ∷ l) = ap (λ k. handed p d priority t ∷ k) (handouts-closings l)
+handouts-closings (refused n ∷ l) = ap (λ k. keep (eqb n 1) (refused n) k) (handouts-closings l)
+handouts-closings (full ∷ l) = handouts-closings l
+handouts-closings (passed r ∷ l) = handouts-closings l
+handouts-closings (long ∷ l) = handouts-closings l
+handouts-closings (differs ∷ l) = handouts-closings l
+
+-- ── one receiver ──
+
+-- what one receiver owes at the start
+pub record Starts (u : Setup) (d : Stream) (f : Frame) (x : Receiver) : Type 0 where
+  pub past : Past u (x .places)
+  pub named : 0 < d .source
+  pub start : startOf d f ≡ true
+  pub takes : took (started u f x .answer) ≡ true
+
+abbrev pub first : Setup → Frame → Out
+first u f = takes (fresh (parsed u f)) (parsed u f)
+
+module _ (u : Setup) (d : Stream) (f : Frame) (x : Receiver) (s : Starts u d f x) where
+  mine : ofStream d f ≡ true
+  mine = and-elim-left (ofStream d f) (isStart (tailOf (f .bytes))) (s .start)
+
+  -- it answers as the reference that begins with the start
+  pub as-reference : (k : ℕ) → While u d f k x
+      → take (suc k) (answers u d f x) ≡ first u f .answer ∷ refRun u (first u f .session) (take k (frames d x))
+  unfolding answersTo parsed
+  as-reference k w =
+      let sole = past-sole u (x .places) (s .past) in
+      let b = began-by u d (x .places) (startIn f x) (s .named) mine (and-elim-right (ofStream d f) _ (s .start)) sole (s .takes) in
+      let qs = started u f x .places in
+      let q = follow u d (s .named) (f .time) qs (first u f .session) (front d k x) (w .time) (w .room) (w .table)
+      (sole-step u (x .places) (startIn f x) sole) (same (b .session)) in
+      rw mine
+      (ap (λ a. a ∷ take k (answersTo (ofStream d) u qs (x .list))) (b .answer)
+      ∙ ap (λ l. first u f .answer ∷ l) (sym (answers-upto (ofStream d) u qs (x .list) k) ∙ q ∙ ap (refRun u (first u f .session)) (frames-upto (ofStream d) (x .list) k)))
+
+  -- all of its answers, where the premises hold up to the stream's last frame
+  pub all-answers : While u d f (length (frames d x)) x
+      → answers u d f x ≡ first u f .answer ∷ refRun u (first u f .session) (frames d x)
+  unfolding framesWith
+  all-answers w =
+      let n = length (frames d x) in
+      let c : length (answers u d f x) ≤ suc n = rw (answers-length (ofStream d) u (x .places) (startIn f x ∷ x .list), mine) (omega arith) in
+      sym (take-all (suc n) (answers u d f x) c) ∙ as-reference n w
+      ∙ ap (λ fs. first u f .answer ∷ refRun u (first u f .session) fs) (take-length (frames d x))
+
+  -- ── a transfer ──
+
+  abbrev ok : Accepted u f
+  ok = accepted u f (took-checked u (x .places) (startIn f x) (s .takes))
+
+  stream-is : streamOf (f .id) ≡ d
+  stream-is = of-stream d f mine
+
+  not-anonymous : isAnonymous (f .id) ≡ false
+  not-anonymous = named-not-anonymous (f .id) (rw stream-is (s .named))
+
+  -- of the answers to frames that carry some bytes, one alone neither takes nor passes over
+  pub closes : (t : ℕ) → t < 32 → (all : List ℕ) → length all ≤ 514 → While u d f (length (frames d x)) x
+      → Brings (f .id) (f .time + 2000000) (carrying t all) (f ∷ frames d x)
+      → closings (answers u d f x) ≡ verdict u (f .id) t all (leb (length all) 7) ∷ []
+  closes t small all most w b = ap closings (all-answers w) ∙ closes-once u f ok not-anonymous t small all most (frames d x) b
+
+  hands-out : (priority t : ℕ) (p : List ℕ) → Transfer u d f (frames d x) priority t p
+      → While u d f (length (frames d x)) x → handouts (answers u d f x) ≡ handed p d priority t ∷ []
+  unfolding sent
+  hands-out priority t p tr w =
+      let i : f .id ≡ idOf d priority = sender (tr .brings) in
+      let e : priorityOf (f .id) ≡ priority = ap priorityOf i ∙ id-priority d priority (subst (λ k. streamFits k ≡ true) stream-is (stream-fits u f ok not-anonymous)) in
+      handouts-closings (answers u d f x)
+      ∙ ap handouts
+      (closes t (tr .fields .1) (carried (tr .signature) p) (carried-most (tr .signature) p (tr .size)) w
+      (subst (λ id. Brings id (f .time + 2000000) (carrying t (carried (tr .signature) p)) (f ∷ frames d x)) (sym i) (tr .brings))
+      ∙ ap (λ a. a ∷ []) (unaltered u (f .id) t (tr .signature) p (ap (signatureFor u) i ∙ tr .subscribed)))
+      ∙ λ j. handed p (stream-is j) (e j) t ∷ []
+
+pub theorem : Condition3
+theorem u d f x y h =
+    record {
+      alike = λ k v w. as-reference u d f x (starts x (h .pasts .0) (h .take .0)) k v
+          ∙ ap (λ fs. first u f .answer ∷ refRun u (first u f .session) (take k fs)) (h .same)
+          ∙ sym (as-reference u d f y (starts y (h .pasts .1) (h .take .1)) k w);
+      delivered = λ priority t p tr v w. (
+        hands-out u d f x (starts x (h .pasts .0) (h .take .0)) priority t p tr v,
+        hands-out u d f y (starts y (h .pasts .1) (h .take .1)) priority t p (subst (λ fs. Transfer u d f fs priority t p) (h .same) tr) w,
+      );
+    }
+  where
+    starts : (z : Receiver) → Past u (z .places) → took (started u f z .answer) ≡ true → Starts u d f z
+    starts z p t = record { past = p; named = h .named; start = h .start; takes = t }

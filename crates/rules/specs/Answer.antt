@@ -1,0 +1,31 @@
+-- 01, Numbers answered: the answers of a reception.
+use mathlib.Core.List.{List}
+use Prim.Native.Nat.{ℕ}
+use Rattle.rules.specs.Frame.{Stream}
+
+-- why a frame is passed over
+pub data Reason : Type 0 where
+  noTransfer : Reason  -- no start, and no transfer is in hand
+  wrongToggle : Reason
+  wrongTransfer : Reason  -- the transfer ID is not the expected one
+  repeatedStart : Reason  -- a start of the transfer that is in hand
+
+pub data Answer : Type 0 where
+  taken : Answer
+  -- the payload, the stream, the closing frame's priority and transfer ID
+  handed : List ℕ → Stream → ℕ → ℕ → Answer
+  -- by one of the frame checks, with its number
+  refused : ℕ → Answer
+  full : Answer
+  passed : Reason → Answer
+  long : Answer
+  differs : Answer
+
+abbrev pub numberOf : Answer → ℕ
+numberOf taken = 0
+numberOf (handed p s prio t) = 1
+numberOf (refused n) = n
+numberOf full = 9
+numberOf (passed r) = 10
+numberOf long = 11
+numberOf differs = 12

@@ -1,0 +1,124 @@
+-- A case that meets every premise of condition 3: a transfer of three frames, each repeated, heard by two receivers that have nothing else in common.
+use mathlib.Core.Path.{_≡_}
+use mathlib.Core.Bool.{true, false}
+use mathlib.Core.List.{List, [], _∷_}
+use Prim.Native.Nat.{ℕ, zero, suc, _^_}
+use lib.ListN.{take}
+use Rattle.rules.specs.Answer.{handed}
+use Rattle.rules.specs.Check.{Reception}
+use Rattle.rules.specs.Condition3.{Receiver, frames, answers, Premises, While, Transfer, handouts}
+use Rattle.rules.specs.Frame.{Frame, Stream}
+use Rattle.rules.specs.Reception.{after}
+use Rattle.rules.specs.Sent.{frameAt}
+use Rattle.rules.specs.Setup.{Setup}
+use Rattle.rules.specs.Table.{held, Places, begun}
+
+-- ── the stream ──
+
+-- three types of message, any signatures
+abbrev pub setup : Setup
+setup =
+    record {
+      own = 1;
+      subscriptions =
+          record { kind = 0; type = 1; signature = 7 } ∷
+          record { kind = 0; type = 341; signature = 2 ^ 63 } ∷
+          record { kind = 0; type = 16370; signature = 0x0123456789ABCDEF } ∷ [];
+    }
+
+-- the third, from a source
+abbrev pub message : ℕ → Stream
+message source = record { kind = 0; type = 16370; source = source; destination = 0 }
+
+abbrev pub stream : Stream
+stream = message 42
+
+-- 13 bytes: with the checksum three frames
+abbrev pub payload : List ℕ
+payload = 0x00 ∷ 0x00 ∷ 0x34 ∷ 0x42 ∷ 0x70 ∷ 0x61 ∷ 0x6E ∷ 0x5F ∷ 0x61 ∷ 0x6E ∷ 0x67 ∷ 0x6C ∷ 0x65 ∷ []
+
+-- its frames with transfer ID 5
+abbrev pub one : List ℕ
+one = 0xEB ∷ 0x4A ∷ 0x00 ∷ 0x00 ∷ 0x34 ∷ 0x42 ∷ 0x70 ∷ 0x85 ∷ []
+
+abbrev pub two : List ℕ
+two = 0x61 ∷ 0x6E ∷ 0x5F ∷ 0x61 ∷ 0x6E ∷ 0x67 ∷ 0x6C ∷ 0x25 ∷ []
+
+abbrev pub three : List ℕ
+three = 0x65 ∷ 0x45 ∷ []
+
+-- a frame of the stream, with priority 16
+abbrev pub frame : List ℕ → ℕ → Frame
+frame bytes time = frameAt 0x103FF22A bytes time
+
+abbrev pub received : List ℕ → ℕ → Reception
+received bytes time = record { frame = frame bytes time; room = 512 }
+
+abbrev pub other : ℕ → List ℕ → ℕ → Reception
+other id bytes time = record { frame = frameAt id bytes time; room = 512 }
+
+abbrev pub start : Frame
+start = frame one 10000000
+
+-- ── two receivers ──
+
+-- n sessions of such messages from the sources n to 1, with nothing in hand, begun at a time
+unfoldable pub crowd : ℕ → ℕ → Places
+crowd since zero = []
+crowd since (suc n) = held (message (suc n)) (record { expected = 5; gathered = []; toggle = false; since = since }) ∷ crowd since n
+
+-- One has heard a whole single frame, its repeat and a bad one. Between the stream's frames it hears a frame of too large an ID, another stream's start,
+-- a type with no subscription, an anonymous frame and one with no data.
+abbrev pub earlier : List Reception
+earlier =
+    other 0x1001552A (1 ∷ 0 ∷ 0 ∷ 0 ∷ 0 ∷ 0 ∷ 0 ∷ 0xC0 ∷ []) 1000000 ∷
+    other 0x1001552A (1 ∷ 0 ∷ 0 ∷ 0 ∷ 0 ∷ 0 ∷ 0 ∷ 0xC0 ∷ []) 1001000 ∷
+    other 0x1001552A (1 ∷ 0x81 ∷ []) 2000000 ∷ []
+
+abbrev pub spacious : Receiver
+spacious =
+    record {
+      places = after setup begun earlier;
+      room = 512;
+      list =
+          other 0x303FF22A two 10000000 ∷
+          received one 10000001 ∷
+          other 0x103FF22B one 10000500 ∷
+          received two 10001000 ∷
+          other 0x1001562A (0xC1 ∷ []) 10001000 ∷
+          received two 10002000 ∷
+          received three 11999999 ∷
+          other 0x10000100 (1 ∷ 0xC1 ∷ []) 12000000 ∷
+          received three 12000000 ∷
+          other 0x103FF22B [] 12000000 ∷ [];
+    }
+
+-- The other was lent a table with all places held, a broken transfer of the stream among them. Between it hears a start that is refused for the full table,
+-- one that takes an old session's place, and a single frame; after the stream's last frame time runs back.
+abbrev pub crowded : Receiver
+crowded =
+    record {
+      places = held stream (record { expected = 5; gathered = 1 ∷ 2 ∷ 3 ∷ []; toggle = true; since = 7999999 }) ∷ crowd 9500000 31;
+      room = 600;
+      list =
+          received one 10000001 ∷
+          received two 10001000 ∷
+          other 0x103FF22B one 10001500 ∷
+          received two 10002000 ∷
+          other 0x103FF22B one 11600000 ∷
+          received three 11999999 ∷
+          other 0x1001552A (0xC0 ∷ []) 11999999 ∷
+          received three 12000000 ∷
+          other 0x1001552A (0xC1 ∷ []) 1000000 ∷ [];
+    }
+
+-- ── the premises hold, and so does the claim ──
+
+pub record Example : Type 0 where
+  pub premises : Premises setup stream start spacious crowded
+  pub whiles : While setup stream start 5 spacious × While setup stream start 5 crowded
+  pub transfer : Transfer setup stream start (frames stream spacious) 16 5 payload
+  pub alike : take 6 (answers setup stream start spacious) ≡ take 6 (answers setup stream start crowded)
+  pub delivered :
+      (handouts (answers setup stream start spacious) ≡ handed payload stream 16 5 ∷ [])
+      × (handouts (answers setup stream start crowded) ≡ handed payload stream 16 5 ∷ [])

@@ -1,0 +1,31 @@
+-- 01, Numbers answered: every number that a reception answers, and every value that 1 gives, is in its range, whatever the table was.
+use mathlib.Core.List.{List}
+use Prim.Native.Nat.{ℕ, _≤_, _<_}
+use lib.ListN.{length}
+use Rattle.rules.specs.Answer.{Answer, taken, handed, refused, full, passed, long, differs}
+use Rattle.rules.specs.Check.{Reception}
+use Rattle.rules.specs.Frame.{Stream}
+use Rattle.rules.specs.Reception.{step}
+use Rattle.rules.specs.Setup.{Setup}
+use Rattle.rules.specs.Table.{Places}
+
+pub record HandedRange (p : List ℕ) (d : Stream) (prio t : ℕ) : Type 0 where
+  pub length : length p ≤ 512
+  pub kind : d .kind < 3
+  pub type : d .type < 65536
+  pub source : d .source < 128
+  pub destination : d .destination < 128
+  pub priority : prio < 32
+  pub transfer : t < 32
+
+abbrev pub Ranged : Answer → Type 0
+Ranged taken = Unit {0}
+Ranged (handed p d prio t) = HandedRange p d prio t
+Ranged (refused n) = n ≤ 8
+Ranged full = Unit {0}
+Ranged (passed r) = Unit {0}
+Ranged long = Unit {0}
+Ranged differs = Unit {0}
+
+abbrev pub RangeLaw : Type 0
+RangeLaw = (u : Setup) (ps : Places) (r : Reception) → Ranged (step u ps r .answer)

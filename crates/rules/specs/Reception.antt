@@ -1,0 +1,59 @@
+-- 01, Reception: one reception on the whole table, and lists of receptions.
+use mathlib.Core.Bool.{Bool, true, false}
+use mathlib.Core.List.{List, [], _∷_}
+use mathlib.Core.Option.{Option, none, some}
+use Prim.Native.Nat.{ℕ}
+use lib.ListN.{getD, set}
+use Rattle.rules.specs.Answer.{Answer, handed, refused, full, passed, noTransfer}
+use Rattle.rules.specs.Check.{Reception, Parsed, parsed, check}
+use Rattle.rules.specs.Frame.{Stream, isAnonymous}
+use Rattle.rules.specs.Session.{Session, Out, fresh, proceed, react}
+use Rattle.rules.specs.Setup.{Setup}
+use Rattle.rules.specs.Table.{Place, empty, held, Places, seek, holds, placeFor}
+
+-- the answer and the table after
+pub record Step : Type 0 where
+  pub answer : Answer
+  pub places : Places
+
+abbrev pub store : Places → ℕ → Stream → Out → Step
+store ps i d o = record { answer = o .answer; places = set ps i (held d (o .session)) }
+
+-- no place: 9, and nothing changes
+unfoldable pub stepNew : Option ℕ → Places → Parsed → Step
+stepNew none ps v = record { answer = full; places = ps }
+stepNew (some i) ps v = store ps i (v .stream) (proceed (fresh v) v)
+
+-- no session: only a start makes one
+unfoldable pub stepStart : Bool → Places → Parsed → Step
+stepStart false ps v = record { answer = passed noTransfer; places = ps }
+stepStart true ps v = stepNew (placeFor (v .time) ps) ps v
+
+abbrev pub sessionIn : Place → Parsed → Session
+sessionIn empty v = fresh v
+sessionIn (held e s) v = s
+
+unfoldable pub stepSeek : Option ℕ → Places → Parsed → Step
+stepSeek (some i) ps v = store ps i (v .stream) (react (sessionIn (getD ps i empty) v) v)
+stepSeek none ps v = stepStart (v .start) ps v
+
+-- an anonymous frame is handed out at once, with no session
+unfoldable pub stepAnonymous : Bool → Places → Parsed → Step
+stepAnonymous true ps v = record { answer = handed (v .payload) (v .stream) (v .priority) (v .transfer); places = ps }
+stepAnonymous false ps v = stepSeek (seek (holds (v .stream)) ps) ps v
+
+unfoldable pub stepChecked : Option ℕ → Bool → Places → Parsed → Step
+stepChecked (some n) a ps v = record { answer = refused n; places = ps }
+stepChecked none a ps v = stepAnonymous a ps v
+
+unfoldable pub step : Setup → Places → Reception → Step
+step u ps r = stepChecked (check u r) (isAnonymous (r .frame .id)) ps (parsed u (r .frame))
+
+-- the table after a list, and the answers to all of it
+unfoldable pub after : Setup → Places → List Reception → Places
+after u ps [] = ps
+after u ps (r ∷ rs) = after u (step u ps r .places) rs
+
+unfoldable pub run : Setup → Places → List Reception → List Answer
+run u ps [] = []
+run u ps (r ∷ rs) = step u ps r .answer ∷ run u (step u ps r .places) rs

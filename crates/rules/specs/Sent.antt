@@ -1,0 +1,57 @@
+-- 01, Sending: the frames that a payload becomes. "Correctly sent" in condition 3 means these, and the sender makes these.
+use mathlib.Core.Bool.{Bool, true, false, not}
+use mathlib.Core.List.{List, [], _∷_, _++_}
+use Prim.Native.Nat.{ℕ, zero, suc, _+_, _*_, _-_, _/_, _%_}
+use lib.Dec.{leb, eqb}
+use lib.ListN.{length, take, drop}
+use Rattle.checksum.specs.Crc16.{checksum}
+use Rattle.rules.specs.Frame.{Frame, Stream}
+use Rattle.rules.specs.Tests.{pick}
+
+abbrev pub flag : Bool → ℕ
+flag true = 1
+flag false = 0
+
+-- ── the data ──
+
+-- start 128, end 64, toggle 32, and the transfer ID
+abbrev pub tailByte : Bool → Bool → Bool → ℕ → ℕ
+tailByte start last toggle t = 128 * flag start + (64 * flag last + (32 * flag toggle + t))
+
+-- payload bytes, and the tail after them
+abbrev pub framed : List ℕ → ℕ → List ℕ
+framed p tail = p ++ (tail ∷ [])
+
+-- n frames of seven bytes, and one with what is left; toggles turn
+unfoldable pub pieces : ℕ → Bool → Bool → ℕ → List ℕ → List (List ℕ)
+pieces zero start toggle t bytes = framed bytes (tailByte start true toggle t) ∷ []
+pieces (suc n) start toggle t bytes = framed (take 7 bytes) (tailByte start false toggle t) ∷ pieces n false (not toggle) t (drop 7 bytes)
+
+-- the frames that carry bytes: each the next seven until the last, the first a start, toggles 0 1 0
+unfoldable pub carrying : ℕ → List ℕ → List (List ℕ)
+carrying t bytes = pieces ((length bytes - 1) / 7) true false t bytes
+
+-- the checksum in front, low byte first
+abbrev pub withSum : ℕ → List ℕ → List ℕ
+withSum signature p = checksum signature p % 256 ∷ checksum signature p / 256 ∷ p
+
+-- what the frames of a payload carry: up to 7 bytes alone, more with the checksum
+unfoldable pub carried : ℕ → List ℕ → List ℕ
+carried signature p = pick (leb (length p) 7) p (withSum signature p)
+
+-- the data of the frames of the payload p under a signature and the transfer ID t
+unfoldable pub sent : ℕ → ℕ → List ℕ → List (List ℕ)
+sent signature t p = carrying t (carried signature p)
+
+-- ── the ID, for a named source ──
+
+unfoldable pub idOf : Stream → ℕ → ℕ
+idOf d priority =
+    16777216 * priority
+    + pick (eqb (d .kind) 0) (256 * d .type + d .source)
+    (65536 * d .type + (32768 * flag (eqb (d .kind) 1) + (256 * d .destination + (128 + d .source))))
+
+-- ── the frame ──
+
+abbrev pub frameAt : ℕ → List ℕ → ℕ → Frame
+frameAt id bytes time = record { id = id; bytes = bytes; time = time }

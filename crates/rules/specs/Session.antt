@@ -1,0 +1,125 @@
+-- 01, Reception: one session and one frame of its stream. A function that decides is written in stages, by clauses on what it decides.
+use mathlib.Core.Bool.{Bool, true, false, not, _&&_, _||_}
+use mathlib.Core.List.{List, [], _∷_, _++_}
+use mathlib.Core.Option.{Option, none, some}
+use Prim.Native.Nat.{ℕ, _+_, _*_, _-_, _%_}
+use lib.Dec.{ltb, eqb}
+use lib.ListN.{length, drop}
+use Rattle.checksum.specs.Crc16.{checksum}
+use Rattle.rules.specs.Answer.{Answer, taken, handed, passed, long, differs, Reason, noTransfer, wrongToggle, wrongTransfer, repeatedStart}
+use Rattle.rules.specs.Check.{Parsed}
+use Rattle.rules.specs.Tests.{pick, sameBool, isEmpty}
+
+-- the expected transfer ID, the bytes gathered, the next toggle and the time of the last start taken
+pub record Session : Type 0 where
+  pub expected : ℕ
+  pub gathered : List ℕ
+  pub toggle : Bool
+  pub since : ℕ
+
+-- the forward distance from a to b
+abbrev pub distance : ℕ → ℕ → ℕ
+distance a b = (b + 32 - a) % 32
+
+-- the transfer ID after t
+abbrev pub next : ℕ → ℕ
+next t = (t + 1) % 32
+
+-- an age above 2,000,000; an earlier time counts as age 0
+abbrev pub old : ℕ → Session → Bool
+old t s = ltb 2000000 (t - s .since)
+
+-- ── restart ──
+
+unfoldable pub restarts : Session → Parsed → Bool
+restarts s v = old (v .time) s || (v .start && ltb 1 (distance (v .transfer) (s .expected)))
+
+-- nothing in hand, toggle 0, expecting the transfer ID t; the time stays
+abbrev pub restarted : Session → ℕ → Session
+restarted s t = record { expected = t; gathered = []; toggle = false; since = s .since }
+
+-- ── passed over ──
+
+-- of a start: is its ID the expected one, are bytes in hand, is its toggle the next one
+abbrev pub overStart : Bool → Bool → Bool → Option Reason
+overStart false empty toggle = some wrongTransfer
+overStart true false toggle = some repeatedStart
+overStart true true false = some wrongToggle
+overStart true true true = none
+
+-- of another frame
+abbrev pub overOther : Bool → Bool → Bool → Option Reason
+overOther expected true toggle = some noTransfer
+overOther false false toggle = some wrongTransfer
+overOther true false false = some wrongToggle
+overOther true false true = none
+
+abbrev pub overIf : Bool → Bool → Bool → Bool → Option Reason
+overIf true expected empty toggle = overStart expected empty toggle
+overIf false expected empty toggle = overOther expected empty toggle
+
+unfoldable pub over : Session → Parsed → Option Reason
+over s v = overIf (v .start) (eqb (v .transfer) (s .expected)) (isEmpty (s .gathered)) (sameBool (v .toggle) (s .toggle))
+
+-- ── taken ──
+
+-- the answer and the session after
+pub record Out : Type 0 where
+  pub answer : Answer
+  pub session : Session
+
+-- a start sets the time
+abbrev pub sinceOf : Session → Parsed → ℕ
+sinceOf s v = pick (v .start) (v .time) (s .since)
+
+-- nothing in hand, toggle 0, the expected ID raised by one
+abbrev pub closed : Session → ℕ → Session
+closed s t = record { expected = next (s .expected); gathered = []; toggle = false; since = t }
+
+-- the first two bytes, low byte first, are the checksum of the rest
+abbrev pub sumOk : ℕ → List ℕ → Bool
+sumOk signature [] = false
+sumOk signature (a ∷ []) = false
+sumOk signature (a ∷ b ∷ rest) = eqb (a + 256 * b) (checksum signature rest)
+
+-- an end: start and end together hand out the bytes, else the checksum in front decides
+unfoldable pub closing : Bool → Bool → List ℕ → Parsed → Answer
+closing true ok all v = handed all (v .stream) (v .priority) (v .transfer)
+closing false true all v = handed (drop 2 all) (v .stream) (v .priority) (v .transfer)
+closing false false all v = differs
+
+unfoldable pub takeEnd : Bool → Session → Parsed → List ℕ → Out
+takeEnd false s v all =
+    record { answer = taken; session = record { expected = s .expected; gathered = all; toggle = not (s .toggle); since = sinceOf s v } }
+takeEnd true s v all =
+    record { answer = closing (v .start) (sumOk (v .signature) all) all v; session = closed s (sinceOf s v) }
+
+-- more than 514 bytes in hand, payload and checksum, end the transfer
+unfoldable pub takeLong : Bool → Session → Parsed → List ℕ → Out
+takeLong true s v all = record { answer = long; session = closed s (sinceOf s v) }
+takeLong false s v all = takeEnd (v .last) s v all
+
+unfoldable pub takes : Session → Parsed → Out
+takes s v = takeLong (ltb 514 (length (s .gathered ++ v .payload))) s v (s .gathered ++ v .payload)
+
+-- ── the rule ──
+
+unfoldable pub proceedIf : Option Reason → Session → Parsed → Out
+proceedIf (some r) s v = record { answer = passed r; session = s }
+proceedIf none s v = takes s v
+
+unfoldable pub proceed : Session → Parsed → Out
+proceed s v = proceedIf (over s v) s v
+
+-- a session restarted by a frame that is no start then expects the next ID
+unfoldable pub reactIf : Bool → Bool → Session → Parsed → Out
+reactIf true true s v = proceed (restarted s (v .transfer)) v
+reactIf true false s v = record { answer = passed noTransfer; session = restarted s (next (v .transfer)) }
+reactIf false start s v = proceed s v
+
+unfoldable pub react : Session → Parsed → Out
+react s v = reactIf (restarts s v) (v .start) s v
+
+-- a new session, as one restarted by this frame
+abbrev pub fresh : Parsed → Session
+fresh v = record { expected = v .transfer; gathered = []; toggle = false; since = v .time }

@@ -1,0 +1,50 @@
+-- 01, Reception: what a receiver is set up with, and the setups that are refused (13).
+use mathlib.Core.Bool.{Bool, true, false, not, _&&_}
+use mathlib.Core.List.{List, [], _∷_}
+use mathlib.Core.Option.{Option, none, some}
+use Prim.Native.Nat.{ℕ}
+use lib.Dec.{ltb, leb, eqb}
+use lib.ListN.{length}
+use Rattle.rules.specs.Frame.{isService, streamOf}
+use Rattle.rules.specs.Tests.{pick}
+
+-- the kind is 0 for a message, 1 for a service: request and response share one subscription
+pub record Subscription : Type 0 where
+  pub kind : ℕ
+  pub type : ℕ
+  pub signature : ℕ
+
+-- an own node ID of 0 means none yet
+pub record Setup : Type 0 where
+  pub own : ℕ
+  pub subscriptions : List Subscription
+
+-- ── setups that are accepted ──
+
+-- message types are below 65536, service types below 256, and there is no third kind
+abbrev pub typeFits : ℕ → ℕ → Bool
+typeFits kind type = pick (eqb kind 0) (ltb type 65536) (pick (eqb kind 1) (ltb type 256) false)
+
+abbrev pub alike : Subscription → Subscription → Bool
+alike a b = eqb (a .kind) (b .kind) && eqb (a .type) (b .type)
+
+abbrev pub unlike : Subscription → List Subscription → Bool
+unlike a [] = true
+unlike a (b ∷ bs) = not (alike a b) && unlike a bs
+
+-- each is in range, and no kind and type stands twice, under whatever signatures
+abbrev pub allFit : List Subscription → Bool
+allFit [] = true
+allFit (a ∷ more) = typeFits (a .kind) (a .type) && (unlike a more && allFit more)
+
+unfoldable pub acceptable : Setup → Bool
+acceptable u = ltb (u .own) 128 && (leb (length (u .subscriptions)) 64 && allFit (u .subscriptions))
+
+-- ── the signature that a frame's transfer is checked under ──
+
+unfoldable pub subscribed : ℕ → ℕ → List Subscription → Option ℕ
+subscribed kind type [] = none
+subscribed kind type (a ∷ more) = pick (eqb (a .kind) kind && eqb (a .type) type) (some (a .signature)) (subscribed kind type more)
+
+abbrev pub signatureFor : Setup → ℕ → Option ℕ
+signatureFor u id = subscribed (pick (isService id) 1 0) (streamOf id .type) (u .subscriptions)

@@ -1,0 +1,24 @@
+-- `tecelume_map_setup` meets its contract: the proved call, its outcome as a number.
+use mathlib.Core.Path.{ap, _∙_}
+use Prim.Native.Nat.{ℕ}
+use Rattle.tecelume.specs.Entry.{numberedMap}
+use borrow.Author.Needs.{needs}
+use Rattle.tecelume.proofs.tecelume_map_setup.Statement.{statement}
+use Rattle.tecelume.proofs.tecelume_map_setup.Tie as tie
+
+set-up-requires : tie.Need-set-up-requires
+set-up-requires c κs = search needs
+
+of-map-outcome-requires : tie.Need-of-map-outcome-requires
+of-map-outcome-requires c κs = search needs
+
+same-length : tie.Need-same-length
+same-length c = search needs
+
+returns : tie.Need-returns
+returns c =
+    let s = c .before .before .before in
+    ap (λ (n : ℕ). record { number = n; state = s .set-up .last .0 }) (c .of-map-outcome .ensures) ∙ ap numberedMap (s .set-up .ensures)
+
+pub tecelume-map-setup-spec : {M : Type 1} → statement M
+tecelume-map-setup-spec = tie.close (tie.spec set-up-requires of-map-outcome-requires same-length returns)

@@ -1,0 +1,24 @@
+-- `tecelume_setup` meets its contract: the proved call, its outcome as a number.
+use mathlib.Core.Path.{ap, _∙_}
+use Prim.Native.Nat.{ℕ}
+use Rattle.tecelume.specs.Entry.{numbered}
+use borrow.Author.Needs.{needs}
+use Rattle.tecelume.proofs.tecelume_setup.Statement.{statement}
+use Rattle.tecelume.proofs.tecelume_setup.Tie as tie
+
+setup-requires : tie.Need-setup-requires
+setup-requires c κs = search needs
+
+of-outcome-requires : tie.Need-of-outcome-requires
+of-outcome-requires c κs = search needs
+
+same-length : tie.Need-same-length
+same-length c = search needs
+
+returns : tie.Need-returns
+returns c =
+    let s = c .before .before .before in
+    ap (λ (n : ℕ). record { number = n; state = s .setup .last .0 }) (c .of-outcome .ensures) ∙ ap numbered (s .setup .ensures)
+
+pub tecelume-setup-spec : {M : Type 1} → statement M
+tecelume-setup-spec = tie.close (tie.spec setup-requires of-outcome-requires same-length returns)

@@ -1,0 +1,37 @@
+-- What a C entry gives: its number or word, and the lent buffers after.
+use mathlib.Core.List.{List}
+use Prim.Native.Nat.{ℕ, _+_, _*_, _^_}
+use Rattle.tecelume.specs.Word.{wordOf}
+use Rattle.id_map.specs.SetUp as map
+use Rattle.receiver.specs.Receive as receive
+use Rattle.sender.specs.Send as send
+use Rattle.setup.specs.Setup as setup
+
+-- of a setup: the number, and the lent state or map
+pub record SetUp : Type 0 where
+  pub number : ℕ
+  pub state : List ℕ
+
+-- the Rattle call's result, its outcome as a number
+abbrev pub numbered : setup.Result → SetUp
+numbered r = record { number = setup.numberOf (r .answer); state = r .state }
+
+abbrev pub numberedMap : map.Result → SetUp
+numberedMap r = record { number = r .number; state = r .map }
+
+-- of a reception or a send: the result word, the lent state or map, and the output buffer
+pub record Called : Type 0 where
+  pub word : ℕ
+  pub state : List ℕ
+  pub out : List ℕ
+
+abbrev pub entry : ℕ → List ℕ → List ℕ → Called
+entry w m out = record { word = w; state = m; out = out }
+
+-- the Rattle call's result, its answer as a word
+abbrev pub packed : receive.Result → Called
+packed r = entry (wordOf (r .answer)) (r .state) (r .out)
+
+-- the number in bits 0 to 7, the frames from bit 8 on
+abbrev pub packedSend : send.Result → Called
+packedSend r = entry (r .number + r .frames * 2 ^ 8) (r .map) (r .out)

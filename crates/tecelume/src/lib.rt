@@ -1,0 +1,105 @@
+// The C interface: extern "C" entry points around the proved calls. include/tecelume.h documents them.
+mod word;
+
+use transport::Outgoing;
+ghost use mathlib.Core.Path.{_≡_};
+ghost use Rattle.tecelume.specs.Entry.{numbered, numberedMap, entry, packed, packedSend};
+ghost use Rattle.tecelume.specs.Word.{WordLaws};
+ghost use Rattle.id_map.specs.Layout as layout;
+ghost use Rattle.id_map.specs.SetUp as setting;
+ghost use Rattle.receiver.specs.Receive.{frameOf, received};
+ghost use Rattle.sender.specs.Send.{sends};
+ghost use Rattle.setup.specs.Setup.{setUp};
+ghost use Rattle.state.specs.Layout.{size};
+ghost use Rattle.types.specs.Types.{signatureOf};
+
+// The bytes of a receiver's state.
+#[no_mangle]
+pub extern "C" fn tecelume_receiver_size() -> u64
+    ensures { λ r. ⌜ r ≡ size ⌝ }
+{
+    17736
+}
+
+// Sets a receiver up in a lent state: 0, 13 or 20.
+#[no_mangle]
+pub extern "C" fn tecelume_setup(state: &mut [u8], own: u32, subscriptions: &[u8]) -> u32
+    ensures { λ r. ⌜ record { number = r; state = now (state .exit) } ≡ numbered (setUp (now (state .entry)) own (now (subscriptions .entry))) ⌝ }
+{
+    word::of_outcome(transport::setup(state, own, subscriptions))
+}
+
+// One frame on a lent state: the result word.
+#[no_mangle]
+pub extern "C" fn tecelume_receive(
+    state: &mut [u8],
+    id: u32,
+    frame: &[u8],
+    time: u64,
+    out: &mut [u8],
+) -> u64
+    ensures { λ r. ⌜ entry r (now (state .exit)) (now (out .exit)) ≡ packed (received (now (state .entry)) (frameOf id (now (frame .entry)) time) (now (out .entry))) ⌝ }
+{
+    word::of_answer(transport::receive(state, id, frame, time, out))
+}
+
+// The bytes of a transfer-ID map.
+#[no_mangle]
+pub extern "C" fn tecelume_map_size() -> u64
+    ensures { λ r. ⌜ r ≡ layout.size ⌝ }
+{
+    transport::map_size() as u64
+}
+
+// Makes a lent map one without an entry: 0 or 20.
+#[no_mangle]
+pub extern "C" fn tecelume_map_setup(map: &mut [u8]) -> u32
+    ensures { λ r. ⌜ record { number = r; state = now (map .exit) } ≡ numberedMap (setting.setUp (now (map .entry))) ⌝ }
+{
+    word::of_map_outcome(transport::map_setup(map))
+}
+
+// A payload as records of frames, on a lent map: the number and, from bit 8 on, how many frames.
+#[no_mangle]
+pub extern "C" fn tecelume_send(
+    map: &mut [u8],
+    own: u32,
+    kind: u32,
+    type_id: u32,
+    destination: u32,
+    priority: u32,
+    payload: &[u8],
+    signature: u64,
+    time: u64,
+    transfer_id: u32,
+    discriminator: u32,
+    out: &mut [u8],
+) -> u64
+    ensures { λ r. ⌜ entry r (now (map .exit)) (now (out .exit)) ≡ packedSend (sends (now (map .entry)) (record { own = own; kind = kind; type = «type_id»; destination = destination; priority = priority; payload = now (payload .entry); signature = signature; time = time; transfer = «transfer_id»; discriminator = discriminator }) (now (out .entry))) ⌝ }
+{
+    let c = Outgoing {
+        own,
+        kind,
+        type_id,
+        destination,
+        priority,
+        signature,
+        time,
+        transfer_id,
+        discriminator,
+    };
+    word::of_sent(transport::send(map, c, payload, out))
+}
+
+// The signature of a standard type, of kind 0 (message) or 1 (service); 0 of any other.
+#[no_mangle]
+pub extern "C" fn tecelume_signature(kind: u32, type_id: u32) -> u64
+    ensures { λ r. ⌜ r ≡ signatureOf kind «type_id» ⌝ }
+{
+    types::signature(kind, type_id)
+}
+
+// What the result word of a reception holds: every value that is handed out fits its field and is read back from it.
+pub fn word_fields()
+    ensures { λ _. ⌜ WordLaws ⌝ }
+{}

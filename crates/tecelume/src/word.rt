@@ -1,0 +1,73 @@
+// Answers as numbers.
+use transport::Answer;
+use transport::Outcome;
+use transport::Sent;
+use transport::Transfer;
+ghost use mathlib.Core.Path.{_≡_};
+ghost use Prim.Native.Nat.{_+_, _*_, _^_, _≤_};
+ghost use Rattle.id_map.specs.SetUp as setting;
+ghost use Rattle.sender.specs.Send as send;
+ghost use Rattle.setup.specs.Setup.{numberOf};
+ghost use Rattle.tecelume.specs.Word.{transferWord, wordOf, TransferFits, Fits};
+
+fn of_transfer(t: Transfer) -> u64
+    requires { ⌜ TransferFits t ⌝ }
+    ensures { λ r. ⌜ r ≡ transferWord t ⌝ }
+{
+    t.len as u64 * 0x100
+        + (t.kind as u64 * 0x40000
+            + (t.type_id as u64 * 0x100000
+                + (t.source as u64 * 0x1000000000
+                    + (t.destination as u64 * 0x80000000000
+                        + (t.priority as u64 * 0x4000000000000
+                            + t.transfer as u64 * 0x80000000000000)))))
+}
+
+pub fn of_outcome(o: Outcome) -> u32
+    ensures { λ r. ⌜ r ≡ numberOf o ⌝ }
+{
+    match o {
+        Outcome::Done => 0,
+        Outcome::Unacceptable => 13,
+        Outcome::Short => 20,
+    }
+}
+
+pub fn of_answer(a: Answer) -> u64
+    requires { ⌜ Fits a ⌝ }
+    ensures { λ r. ⌜ r ≡ wordOf a ⌝ }
+{
+    match a {
+        Answer::Taken => 0,
+        Answer::Handed(t) => 1 + of_transfer(t),
+        Answer::Refused(n) => n as u64,
+        Answer::Full => 9,
+        Answer::Passed => 10,
+        Answer::TooLong => 11,
+        Answer::BadChecksum => 12,
+        Answer::Faulty => 20,
+    }
+}
+
+pub fn of_map_outcome(o: id_map::Outcome) -> u32
+    ensures { λ r. ⌜ r ≡ setting.numberOf o ⌝ }
+{
+    match o {
+        id_map::Outcome::Done => 0,
+        id_map::Outcome::Short => 20,
+    }
+}
+
+pub fn of_sent(a: Sent) -> u64
+    requires { ⌜ send.framesOf a ≤ 74 ⌝ }
+    ensures { λ r. ⌜ r ≡ send.numberOf a + send.framesOf a * 2 ^ 8 ⌝ }
+{
+    match a {
+        Sent::Done(n) => n as u64 * 0x100,
+        Sent::OutputSmall => 8,
+        Sent::MapFull => 9,
+        Sent::TooLong => 11,
+        Sent::Misfit => 14,
+        Sent::Faulty => 20,
+    }
+}
