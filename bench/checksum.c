@@ -5,7 +5,7 @@
 #include <string.h>
 #include <time.h>
 
-uint16_t probe_crc16(uint16_t c, const uint8_t *s, size_t n);
+uint16_t bench_crc16(uint16_t c, const uint8_t *s, size_t n);
 
 static uint16_t table[256];
 
@@ -63,11 +63,11 @@ int main(void)
     }
     for (int i = 0; i < 512; i++)
         s[i] = (uint8_t)(i * 7 + i / 3);
-    wrong |= probe_crc16(0xFFFF, (const uint8_t *)"123456789", 9) != 0x29B1;
+    wrong |= bench_crc16(0xFFFF, (const uint8_t *)"123456789", 9) != 0x29B1;
     printf("%-10s %12s %12s %12s %10s\n", "checksum", "proved ns", "C table ns", "C bits ns", "ratio");
     for (int k = 0; k < 3; k++) {
         uint16_t a, b, c;
-        double p = nanoseconds(probe_crc16, s, sizes[k], &a);
+        double p = nanoseconds(bench_crc16, s, sizes[k], &a);
         double t = nanoseconds(by_table, s, sizes[k], &b);
         double w = nanoseconds(bitwise, s, sizes[k], &c);
         wrong |= a != b || b != c;
