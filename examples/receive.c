@@ -41,7 +41,7 @@ static uint8_t *subscribe(uint8_t *record, uint32_t kind, uint32_t type_id)
     return tecelume_subscription(record, kind, type_id, tecelume_signature(kind, type_id));
 }
 
-static uint32_t set_up(void)
+static uint32_t setup(void)
 {
     uint8_t list[TYPES * TECELUME_SUBSCRIPTION_SIZE];
     uint8_t *next = list;
@@ -93,7 +93,7 @@ int main(void)
         fprintf(stderr, "header and archive do not go together\n");
         return 1;
     }
-    uint32_t number = set_up();
+    uint32_t number = setup();
     if (number != TECELUME_SUCCESS) {
         fprintf(stderr, "setup: %u, %s\n", (unsigned)number, tecelume_text(number));
         return 1;

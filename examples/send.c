@@ -16,7 +16,7 @@ static uint8_t state[TECELUME_RECEIVER_SIZE];
 static uint8_t records[TECELUME_FRAMES_MAX * TECELUME_RECORD_SIZE];
 static uint8_t payload[TECELUME_OUTPUT_SIZE];
 
-static uint32_t set_up(void)
+static uint32_t setup(void)
 {
     uint8_t list[2 * TECELUME_SUBSCRIPTION_SIZE];
     uint8_t *next = list;
@@ -77,7 +77,7 @@ int main(void)
         fprintf(stderr, "header and archive do not go together\n");
         return 1;
     }
-    number = set_up();
+    number = setup();
     if (number != TECELUME_SUCCESS) {
         fprintf(stderr, "setup: %u, %s\n", (unsigned)number, tecelume_text(number));
         return 1;

@@ -93,7 +93,7 @@ int main(int count, char **words)
         fprintf(stderr, "header and archive do not go together\n");
         return 1;
     }
-    uint32_t number = node_set_up(&node, OWN_ID, &owner);
+    uint32_t number = node_setup(&node, OWN_ID, &owner);
     if (number != TECELUME_SUCCESS) {
         fprintf(stderr, "setup: %u, %s\n", (unsigned)number, tecelume_text(number));
         return 1;

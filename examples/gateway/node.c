@@ -21,7 +21,7 @@ static const uint8_t node_info[] = {
     't', 'e', 'c', 'e', 'l', 'u', 'm', 'e', '.', 'g', 'a', 't', 'e', 'w', 'a', 'y',
 };
 
-static uint32_t set_up_receiver(struct node *n)
+static uint32_t setup_receiver(struct node *n)
 {
     uint8_t list[2 * TECELUME_SUBSCRIPTION_SIZE];
     uint8_t *next = list;
@@ -30,13 +30,13 @@ static uint32_t set_up_receiver(struct node *n)
     return tecelume_setup(n->state, sizeof n->state, n->own, list, (size_t)(next - list));
 }
 
-uint32_t node_set_up(struct node *n, uint32_t own, const struct owner *owner)
+uint32_t node_setup(struct node *n, uint32_t own, const struct owner *owner)
 {
     memset(n, 0, sizeof *n);
     n->owner = *owner;
     n->own = own;
     tecelume_map_setup(n->map, sizeof n->map); /* it cannot be too short */
-    return set_up_receiver(n);
+    return setup_receiver(n);
 }
 
 static void tell(struct node *n, uint32_t source, size_t length)
@@ -103,5 +103,5 @@ void node_receive(struct node *n, const struct frame *f)
     if (number == TECELUME_HANDED_OUT)
         take(n, result, f->time);
     else if (number == TECELUME_STATE_FAULT)
-        set_up_receiver(n); /* someone else wrote there */
+        setup_receiver(n); /* someone else wrote there */
 }

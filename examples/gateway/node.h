@@ -42,7 +42,7 @@ struct node {
 };
 
 /* The number of setup: 0, or 13 if the own ID is over 127. */
-uint32_t node_set_up(struct node *n, uint32_t own, const struct owner *owner);
+uint32_t node_setup(struct node *n, uint32_t own, const struct owner *owner);
 
 /* Takes one frame of the bus. */
 void node_receive(struct node *n, const struct frame *f);

@@ -93,7 +93,7 @@ static void none_whole(void)
 
 static bool all_subscribed; /* as the lanes' transfers are signed */
 
-static void set_up_receiver(void)
+static void setup_receiver(void)
 {
     uint8_t *next = receiver.input.bytes;
     receiver.entry = SETUP;
@@ -114,7 +114,7 @@ static void set_up_receiver(void)
         receiver.state.length = 0; /* set up again at the next step */
 }
 
-static void set_up_map(void)
+static void setup_map(void)
 {
     sender.entry = MAP_SETUP;
     sender.state.length = state_length(TECELUME_MAP_SIZE);
@@ -123,13 +123,13 @@ static void set_up_map(void)
 }
 
 /* Until both are set up, as other calls of it are refused. */
-static void set_up_well(void)
+static void setup_well(void)
 {
     do
-        set_up_receiver();
+        setup_receiver();
     while (!all_subscribed || receiver.state.length < TECELUME_RECEIVER_SIZE);
     do
-        set_up_map();
+        setup_map();
     while (sender.state.length < TECELUME_MAP_SIZE);
 }
 
@@ -323,9 +323,9 @@ static void one_step(void)
 {
     now += once_in(500) ? below(3000000) : below(2000);
     if (once_in(2000) || receiver.state.length < TECELUME_RECEIVER_SIZE)
-        set_up_receiver();
+        setup_receiver();
     if (once_in(300) || sender.state.length < TECELUME_MAP_SIZE)
-        set_up_map();
+        setup_map();
     if (once_in(1000))
         crowd_map();
     struct lane *lane = &lanes[below(LANES)];
@@ -356,7 +356,7 @@ static void sweep(struct call *c, size_t *length, size_t to)
 static void sweep_reception(size_t state_steps)
 {
     static const struct frame single = {0x10000005, 8, {1, 2, 3, 4, 5, 6, 7, 0xC0}};
-    set_up_well();
+    setup_well();
     sweep(&receiver, &receiver.input.length, INPUT_MAX);
     lend_frame(&single);
     receiver.out.length = TECELUME_OUTPUT_SIZE;
@@ -426,7 +426,7 @@ static void on_fault(int signal_number)
 static int lie_reading(void)
 {
     static const uint8_t data[] = {1, 2, 3};
-    set_up_well();
+    setup_well();
     struct lent frame = lend(ON_HEAP, data, sizeof data, 1);
     tecelume_receive(receiver.state.bytes, TECELUME_RECEIVER_SIZE, 0x10000005, frame.bytes, sizeof data + 1, 0, receiver.out.bytes,
                      TECELUME_OUTPUT_SIZE);

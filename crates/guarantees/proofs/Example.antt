@@ -182,8 +182,8 @@ records-bytes : bytesTest records ≡ true
 unfolding bytesTest records
 records-bytes = refl
 
-set-up : Fresh setup (stateOf setup)
-set-up =
+begun-state : Fresh setup (stateOf setup)
+begun-state =
     subst (λ u. Fresh u (stateOf u)) given-is
     (subst (Fresh (given 1 records)) (append-nil (stateOf (given 1 records))) (fresh 1 records [] accepted-is (tested-bytes records records-bytes)))
 
@@ -204,8 +204,8 @@ crowded-tests = (refl, (refl, refl))
 lendable : (x : ruled.Receiver) → (sound (x .places) ≡ true) × ((tableTest (x .places) ≡ true) × (listTest (x .list) ≡ true)) → Lendable setup (stateOf setup) start x
 lendable x t =
     record {
-      setup = set-up .setup;
-      state = set-up .sound;
+      setup = begun-state .setup;
+      state = begun-state .sound;
       bytes = octets-state setup (omega arith) (omega arith);
       start = tested-frame start start-test;
       table = t .0;

@@ -130,7 +130,7 @@ step-writable u ps r h t = checked-writable ps (parsed u (r .frame)) h (brings u
 
 module _ (d : Stream) where
   record InKey : Type 0 where
-    kind : d .kind < 3
+    transferType : d .transferType < 3
     type : d .type < 65536
     source : d .source < 128
     named : 0 < d .source
@@ -149,10 +149,10 @@ module _ (d : Stream) where
   unfolding streamFits
   in-key e =
       let a = and-left (ltb 0 (d .source) && ltb (d .source) 128) _ e in
-      let b = and-right (ltb 0 (d .source) && ltb (d .source) 128) (ltb (d .kind) 3 && pick (eqb (d .kind) 0) (messageFits d) (serviceFits d)) e in
-      let c = of-kind (eqb (d .kind) 0) (and-right (ltb (d .kind) 3) (pick (eqb (d .kind) 0) (messageFits d) (serviceFits d)) b) in
+      let b = and-right (ltb 0 (d .source) && ltb (d .source) 128) (ltb (d .transferType) 3 && pick (eqb (d .transferType) 0) (messageFits d) (serviceFits d)) e in
+      let c = of-kind (eqb (d .transferType) 0) (and-right (ltb (d .transferType) 3) (pick (eqb (d .transferType) 0) (messageFits d) (serviceFits d)) b) in
       record {
-        kind = ltb-true (d .kind) 3 (and-left (ltb (d .kind) 3) _ b);
+        transferType = ltb-true (d .transferType) 3 (and-left (ltb (d .transferType) 3) _ b);
         type = c .0;
         source = ltb-true (d .source) 128 (and-right (ltb 0 (d .source)) (ltb (d .source) 128) a);
         named = ltb-true 0 (d .source) (and-left (ltb 0 (d .source)) (ltb (d .source) 128) a);
@@ -163,7 +163,7 @@ module _ (d : Stream) where
   unfolding sessionFits keyOf
   holdable s e q w =
       let k = in-key e in
-      let hk = k .kind in
+      let hk = k .transferType in
       let ht = k .type in
       let hs = k .source in
       let hn = k .named in

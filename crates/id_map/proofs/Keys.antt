@@ -16,15 +16,15 @@ use Rattle.rules.specs.Tests.{pick}
 pub topic-key : (k : Topic) → k .type < 65536 → k .destination < 128 → topicOfKey (keyOf k) ≡ k
 unfolding keyOf topicOfKey
 topic-key k ht hd =
-    let n = (k .kind * 65536 + k .type) * 256 + (k .destination * 2 + 1) in
-    let e₁ : n / 16777216 ≡ k .kind = omega arith in
-    let q : n / 256 ≡ k .kind * 65536 + k .type = omega arith in
+    let n = (k .transferType * 65536 + k .type) * 256 + (k .destination * 2 + 1) in
+    let e₁ : n / 16777216 ≡ k .transferType = omega arith in
+    let q : n / 256 ≡ k .transferType * 65536 + k .type = omega arith in
     let e₂ : n / 256 % 65536 ≡ k .type = rw q (omega arith) in
-    let r : n / 2 ≡ (k .kind * 65536 + k .type) * 128 + k .destination = omega arith in
+    let r : n / 2 ≡ (k .transferType * 65536 + k .type) * 128 + k .destination = omega arith in
     let d : n / 2 % 128 ≡ k .destination = rw r (omega arith) in
     let o : n % 2 ≡ 1 = omega arith in
     let e₃ : n / 2 % 128 + 128 * (1 - n % 2) ≡ k .destination = omega arith in
-    λ i. record { kind = e₁ i; type = e₂ i; destination = e₃ i }
+    λ i. record { transferType = e₁ i; type = e₂ i; destination = e₃ i }
 
 pub key-topic : (k : ℕ) → k % 2 ≡ 1 → keyOf (topicOfKey k) ≡ k
 unfolding keyOf topicOfKey
@@ -40,7 +40,7 @@ key-some k e = omega arith
 -- keys are equal exactly if their topics are the same
 same-refl : (k : Topic) → sameTopic k k ≡ true
 unfolding sameTopic
-same-refl k = rw (eq-eqb (k .kind) (k .kind) refl, eq-eqb (k .type) (k .type) refl, eq-eqb (k .destination) (k .destination) refl)
+same-refl k = rw (eq-eqb (k .transferType) (k .transferType) refl, eq-eqb (k .type) (k .type) refl, eq-eqb (k .destination) (k .destination) refl)
 
 -- a quotient and a remainder fix a number
 join : (n a b : ℕ) → a / n ≡ b / n → a % n ≡ b % n → a ≡ b

@@ -5,11 +5,11 @@ use mathlib.Core.List.{List}
 use Prim.Native.Nat.{ℕ, _≤_}
 use lib.ListN.{length}
 use Rattle.id_map.specs.Layout.{size, mapOf}
-use Rattle.id_map.specs.SetUp.{setUp}
+use Rattle.id_map.specs.Setup.{afterSetup}
 use Rattle.id_map.specs.Sound.{soundMap}
 use Rattle.rules.specs.Map.{blank}
 
 -- no entry and no fault, whatever was in the bytes
-pub record SetUpLaws : Type 0 where
-  pub blank : (m : List ℕ) → size ≤ length m → mapOf (setUp m .map) ≡ blank
-  pub sound : (m : List ℕ) → size ≤ length m → soundMap (setUp m .map) ≡ true
+pub record SetupLaws : Type 0 where
+  pub blank : (m : List ℕ) → size ≤ length m → mapOf (afterSetup m .map) ≡ blank
+  pub sound : (m : List ℕ) → size ≤ length m → soundMap (afterSetup m .map) ≡ true

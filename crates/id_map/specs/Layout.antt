@@ -24,11 +24,11 @@ nextAt m i = getD m (384 + i) 0
 
 -- an entry's key; 0 is an empty place
 unfoldable pub keyOf : Topic → ℕ
-keyOf k = (k .kind * 65536 + k .type) * 256 + (k .destination * 2 + 1)
+keyOf k = (k .transferType * 65536 + k .type) * 256 + (k .destination * 2 + 1)
 
 -- an even key has a destination out of range
 unfoldable pub topicOfKey : ℕ → Topic
-topicOfKey k = record { kind = k / 16777216; type = k / 256 % 65536; destination = k / 2 % 128 + 128 * (1 - k % 2) }
+topicOfKey k = record { transferType = k / 16777216; type = k / 256 % 65536; destination = k / 2 % 128 + 128 * (1 - k % 2) }
 
 unfoldable pub slotAt : List ℕ → ℕ → Slot
 slotAt m i = pick (eqb (keyAt m i) 0) free (used (topicOfKey (keyAt m i)) (nextAt m i) (timeAt m i))

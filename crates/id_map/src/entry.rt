@@ -6,11 +6,11 @@ ghost use Rattle.id_map.specs.Layout.{size, keyAt, timeAt, slotAt, topic
 ghost use Rattle.rules.specs.Map as rules;
 
 // Internal. The key of a transfer type, type ID and destination.
-pub fn key_of(kind: u32, type_id: u32, destination: u32) -> u32
-    requires { ⌜ (kind < 2) × ((«type_id» < 65536) × (destination < 128)) ⌝ }
-    ensures { λ r. ⌜ (topicOfKey r ≡ record { kind = kind; type = «type_id»; destination = destination }) × (r % 2 ≡ 1) ⌝ }
+pub fn key_of(transfer_type: u32, type_id: u32, destination: u32) -> u32
+    requires { ⌜ («transfer_type» < 2) × ((«type_id» < 65536) × (destination < 128)) ⌝ }
+    ensures { λ r. ⌜ (topicOfKey r ≡ record { transferType = «transfer_type»; type = «type_id»; destination = destination }) × (r % 2 ≡ 1) ⌝ }
 {
-    (kind * 65536 + type_id) * 256 + (destination * 2 + 1)
+    (transfer_type * 65536 + type_id) * 256 + (destination * 2 + 1)
 }
 
 // Internal. The key of place i.

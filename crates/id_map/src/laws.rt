@@ -1,6 +1,6 @@
 // The laws of specs/Laws.antt: a function with no body whose contract they are.
-ghost use Rattle.id_map.specs.Laws.{SetUpLaws};
+ghost use Rattle.id_map.specs.Laws.{SetupLaws};
 
-pub fn set_up()
-    ensures { λ _. ⌜ SetUpLaws ⌝ }
+pub fn setup()
+    ensures { λ _. ⌜ SetupLaws ⌝ }
 {}

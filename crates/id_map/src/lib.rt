@@ -6,7 +6,7 @@ pub mod sound;
 
 ghost use mathlib.Core.Path.{_≡_};
 ghost use Rattle.id_map.specs.Layout as layout;
-ghost use Rattle.id_map.specs.SetUp.{result, setUp};
+ghost use Rattle.id_map.specs.Setup.{result, afterSetup};
 
 // What setting a map up answers.
 pub enum Outcome {
@@ -22,8 +22,8 @@ pub fn size() -> usize
 }
 
 // Makes the lent bytes a map without an entry.
-pub fn set_up(map: &mut [u8]) -> Outcome
-    ensures { λ r. ⌜ result r (now (map .exit)) ≡ setUp (now (map .entry)) ⌝ }
+pub fn setup(map: &mut [u8]) -> Outcome
+    ensures { λ r. ⌜ result r (now (map .exit)) ≡ afterSetup (now (map .entry)) ⌝ }
 {
     if map.len() < 416 {
         return Outcome::Short;

@@ -154,7 +154,7 @@ fn main() {
     let mut block = [0u8; 65536];
     let mut out = [0u8; 65536];
     io::write_all(1, b"time kind type from to prio id len payload\n");
-    log_replay::set_up(&mut state);
+    log_replay::setup(&mut state);
     let pen = run(&mut state, &mut block, &mut out);
     finish(&mut out, pen);
 }

@@ -16,7 +16,7 @@ numbered sign n = 32 ∷ sign ∷ (words (n ∷ []) ++ (10 ∷ []))
 
 -- M, Q, R
 abbrev pub letterOf : ℕ → ℕ
-letterOf kind = pick (eqb kind 0) 77 (pick (eqb kind 1) 81 82)
+letterOf type = pick (eqb type 0) 77 (pick (eqb type 1) 81 82)
 
 -- an empty payload prints a dash
 abbrev pub payloadText : List ℕ → List ℕ
@@ -26,7 +26,7 @@ payloadText (b ∷ bs) = hexes (b ∷ bs)
 -- kind, type, source, destination, priority, transfer ID, length, payload
 unfoldable pub transferText : Transfer → List ℕ → List ℕ
 transferText t p =
-    32 ∷ letterOf (t .kind) ∷ (words (t .«type_id» ∷ t .source ∷ t .destination ∷ t .priority ∷ t .transfer ∷ t .len ∷ [])
+    32 ∷ letterOf (t .«transfer_type») ∷ (words (t .«type_id» ∷ t .source ∷ t .destination ∷ t .priority ∷ t .transfer ∷ t .len ∷ [])
     ++ (32 ∷ (payloadText p ++ (10 ∷ []))))
 
 -- of the receiver's output buffer, where the payload stands in front

@@ -28,10 +28,10 @@ pub fn numbered(out: &mut [u8], at: usize, sign: u8, n: u64) -> usize
     put(out, c, 10)
 }
 
-fn letter(kind: u8) -> u8
-    ensures { λ r. ⌜ r ≡ letterOf kind ⌝ }
+fn letter(transfer_type: u8) -> u8
+    ensures { λ r. ⌜ r ≡ letterOf «transfer_type» ⌝ }
 {
-    match kind {
+    match transfer_type {
         0 => 77,
         1 => 81,
         _ => 82,
@@ -61,7 +61,7 @@ fn put_transfer(out: &mut [u8], at: usize, t: Transfer, payload: &[u8]) -> usize
         t.len as u64,
     ];
     let a = put(out, at, 32);
-    let b = put(out, a, letter(t.kind));
+    let b = put(out, a, letter(t.transfer_type));
     let c = digits::put_words(out, b, &vs);
     let d = put(out, c, 32);
     let e = put_payload(out, d, payload);

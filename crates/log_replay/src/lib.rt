@@ -10,7 +10,7 @@ ghost use Prim.Native.Nat.{_≤_};
 ghost use lib.ListN.{length};
 ghost use Rattle.log_line.specs.Reading.{said, Reads};
 ghost use Rattle.log_replay.specs.Replay.{up as upOf, counted as countedOf, isHanded, endText, reply, lenOf, room, result, given, replayed};
-ghost use Rattle.setup.specs.Setup.{setUp, result as setupResult};
+ghost use Rattle.setup.specs.Setup.{afterSetup, result as setupResult};
 ghost use Rattle.digits.specs.Digits.{Puts};
 ghost use Rattle.digits.specs.Find.{before};
 ghost use Rattle.types.specs.Types.{records, standard};
@@ -34,8 +34,8 @@ pub enum Told {
 }
 
 // Sets the receiver up: own ID 1, subscribed to the standard types.
-pub fn set_up(state: &mut [u8]) -> Outcome
-    ensures { λ r. ⌜ setupResult r (now (state .exit)) ≡ setUp (now (state .entry)) 1 (records standard) ⌝ }
+pub fn setup(state: &mut [u8]) -> Outcome
+    ensures { λ r. ⌜ setupResult r (now (state .exit)) ≡ afterSetup (now (state .entry)) 1 (records standard) ⌝ }
 {
     let types = types::subscriptions();
     setup::setup(state, 1, &types)

@@ -25,7 +25,7 @@ fn answer(map: &mut [u8; 416], time: u64, payload: &[u8]) {
     let mut out = [0u8; 39];
     let c = Outgoing {
         own: 1,
-        kind: 0,
+        transfer_type: 0,
         type_id: 1,
         destination: 0,
         priority: 30,
@@ -50,7 +50,7 @@ fn answer(map: &mut [u8; 416], time: u64, payload: &[u8]) {
 
 pub fn run() {
     let mut map = [0u8; 416];
-    id_map::set_up(&mut map);
+    id_map::setup(&mut map);
     io::write_all(1, b"003 allocator's answers\n");
     answer(&mut map, 1_117_000, b"\x00\x44\xC0\x8B\x63\x5E\x05");
     answer(

@@ -122,10 +122,10 @@ source-named f p a z = go (isService (f .id)) refl (sym (source-is (f .id)) ∙ 
       eqb-false (f .id % 128) 0 (or-left (eqb (f .id % 128) 0) (eqb (f .id / 256 % 128) 0) t) s
   go false e s = eqb-false (f .id % 128) 0 (sym (anonymous-is (f .id) false e) ∙ a) s
 
-pub kind-lt : (id : ℕ) → streamOf id .kind < 3
+pub type-small : (id : ℕ) → streamOf id .transferType < 3
 unfolding streamOf
-kind-lt id = go (isService id) (bit id 32768) refl where
-  go : (b c : Bool) → bit id 32768 ≡ c → streamIf b id .kind < 3
+type-small id = go (isService id) (bit id 32768) refl where
+  go : (b c : Bool) → bit id 32768 ≡ c → streamIf b id .transferType < 3
   go true true e = rw e (omega arith)
   go true false e = rw e (omega arith)
   go false c e = omega arith

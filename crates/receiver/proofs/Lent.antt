@@ -67,13 +67,13 @@ unfolding sessionOf
 few-of s r q e = subst (λ (x : Session). length (x .gathered) ≤ 514) e (rw length-take (omega (arith, r .len)))
 
 -- the key of a head's stream gives the stream, and is not 0 for a named source
-pub head-key : (d : Stream) → d .kind < 3 → d .type < 65536 → d .source < 128 → d .destination < 128 → streamOfKey (keyOf d) ≡ d
+pub head-key : (d : Stream) → d .transferType < 3 → d .type < 65536 → d .source < 128 → d .destination < 128 → streamOfKey (keyOf d) ≡ d
 head-key d hk ht hs hd = stream-key d (omega arith) ht hs hd
 
 pub key-some : (d : Stream) → (d .source ≡ 0 → ⊥) → keyOf d ≡ 0 → ⊥
 unfolding keyOf
 key-some d n z = n (omega arith)
 
-pub key-word : (d : Stream) → d .kind < 3 → d .type < 65536 → d .source < 128 → d .destination < 128 → keyOf d < 4294967296
+pub key-word : (d : Stream) → d .transferType < 3 → d .type < 65536 → d .source < 128 → d .destination < 128 → keyOf d < 4294967296
 unfolding keyOf
 key-word d hk ht hs hd = omega arith

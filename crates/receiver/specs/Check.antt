@@ -27,7 +27,7 @@ serviceFor id own = isService id && not (eqb (destinationOf id) own)
 unfoldable pub headOf : ℕ → ℕ → ℕ → ℕ → Head
 headOf id tail time signature =
     record {
-      kind = streamOf id .kind;
+      «transfer_type» = streamOf id .transferType;
       «type_id» = streamOf id .type;
       source = streamOf id .source;
       destination = streamOf id .destination;

@@ -46,7 +46,7 @@ pub record Called (m : List ℕ) (h : Head) (p out : List ℕ) : Type 0 where
   pub sound : soundState m ≡ true
   pub transfer : h .transfer < 32
   pub start : h .start ≡ true → h .toggle ≡ false
-  pub kind : h .kind < 3
+  pub transferType : h .«transfer_type» < 3
   pub type : h .«type_id» < 65536
   pub source : h .source < 128
   pub named : h .source ≡ 0 → ⊥

@@ -24,7 +24,7 @@ pub fn is_anonymous(id: u32) -> bool
 }
 
 // A service with source or destination 0.
-fn is_unnamed(id: u32) -> bool
+fn unnamed_service(id: u32) -> bool
     ensures { λ r. ⌜ r ≡ serviceUnnamed id ⌝ }
 {
     if is_service(id) {
@@ -37,7 +37,7 @@ fn is_unnamed(id: u32) -> bool
 }
 
 // A service for another node.
-fn is_for_another(id: u32, own: u8) -> bool
+fn for_another_node(id: u32, own: u8) -> bool
     ensures { λ r. ⌜ r ≡ serviceFor id own ⌝ }
 {
     if is_service(id) {
@@ -47,7 +47,7 @@ fn is_for_another(id: u32, own: u8) -> bool
 }
 
 // A tail byte that no sender makes, on a frame of n bytes.
-fn is_bad_tail(anonymous: bool, tail: u8, n: usize) -> bool
+fn bad_tail(anonymous: bool, tail: u8, n: usize) -> bool
     ensures { λ r. ⌜ r ≡ badTail anonymous (isStart tail) (isEnd tail) (toggleOf tail) n ⌝ }
 {
     let start = tail / 128 % 2 == 1;
@@ -87,13 +87,13 @@ pub fn refusal(id: u32, frame: &[u8], own: u8) -> u8
     if 8 < n {
         return 3;
     }
-    if is_unnamed(id) {
+    if unnamed_service(id) {
         return 4;
     }
-    if is_bad_tail(is_anonymous(id), frame[n - 1], n) {
+    if bad_tail(is_anonymous(id), frame[n - 1], n) {
         return 5;
     }
-    if is_for_another(id, own) {
+    if for_another_node(id, own) {
         return 6;
     }
     0
@@ -110,7 +110,7 @@ pub fn kind(id: u32) -> u32
 }
 
 fn transfer_type(id: u32) -> u8
-    ensures { λ r. ⌜ r ≡ streamOf id .kind ⌝ }
+    ensures { λ r. ⌜ r ≡ streamOf id .transferType ⌝ }
 {
     if is_service(id) {
         if id / 32768 % 2 == 1 {
@@ -148,7 +148,7 @@ pub fn head(id: u32, tail: u8, time: u64, signature: u64) -> Head
     ensures { λ r. ⌜ r ≡ headOf id tail time signature ⌝ }
 {
     Head {
-        kind: transfer_type(id),
+        transfer_type: transfer_type(id),
         type_id: (type_id(id) % 65536) as u16,
         source: (id % 128) as u8,
         destination: destination(id),

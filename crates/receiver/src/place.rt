@@ -20,10 +20,10 @@ ghost use Rattle.state.specs.Place.{withPlace};
 
 // The stream of a head in one number.
 fn key(h: Head) -> u32
-    requires { ⌜ (h .kind < 3) × ((h .source < 128) × (h .destination < 128)) ⌝ }
+    requires { ⌜ (h .«transfer_type» < 3) × ((h .source < 128) × (h .destination < 128)) ⌝ }
     ensures { λ r. ⌜ r ≡ keyOf (streamOf h) ⌝ }
 {
-    ((h.kind as u32 * 65536 + h.type_id as u32) * 128 + h.source as u32) * 128
+    ((h.transfer_type as u32 * 65536 + h.type_id as u32) * 128 + h.source as u32) * 128
         + h.destination as u32
 }
 

@@ -198,7 +198,7 @@ brings-each id time (c ∷ l) = next time (omega arith) (brings-each id time l)
 
 -- ── the receiver that a call is for ──
 
-kind-of : (id : ℕ) → pick {A = ℕ} (isService id) 1 0 ≡ pick (eqb (streamOf id .kind) 0) 0 1
+kind-of : (id : ℕ) → pick {A = ℕ} (isService id) 1 0 ≡ pick (eqb (streamOf id .transferType) 0) 0 1
 unfolding streamOf
 kind-of id = go (isService id)
   where
@@ -206,7 +206,7 @@ kind-of id = go (isService id)
     request true = refl
     request false = refl
 
-    go : (b : Bool) → pick {A = ℕ} b 1 0 ≡ pick (eqb (streamIf b id .kind) 0) 0 1
+    go : (b : Bool) → pick {A = ℕ} b 1 0 ≡ pick (eqb (streamIf b id .transferType) 0) 0 1
     go true = rw (request (bit id 32768))
     go false = refl
 
@@ -222,21 +222,21 @@ destination-of : (id : ℕ) → isService id ≡ true → streamOf id .destinati
 unfolding streamOf
 destination-of id e = ap (λ b. streamIf b id .destination) e
 
-service-kind : (id : ℕ) → isService id ≡ true → streamOf id .kind ≡ 0 → ⊥
+service-kind : (id : ℕ) → isService id ≡ true → streamOf id .transferType ≡ 0 → ⊥
 service-kind id e z =
     let q : pick {A = ℕ} true 1 0 ≡ pick (eqb 0 0) 0 1 = ap (λ b. pick b 1 0) (sym e) ∙ kind-of id ∙ ap (λ k. pick (eqb k 0) 0 1) z in
     omega arith
 
 module _ (u : Setup) (c : Call) (hears : Hears u c) (id : ℕ) (small : id < 2 ^ 29) (stream : streamOf id ≡ sending.streamOf c) (named : 0 < c .own)
-    (aimed : (c .kind ≡ 0 → ⊥) → 0 < c .destination) where
+    (aimed : (c .transferType ≡ 0 → ⊥) → 0 < c .destination) where
   pub signed : signatureFor u id ≡ some (c .signature)
   signed =
       ap (λ k. subscribed k (streamOf id .type) (u .subscriptions)) (kind-of id)
-      ∙ ap (λ s. subscribed (pick (eqb (s .kind) 0) 0 1) (s .type) (u .subscriptions)) stream
+      ∙ ap (λ s. subscribed (pick (eqb (s .transferType) 0) 0 1) (s .type) (u .subscriptions)) stream
       ∙ hears .subscribes
 
-  service : isService id ≡ true → c .kind ≡ 0 → ⊥
-  service e z = service-kind id e (ap (λ s. s .kind) stream ∙ z)
+  service : isService id ≡ true → c .transferType ≡ 0 → ⊥
+  service e z = service-kind id e (ap (λ s. s .transferType) stream ∙ z)
 
   to : isService id ≡ true → destinationOf id ≡ c .destination
   to e = sym (destination-of id e) ∙ ap (λ s. s .destination) stream

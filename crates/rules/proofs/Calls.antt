@@ -9,7 +9,7 @@ use lib.ListN.{length}
 use borrow.Author.Tests.{eqb-true, eqb-false, eq-eqb, ne-eqb, ltb-false, lt-ltb}
 use Rattle.rules.specs.Frame as frame
 use Rattle.rules.specs.Frame.{streamIf}
-use Rattle.rules.specs.Sending.{Call, streamOf, isAnonymous, isResponse, typeOver, astray, unfitUnnamed, misfits, anonymousId}
+use Rattle.rules.specs.Sending.{Call, streamOf, isAnonymous, isResponse, badType, badDestination, badAnonymous, notSendable, anonymousId}
 use Rattle.rules.specs.SendingLaws.{InRange, AnonymousId}
 use Rattle.rules.specs.Sound.{messageFits, serviceFits, streamFits}
 use Rattle.rules.specs.Tests.{pick}
@@ -18,26 +18,26 @@ not-false : (b : Bool) → not b ≡ false → b ≡ true
 not-false true e = refl
 not-false false e = sym e
 
-pub in-range : (c : Call) → misfits c ≡ false → InRange c
-unfolding misfits
+pub in-range : (c : Call) → notSendable c ≡ false → InRange c
+unfolding notSendable
 in-range c e =
     let e₁ = or-off (ltb 127 (c .own)) _ .0 e in
-    let e₂ = or-off (ltb 2 (c .kind)) _ .0 (e₁ .1) in
-    let e₃ = or-off (typeOver (c .kind) (c .type)) _ .0 (e₂ .1) in
-    let e₄ = or-off (astray (c .kind) (c .destination)) _ .0 (e₃ .1) in
+    let e₂ = or-off (ltb 2 (c .transferType)) _ .0 (e₁ .1) in
+    let e₃ = or-off (badType (c .transferType) (c .type)) _ .0 (e₂ .1) in
+    let e₄ = or-off (badDestination (c .transferType) (c .destination)) _ .0 (e₃ .1) in
     let e₅ = or-off (ltb 31 (c .priority)) _ .0 (e₄ .1) in
     let e₆ = or-off (isResponse c && ltb 31 (c .transfer)) _ .0 (e₅ .1) in
-    let e₇ = or-off (isAnonymous c && unfitUnnamed (c .discriminator) (c .type) (length (c .payload)) (c .kind)) false .0 (e₆ .1) in
+    let e₇ = or-off (isAnonymous c && badAnonymous (c .discriminator) (c .type) (length (c .payload)) (c .transferType)) false .0 (e₆ .1) in
     record {
       own = let q = ltb-false 127 (c .own) (e₁ .0) in omega arith;
-      kind = let q = ltb-false 2 (c .kind) (e₂ .0) in omega arith;
+      transferType = let q = ltb-false 2 (c .transferType) (e₂ .0) in omega arith;
       message = λ z.
-          let b = eq-eqb (c .kind) 0 z in
+          let b = eq-eqb (c .transferType) 0 z in
           let t = ltb-false 65535 (c .type) (rw b at (e₃ .0)) in
           let d = ltb-false 0 (c .destination) (rw b at (e₄ .0)) in
           (omega arith, omega arith);
       service = λ z.
-          let b = ne-eqb (c .kind) 0 z in
+          let b = ne-eqb (c .transferType) 0 z in
           let t = ltb-false 255 (c .type) (rw b at (e₃ .0)) in
           let d : (eqb (c .destination) 0 || ltb 127 (c .destination)) ≡ false = rw b at (e₄ .0) in
           let p = or-off (eqb (c .destination) 0) (ltb 127 (c .destination)) .0 d in
@@ -45,17 +45,17 @@ in-range c e =
           let u = ltb-false 127 (c .destination) (p .1) in
           (omega arith, (omega arith, omega arith));
       priority = let q = ltb-false 31 (c .priority) (e₅ .0) in omega arith;
-      response = λ z. let q = ltb-false 31 (c .transfer) (rw (eq-eqb (c .kind) 2 z) at (e₆ .0)) in omega arith;
+      response = λ z. let q = ltb-false 31 (c .transfer) (rw (eq-eqb (c .transferType) 2 z) at (e₆ .0)) in omega arith;
       anonymous = λ z.
-          let u : unfitUnnamed (c .discriminator) (c .type) (length (c .payload)) (c .kind) ≡ false = rw (eq-eqb (c .own) 0 z) at (e₇ .0) in
+          let u : badAnonymous (c .discriminator) (c .type) (length (c .payload)) (c .transferType) ≡ false = rw (eq-eqb (c .own) 0 z) at (e₇ .0) in
           let u₁ = or-off (ltb 16383 (c .discriminator)) _ .0 u in
           let u₂ = or-off (ltb 3 (c .type)) _ .0 (u₁ .1) in
           let u₃ = or-off (ltb 7 (length (c .payload))) _ .0 (u₂ .1) in
-          let u₄ = or-off (not (eqb (c .kind) 0)) false .0 (u₃ .1) in
+          let u₄ = or-off (not (eqb (c .transferType) 0)) false .0 (u₃ .1) in
           let d = ltb-false 16383 (c .discriminator) (u₁ .0) in
           let t = ltb-false 3 (c .type) (u₂ .0) in
           let s = ltb-false 7 (length (c .payload)) (u₃ .0) in
-          (omega arith, (omega arith, (s, eqb-true (c .kind) 0 (not-false (eqb (c .kind) 0) (u₄ .0)))));
+          (omega arith, (omega arith, (s, eqb-true (c .transferType) 0 (not-false (eqb (c .transferType) 0) (u₄ .0)))));
     }
 
 module _ (c : Call) (r : InRange c) where
@@ -63,14 +63,14 @@ module _ (c : Call) (r : InRange c) where
   unfolding streamFits
   stream-in h =
       and-intro (and-intro (lt-ltb 0 (c .own) h) (lt-ltb (c .own) 128 (r .own)))
-      (and-intro (lt-ltb (c .kind) 3 (r .kind)) (go (eqb (c .kind) 0) refl))
+      (and-intro (lt-ltb (c .transferType) 3 (r .transferType)) (go (eqb (c .transferType) 0) refl))
     where
-      go : (b : Bool) → eqb (c .kind) 0 ≡ b → pick b (messageFits (streamOf c)) (serviceFits (streamOf c)) ≡ true
+      go : (b : Bool) → eqb (c .transferType) 0 ≡ b → pick b (messageFits (streamOf c)) (serviceFits (streamOf c)) ≡ true
       go true e =
-          let m = r .message (eqb-true (c .kind) 0 e) in
+          let m = r .message (eqb-true (c .transferType) 0 e) in
           and-intro (lt-ltb (c .type) 65536 (m .0)) (eq-eqb (c .destination) 0 (m .1))
       go false e =
-          let s = r .service (eqb-false (c .kind) 0 e) in
+          let s = r .service (eqb-false (c .transferType) 0 e) in
           and-intro (lt-ltb (c .type) 256 (s .0)) (and-intro (lt-ltb 0 (c .destination) (s .1 .0)) (lt-ltb (c .destination) 128 (s .1 .1)))
 
   pub anonymous-id : c .own ≡ 0 → AnonymousId c
@@ -89,7 +89,7 @@ module _ (c : Call) (r : InRange c) where
       record {
         small = omega arith;
         stream = ap (λ b. streamIf b id) f
-            ∙ rw (eq-eqb (id % 128) 0 s) (λ i. record { kind = sym (a .1 .1 .1) i; type = t i; source = (s ∙ sym z) i; destination = sym (m .1) i });
+            ∙ rw (eq-eqb (id % 128) 0 s) (λ i. record { transferType = sym (a .1 .1 .1) i; type = t i; source = (s ∙ sym z) i; destination = sym (m .1) i });
         priority = omega arith;
         anonymous = rw (f, eq-eqb (id % 128) 0 s);
       }

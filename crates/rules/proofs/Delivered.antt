@@ -47,11 +47,11 @@ module _ (u : Setup) (c : Call) (hears : Hears u c) (records : List ℕ) (ok : C
   abbrev data' : List (List ℕ)
   data' = sent (c .signature) (ok .transfer) (c .payload)
 
-  aimed : (c .kind ≡ 0 → ⊥) → 0 < c .destination
+  aimed : (c .transferType ≡ 0 → ⊥) → 0 < c .destination
   unfolding streamFits
   aimed n =
-      let k = and-elim-right (ltb (c .kind) 3) _ (and-elim-right (ltb 0 (c .own) && ltb (c .own) 128) _ (ok .stream)) in
-      let s : serviceFits d ≡ true = rw (ne-eqb (c .kind) 0 n) at k in
+      let k = and-elim-right (ltb (c .transferType) 3) _ (and-elim-right (ltb 0 (c .own) && ltb (c .own) 128) _ (ok .stream)) in
+      let s : serviceFits d ≡ true = rw (ne-eqb (c .transferType) 0 n) at k in
       ltb-true 0 (c .destination) (and-elim-left _ _ (and-elim-right (ltb (c .type) 256) _ s))
 
   module _ (ps : Places) (past : Past u ps) (time space : ℕ) (wide : 512 ≤ space) (o : Opening (ok .transfer) (ok .small) data') where

@@ -19,16 +19,16 @@ use Rattle.rules.specs.Tests.{pick}
 
 same-refl : (k : Topic) → sameTopic k k ≡ true
 unfolding sameTopic
-same-refl k = rw (eq-eqb (k .kind) (k .kind) refl, eq-eqb (k .type) (k .type) refl, eq-eqb (k .destination) (k .destination) refl)
+same-refl k = rw (eq-eqb (k .transferType) (k .transferType) refl, eq-eqb (k .type) (k .type) refl, eq-eqb (k .destination) (k .destination) refl)
 
 same-eq : (a b : Topic) → sameTopic a b ≡ true → a ≡ b
 unfolding sameTopic
 same-eq a b e =
-    let e₂ = and-elim-right (eqb (a .kind) (b .kind)) _ e in
-    let k = eqb-true (a .kind) (b .kind) (and-elim-left _ _ e) in
+    let e₂ = and-elim-right (eqb (a .transferType) (b .transferType)) _ e in
+    let k = eqb-true (a .transferType) (b .transferType) (and-elim-left _ _ e) in
     let t = eqb-true (a .type) (b .type) (and-elim-left _ _ e₂) in
     let d = eqb-true (a .destination) (b .destination) (and-elim-right (eqb (a .type) (b .type)) _ e₂) in
-    λ i. record { kind = k i; type = t i; destination = d i }
+    λ i. record { transferType = k i; type = t i; destination = d i }
 
 -- ── places ──
 

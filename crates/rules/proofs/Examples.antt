@@ -5,7 +5,7 @@ use Rattle.bits.specs.Little.{leBytes}
 use Rattle.checksum.specs.Crc.{shift, shifts, crcByte, crcOver}
 use Rattle.checksum.specs.Crc16.{checksum}
 use Rattle.rules.specs.Check.{parsed, frameCheck, check}
-use Rattle.rules.specs.Condition3.{setUp, lent, heard, framesWith, answersTo, upTo, frames, Premises, While, done, next, again, Transfer}
+use Rattle.rules.specs.Condition3.{fromSetup, lent, heard, framesWith, answersTo, upTo, frames, Premises, While, done, next, again, Transfer}
 use Rattle.rules.specs.Example.{setup, stream, payload, start, crowd, earlier, spacious, crowded, Example}
 use Rattle.rules.specs.Frame.{sameStream, streamOf}
 use Rattle.rules.specs.Reception.{stepNew, stepStart, stepSeek, stepAnonymous, stepChecked, step, after}
@@ -29,7 +29,7 @@ example =
     }
   where
     premises : Premises setup stream start spacious crowded
-    premises = record { pasts = (heard setUp earlier, lent refl); named = omega arith; start = refl; take = (refl, refl); same = refl }
+    premises = record { pasts = (heard fromSetup earlier, lent refl); named = omega arith; start = refl; take = (refl, refl); same = refl }
 
     spacious-while : While setup stream start 5 spacious
     spacious-while = record { time = refl; room = refl; table = refl }
@@ -69,7 +69,7 @@ why-premises =
     time = record { pasts = (lent refl, lent refl); named = omega arith; start = refl; take = (refl, refl); same = refl }
 
     table : Premises setup stream start roomLeft noneLeft
-    table = record { pasts = (setUp, lent refl); named = omega arith; start = refl; take = (refl, refl); same = refl }
+    table = record { pasts = (fromSetup, lent refl); named = omega arith; start = refl; take = (refl, refl); same = refl }
 
     room : Premises setup stream start steady short
-    room = record { pasts = (lent refl, setUp); named = omega arith; start = refl; take = (refl, refl); same = refl }
+    room = record { pasts = (lent refl, fromSetup); named = omega arith; start = refl; take = (refl, refl); same = refl }

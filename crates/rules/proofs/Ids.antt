@@ -24,13 +24,13 @@ flag-le false = omega arith
 -- ── what a stream in range is ──
 
 record Message (d : Stream) : Type 0 where
-  pub kind : d .kind ≡ 0
+  pub transferType : d .transferType ≡ 0
   pub source : (0 < d .source) × (d .source < 128)
   pub type : d .type < 65536
   pub destination : d .destination ≡ 0
 
 record Service (d : Stream) : Type 0 where
-  pub kind : (0 < d .kind) × (d .kind < 3)
+  pub transferType : (0 < d .transferType) × (d .transferType < 3)
   pub source : (0 < d .source) × (d .source < 128)
   pub type : d .type < 256
   pub destination : d .destination < 128
@@ -42,26 +42,26 @@ module _ (d : Stream) (h : streamFits d ≡ true) where
       let k = and-elim-left (ltb 0 (d .source) && ltb (d .source) 128) _ h in
       (ltb-true 0 (d .source) (and-elim-left _ _ k), ltb-true (d .source) 128 (and-elim-right (ltb 0 (d .source)) _ k))
 
-  kind-fits : (ltb (d .kind) 3 && pick (eqb (d .kind) 0) (messageFits d) (serviceFits d)) ≡ true
+  kind-fits : (ltb (d .transferType) 3 && pick (eqb (d .transferType) 0) (messageFits d) (serviceFits d)) ≡ true
   unfolding streamFits
   kind-fits = and-elim-right (ltb 0 (d .source) && ltb (d .source) 128) _ h
 
-  as-message : eqb (d .kind) 0 ≡ true → Message d
+  as-message : eqb (d .transferType) 0 ≡ true → Message d
   as-message e =
-      let k : messageFits d ≡ true = rw e at (and-elim-right (ltb (d .kind) 3) _ kind-fits) in
+      let k : messageFits d ≡ true = rw e at (and-elim-right (ltb (d .transferType) 3) _ kind-fits) in
       record {
-        kind = eqb-true (d .kind) 0 e;
+        transferType = eqb-true (d .transferType) 0 e;
         source = source-in;
         type = ltb-true (d .type) 65536 (and-elim-left _ _ k);
         destination = eqb-true (d .destination) 0 (and-elim-right (ltb (d .type) 65536) _ k);
       }
 
-  as-service : eqb (d .kind) 0 ≡ false → Service d
+  as-service : eqb (d .transferType) 0 ≡ false → Service d
   as-service e =
-      let k : serviceFits d ≡ true = rw e at (and-elim-right (ltb (d .kind) 3) _ kind-fits) in
+      let k : serviceFits d ≡ true = rw e at (and-elim-right (ltb (d .transferType) 3) _ kind-fits) in
       let b = and-elim-right (ltb (d .type) 256) _ k in
       record {
-        kind = (omega (arith, eqb-false (d .kind) 0 e), ltb-true (d .kind) 3 (and-elim-left _ _ kind-fits));
+        transferType = (omega (arith, eqb-false (d .transferType) 0 e), ltb-true (d .transferType) 3 (and-elim-left _ _ kind-fits));
         source = source-in;
         type = ltb-true (d .type) 256 (and-elim-left _ _ k);
         destination = ltb-true (d .destination) 128 (and-elim-right (ltb 0 (d .destination)) _ b);
@@ -86,15 +86,15 @@ message-stream priority d m =
     let q7 : id / 128 ≡ priority * 131072 + 2 * d .type = omega arith in
     let b7 : id / 128 % 2 ≡ 0 = rw q7 (omega arith) in
     ap (λ k. streamIf k id) (ne-eqb (id / 128 % 2) 1 (λ e. omega arith))
-    ∙ rw (ne-eqb (id % 128) 0 (λ e. omega arith)) (λ i. record { kind = sym (m .kind) i; type = b i; source = a i; destination = sym (m .destination) i })
+    ∙ rw (ne-eqb (id % 128) 0 (λ e. omega arith)) (λ i. record { transferType = sym (m .transferType) i; type = b i; source = a i; destination = sym (m .destination) i })
 
-service-read : (id : ℕ) (request : Bool) (d : Stream) → isService id ≡ true → bit id 32768 ≡ request → pick request 1 2 ≡ d .kind
+service-read : (id : ℕ) (request : Bool) (d : Stream) → isService id ≡ true → bit id 32768 ≡ request → pick request 1 2 ≡ d .transferType
     → id / 65536 % 256 ≡ d .type → id % 128 ≡ d .source → id / 256 % 128 ≡ d .destination → streamOf id ≡ d
 unfolding streamOf
 service-read id request d e r k t s g =
-    ap (λ b. streamIf b id) e ∙ λ i. record { kind = (ap (λ b. pick b 1 2) r ∙ k) i; type = t i; source = s i; destination = g i }
+    ap (λ b. streamIf b id) e ∙ λ i. record { transferType = (ap (λ b. pick b 1 2) r ∙ k) i; type = t i; source = s i; destination = g i }
 
-service-stream : (priority : ℕ) (request : Bool) (d : Stream) → Service d → pick request 1 2 ≡ d .kind → streamOf (serviceId priority request d) ≡ d
+service-stream : (priority : ℕ) (request : Bool) (d : Stream) → Service d → pick request 1 2 ≡ d .transferType → streamOf (serviceId priority request d) ≡ d
 service-stream priority request d m k =
     let id : ℕ = serviceId priority request d in
     let one : flag request ≤ 1 = flag-le request in
@@ -105,38 +105,38 @@ service-stream priority request d m k =
     service-read id request d (eq-eqb (id / 128 % 2) 1 (rw q7 (omega arith))) (bit-is id 32768 request (rw q15 (omega arith))) k
     (rw q16 (omega arith)) (omega arith) (rw q8 (omega arith))
 
-request-kind : (d : Stream) → Service d → pick (eqb (d .kind) 1) 1 2 ≡ d .kind
-request-kind d m = go (eqb (d .kind) 1) refl
+request-kind : (d : Stream) → Service d → pick (eqb (d .transferType) 1) 1 2 ≡ d .transferType
+request-kind d m = go (eqb (d .transferType) 1) refl
   where
-    go : (b : Bool) → eqb (d .kind) 1 ≡ b → pick b 1 2 ≡ d .kind
-    go true e = sym (eqb-true (d .kind) 1 e)
-    go false e = omega (arith, m .kind, eqb-false (d .kind) 1 e)
+    go : (b : Bool) → eqb (d .transferType) 1 ≡ b → pick b 1 2 ≡ d .transferType
+    go true e = sym (eqb-true (d .transferType) 1 e)
+    go false e = omega (arith, m .transferType, eqb-false (d .transferType) 1 e)
 
 module _ (d : Stream) (priority : ℕ) (h : streamFits d ≡ true) where
-  id-is : (P : ℕ → Type 0) → (eqb (d .kind) 0 ≡ true → P (messageId priority d)) → (eqb (d .kind) 0 ≡ false → P (serviceId priority (eqb (d .kind) 1) d))
+  id-is : (P : ℕ → Type 0) → (eqb (d .transferType) 0 ≡ true → P (messageId priority d)) → (eqb (d .transferType) 0 ≡ false → P (serviceId priority (eqb (d .transferType) 1) d))
       → P (idOf d priority)
   unfolding idOf
-  id-is P m s = go (eqb (d .kind) 0) refl
+  id-is P m s = go (eqb (d .transferType) 0) refl
     where
-      go : (b : Bool) → eqb (d .kind) 0 ≡ b
-          → P (16777216 * priority + pick b (256 * d .type + d .source) (65536 * d .type + (32768 * flag (eqb (d .kind) 1) + (256 * d .destination + (128 + d .source)))))
+      go : (b : Bool) → eqb (d .transferType) 0 ≡ b
+          → P (16777216 * priority + pick b (256 * d .type + d .source) (65536 * d .type + (32768 * flag (eqb (d .transferType) 1) + (256 * d .destination + (128 + d .source)))))
       go true e = m e
       go false e = s e
 
   id-stream : streamOf (idOf d priority) ≡ d
   id-stream =
       id-is (λ id. streamOf id ≡ d) (λ e. message-stream priority d (as-message d h e))
-      (λ e. service-stream priority (eqb (d .kind) 1) d (as-service d h e) (request-kind d (as-service d h e)))
+      (λ e. service-stream priority (eqb (d .transferType) 1) d (as-service d h e) (request-kind d (as-service d h e)))
 
   pub id-priority : priorityOf (idOf d priority) ≡ priority
   id-priority =
       id-is (λ id. priorityOf id ≡ priority) (λ e. omega (arith, as-message d h e))
-      (λ e. omega (arith, as-service d h e, flag-le (eqb (d .kind) 1)))
+      (λ e. omega (arith, as-service d h e, flag-le (eqb (d .transferType) 1)))
 
   id-small : priority < 32 → idOf d priority < 2 ^ 29
   id-small k =
       id-is (λ id. id < 2 ^ 29) (λ e. omega (arith, as-message d h e))
-      (λ e. omega (arith, as-service d h e, flag-le (eqb (d .kind) 1)))
+      (λ e. omega (arith, as-service d h e, flag-le (eqb (d .transferType) 1)))
 
 -- ── and back ──
 

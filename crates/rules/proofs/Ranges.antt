@@ -50,7 +50,7 @@ headed u f a = go (isService (f .id))
     go true = (
       record {
         length = omega (arith, short);
-        kind = kinds (bit (f .id) 32768);
+        transferType = kinds (bit (f .id) 32768);
         type = omega arith;
         source = omega arith;
         destination = omega arith;
@@ -62,7 +62,7 @@ headed u f a = go (isService (f .id))
     go false = (
       record {
         length = omega (arith, short);
-        kind = omega arith;
+        transferType = omega arith;
         type = types (eqb (sourceOf (f .id)) 0);
         source = omega arith;
         destination = omega arith;
@@ -80,7 +80,7 @@ module _ (v : Parsed) (h : Headed v) where
       let r = h .0 in
       record {
         length = n;
-        kind = r .kind;
+        transferType = r .transferType;
         type = r .type;
         source = r .source;
         destination = r .destination;

@@ -10,7 +10,7 @@ use lib.Dec.{ltb, leb, eqb}
 use lib.ListN.{length, getD, set, length-set}
 use borrow.Author.Tests.{eqb-true, eqb-false, eq-eqb, ne-eqb, ltb-false, lt-ltb}
 use Rattle.rules.specs.Map.{Slot, free, used, Map, times, slotFor, drawn, topicFits, slotsFit, sound}
-use Rattle.rules.specs.Sending.{Call, topicOf, isResponse, misfits, frameCount, Outcome, done, misfit, long, small, full, numberOf, framesOf, idFor, Step, refuse, transmit, sendAt, sendIn, sendAs, sendStep}
+use Rattle.rules.specs.Sending.{Call, topicOf, isResponse, notSendable, frameCount, Outcome, done, unsendable, long, small, full, numberOf, framesOf, idFor, Step, refuse, transmit, sendAt, sendIn, sendAs, sendStep}
 use Rattle.rules.specs.SendingLaws.{InRange, RecordLaws, Correct, SourceLaws, MapLasts}
 use Rattle.rules.specs.Sent.{sent}
 use Rattle.rules.specs.Session.{next}
@@ -26,20 +26,20 @@ data Sends (c : Call) (m : Map) (room : ℕ) : Step → Type 0 where
   went : (t : ℕ) (after : Map) → InRange c → length (c .payload) ≤ 512 → 13 * frameCount (length (c .payload)) ≤ room
       → (sound m ≡ true → (t < 32) × (sound after ≡ true)) → Sends c m room (transmit c t after)
 
-topic-in : (c : Call) → InRange c → (c .kind ≡ 2 → ⊥) → topicFits (topicOf c) ≡ true
+topic-in : (c : Call) → InRange c → (c .transferType ≡ 2 → ⊥) → topicFits (topicOf c) ≡ true
 unfolding topicFits
-topic-in c ok n = go (eqb (c .kind) 0) refl
+topic-in c ok n = go (eqb (c .transferType) 0) refl
   where
-    go : (b : Bool) → eqb (c .kind) 0 ≡ b
-        → pick b (ltb (c .type) 65536 && eqb (c .destination) 0) (eqb (c .kind) 1 && (ltb (c .type) 256 && (ltb 0 (c .destination) && ltb (c .destination) 128))) ≡ true
+    go : (b : Bool) → eqb (c .transferType) 0 ≡ b
+        → pick b (ltb (c .type) 65536 && eqb (c .destination) 0) (eqb (c .transferType) 1 && (ltb (c .type) 256 && (ltb 0 (c .destination) && ltb (c .destination) 128))) ≡ true
     go true e =
-        let r = ok .message (eqb-true (c .kind) 0 e) in
+        let r = ok .message (eqb-true (c .transferType) 0 e) in
         and-intro (lt-ltb (c .type) 65536 (r .0)) (eq-eqb (c .destination) 0 (r .1))
     go false e =
-        let z = eqb-false (c .kind) 0 e in
+        let z = eqb-false (c .transferType) 0 e in
         let r = ok .service z in
-        let one : c .kind ≡ 1 = omega (arith, ok .kind) in
-        and-intro (eq-eqb (c .kind) 1 one)
+        let one : c .transferType ≡ 1 = omega (arith, ok .transferType) in
+        and-intro (eq-eqb (c .transferType) 1 one)
         (and-intro (lt-ltb (c .type) 256 (r .0)) (and-intro (lt-ltb 0 (c .destination) (r .1 .0)) (lt-ltb (c .destination) 128 (r .1 .1))))
 
 sound-set : (m : Map) (i : ℕ) (s : Slot) → sound m ≡ true → slotsFit (set m i s) (set m i s) ≡ true → sound (set m i s) ≡ true
@@ -48,7 +48,7 @@ sound-set m i s h k = and-intro (eq-eqb (length (set m i s)) 32 (length-set m i 
 
 module _ (c : Call) (m : Map) (room : ℕ) (ok : InRange c) (size : length (c .payload) ≤ 512) (space : 13 * frameCount (length (c .payload)) ≤ room) where
   -- an entry is stored at a place
-  module _ (n : c .kind ≡ 2 → ⊥) (i : ℕ) where
+  module _ (n : c .transferType ≡ 2 → ⊥) (i : ℕ) where
     abbrev t : ℕ
     t = drawn (topicOf c) (getD m i free)
 
@@ -65,7 +65,7 @@ module _ (c : Call) (m : Map) (room : ℕ) (ok : InRange c) (size : length (c .p
         sound-set m i (used (topicOf c) (next t) (c .time)) h
         (kept-fresh m (all-fit m h) i l (topicOf c) (topic-in c ok n) (next t) (c .time) (omega arith) f)
 
-  in-map : (c .kind ≡ 2 → ⊥) → (o : Option ℕ) → Given (topicOf c) m o → Sends c m room (sendIn o c m)
+  in-map : (c .transferType ≡ 2 → ⊥) → (o : Option ℕ) → Given (topicOf c) m o → Sends c m room (sendIn o c m)
   unfolding sendIn sendAt
   in-map n none nowhere = refused full refl (λ k e. let z : _≡_ {A = ℕ} 0 1 = cc in omega arith)
   in-map n (some i) (found f) = went (t n i) (set m i (used (topicOf c) (next (t n i)) (c .time))) ok size space (λ h. (drawn-in n i h, at-found n i f h))
@@ -73,12 +73,12 @@ module _ (c : Call) (m : Map) (room : ℕ) (ok : InRange c) (size : length (c .p
 
   as-kind : (b : Bool) → isResponse c ≡ b → Sends c m room (sendAs b c m)
   unfolding sendAs
-  as-kind true e = went (c .transfer) m ok size space (λ h. (ok .response (eqb-true (c .kind) 2 e), h))
-  as-kind false e = in-map (eqb-false (c .kind) 2 e) (slotFor (topicOf c) (c .time) m) (given (topicOf c) (c .time) m)
+  as-kind true e = went (c .transfer) m ok size space (λ h. (ok .response (eqb-true (c .transferType) 2 e), h))
+  as-kind false e = in-map (eqb-false (c .transferType) 2 e) (slotFor (topicOf c) (c .time) m) (given (topicOf c) (c .time) m)
 
 sends : (c : Call) (m : Map) (room : ℕ) → Sends c m room (sendStep c m room)
 unfolding sendStep
-sends c m room = fit (misfits c) refl
+sends c m room = fit (notSendable c) refl
   where
     roomy : (b : Bool) → ltb room (13 * frameCount (length (c .payload))) ≡ b → InRange c → length (c .payload) ≤ 512
         → Sends c m room (pick b (refuse small m) (sendAs (isResponse c) c m))
@@ -90,11 +90,11 @@ sends c m room = fit (misfits c) refl
     short true e ok = refused long refl (λ k e. let z : _≡_ {A = ℕ} 0 1 = cc in omega arith)
     short false e ok = roomy (ltb room (13 * frameCount (length (c .payload)))) refl ok (ltb-false 512 (length (c .payload)) e)
 
-    fit : (b : Bool) → misfits c ≡ b
+    fit : (b : Bool) → notSendable c ≡ b
         → Sends c m room
-        (pick b (refuse misfit m)
+        (pick b (refuse unsendable m)
         (pick (ltb 512 (length (c .payload))) (refuse long m) (pick (ltb room (13 * frameCount (length (c .payload)))) (refuse small m) (sendAs (isResponse c) c m))))
-    fit true e = refused misfit refl (λ k e. let z : _≡_ {A = ℕ} 0 1 = cc in omega arith)
+    fit true e = refused unsendable refl (λ k e. let z : _≡_ {A = ℕ} 0 1 = cc in omega arith)
     fit false e = short (ltb 512 (length (c .payload))) refl (in-range c e)
 
 -- ── what is left of the map ──
@@ -102,29 +102,29 @@ sends c m room = fit (misfits c) refl
 -- as it was, or with the call's entry at a place
 pub data Leaves (c : Call) (m : Map) : Map → Type 0 where
   alone : Leaves c m m
-  stored : (i t : ℕ) → i < length m → InRange c → (c .kind ≡ 2 → ⊥) → Leaves c m (set m i (used (topicOf c) (next t) (c .time)))
+  stored : (i t : ℕ) → i < length m → InRange c → (c .transferType ≡ 2 → ⊥) → Leaves c m (set m i (used (topicOf c) (next t) (c .time)))
 
 pub leaves : (c : Call) (m : Map) (room : ℕ) → Leaves c m (sendStep c m room .map)
 unfolding sendStep sendAs sendIn sendAt transmit
-leaves c m room = fit (misfits c) refl
+leaves c m room = fit (notSendable c) refl
   where
-    placed : (c .kind ≡ 2 → ⊥) → InRange c → (o : Option ℕ) → Given (topicOf c) m o → Leaves c m (sendIn o c m .map)
+    placed : (c .transferType ≡ 2 → ⊥) → InRange c → (o : Option ℕ) → Given (topicOf c) m o → Leaves c m (sendIn o c m .map)
     placed n ok none nowhere = alone
     placed n ok (some i) (found f) = stored i (drawn (topicOf c) (getD m i free)) (f .inside) ok n
     placed n ok (some i) (fresh l f) = stored i (drawn (topicOf c) (getD m i free)) l ok n
 
     of-kind : (b : Bool) → isResponse c ≡ b → InRange c → Leaves c m (sendAs b c m .map)
     of-kind true e ok = alone
-    of-kind false e ok = placed (eqb-false (c .kind) 2 e) ok (slotFor (topicOf c) (c .time) m) (given (topicOf c) (c .time) m)
+    of-kind false e ok = placed (eqb-false (c .transferType) 2 e) ok (slotFor (topicOf c) (c .time) m) (given (topicOf c) (c .time) m)
 
     short : (a b : Bool) → InRange c → Leaves c m (pick a (refuse long m) (pick b (refuse small m) (sendAs (isResponse c) c m)) .map)
     short true b ok = alone
     short false true ok = alone
     short false false ok = of-kind (isResponse c) refl ok
 
-    fit : (b : Bool) → misfits c ≡ b
+    fit : (b : Bool) → notSendable c ≡ b
         → Leaves c m
-        (pick b (refuse misfit m)
+        (pick b (refuse unsendable m)
         (pick (ltb 512 (length (c .payload))) (refuse long m) (pick (ltb room (13 * frameCount (length (c .payload)))) (refuse small m) (sendAs (isResponse c) c m))) .map)
     fit true e = alone
     fit false e = short (ltb 512 (length (c .payload))) (ltb room (13 * frameCount (length (c .payload)))) (in-range c e)

@@ -23,7 +23,7 @@ pub same-refl : (d : Stream) → sameStream d d ≡ true
 unfolding sameStream
 same-refl d =
     rw (
-      eq-eqb (d .kind) (d .kind) refl,
+      eq-eqb (d .transferType) (d .transferType) refl,
       eq-eqb (d .type) (d .type) refl,
       eq-eqb (d .source) (d .source) refl,
       eq-eqb (d .destination) (d .destination) refl,
@@ -32,13 +32,13 @@ same-refl d =
 pub same-eq : (a b : Stream) → sameStream a b ≡ true → a ≡ b
 unfolding sameStream
 same-eq a b e =
-    let e2 = and-elim-right (eqb (a .kind) (b .kind)) _ e in
+    let e2 = and-elim-right (eqb (a .transferType) (b .transferType)) _ e in
     let e3 = and-elim-right (eqb (a .type) (b .type)) _ e2 in
-    let k = eqb-true (a .kind) (b .kind) (and-elim-left _ _ e) in
+    let k = eqb-true (a .transferType) (b .transferType) (and-elim-left _ _ e) in
     let t = eqb-true (a .type) (b .type) (and-elim-left _ _ e2) in
     let s = eqb-true (a .source) (b .source) (and-elim-left _ _ e3) in
     let g = eqb-true (a .destination) (b .destination) (and-elim-right (eqb (a .source) (b .source)) _ e3) in
-    λ i. record { kind = k i; type = t i; source = s i; destination = g i }
+    λ i. record { transferType = k i; type = t i; source = s i; destination = g i }
 
 -- ── the lowest place that passes a test ──
 

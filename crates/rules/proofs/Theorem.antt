@@ -13,7 +13,7 @@ use borrow.Author.Tests.{eq-eqb, lt-leb, leb-true, leb-false}
 use Rattle.checksum.specs.Crc16.{checksum}
 use Rattle.rules.specs.Answer.{Answer, taken, handed, refused, full, passed, long, differs}
 use Rattle.rules.specs.Check.{Reception, parsed}
-use Rattle.rules.specs.Condition3.{Past, setUp, lent, heard, ofStream, startOf, keep, framesWith, answersTo, Receiver, startIn, started, frames, answers, took, front, While, Brings, next, again, Transfer, handouts, Condition3}
+use Rattle.rules.specs.Condition3.{Past, fromSetup, lent, heard, ofStream, startOf, keep, framesWith, answersTo, Receiver, startIn, started, frames, answers, took, front, While, Brings, next, again, Transfer, handouts, Condition3}
 use Rattle.rules.specs.Frame.{Frame, Stream, streamOf, priorityOf, isAnonymous, isStart, tailOf}
 use Rattle.rules.specs.Reception.{step, after}
 use Rattle.rules.specs.Sent.{withSum, carried, carrying, sent, idOf}
@@ -40,7 +40,7 @@ sound-after u ps [] h = h
 sound-after u ps (r ∷ rs) h = sound-after u (step u ps r .places) rs (lasting .reception u ps r h)
 
 past-sound : (u : Setup) (ps : Places) → Past u ps → sound ps ≡ true
-past-sound u ps setUp = lasting .setup
+past-sound u ps fromSetup = lasting .setup
 past-sound u ps (lent h) = h
 past-sound u ps (heard {ps = qs} h l) = sound-after u qs l (past-sound u qs h)
 

@@ -20,7 +20,7 @@ use Rattle.rules.specs.Tests.{pick}
 
 -- "any list of receptions from setup, or any lent state of that setup without a fault that 20 names", and any list after such a past
 pub data Past (u : Setup) : Places → Type 0 where
-  setUp : Past u begun
+  fromSetup : Past u begun
   lent : {ps : Places} → sound ps ≡ true → Past u ps
   heard : {ps : Places} → Past u ps → (l : List Reception) → Past u (after u ps l)
 

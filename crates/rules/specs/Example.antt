@@ -28,7 +28,7 @@ setup =
 
 -- the third, from a source
 abbrev pub message : ℕ → Stream
-message source = record { kind = 0; type = 16370; source = source; destination = 0 }
+message source = record { transferType = 0; type = 16370; source = source; destination = 0 }
 
 abbrev pub stream : Stream
 stream = message 42

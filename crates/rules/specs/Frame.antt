@@ -14,14 +14,14 @@ pub record Frame : Type 0 where
 
 -- A stream is 01's term for the transfer descriptor of 002. The transfer type is 0 for a message, 1 for a request, 2 for a response.
 pub record Stream : Type 0 where
-  pub kind : ℕ
+  pub transferType : ℕ
   pub type : ℕ
   pub source : ℕ
   pub destination : ℕ
 
 unfoldable pub sameStream : Stream → Stream → Bool
 sameStream a b =
-    eqb (a .kind) (b .kind) && (eqb (a .type) (b .type) && (eqb (a .source) (b .source) && eqb (a .destination) (b .destination)))
+    eqb (a .transferType) (b .transferType) && (eqb (a .type) (b .type) && (eqb (a .source) (b .source) && eqb (a .destination) (b .destination)))
 
 -- ── the ID: bit 0 is the lowest ──
 
@@ -46,9 +46,9 @@ isAnonymous id = not (isService id) && eqb (sourceOf id) 0
 
 -- a service's type is bits 16 to 23 and its request flag bit 15; a message's type is bits 8 to 23, an anonymous one's bits 8 and 9
 abbrev pub streamIf : Bool → ℕ → Stream
-streamIf true id = record { kind = pick (bit id 32768) 1 2; type = id / 65536 % 256; source = sourceOf id; destination = destinationOf id }
+streamIf true id = record { transferType = pick (bit id 32768) 1 2; type = id / 65536 % 256; source = sourceOf id; destination = destinationOf id }
 streamIf false id =
-    record { kind = 0; type = pick (eqb (sourceOf id) 0) (id / 256 % 4) (id / 256 % 65536); source = sourceOf id; destination = 0 }
+    record { transferType = 0; type = pick (eqb (sourceOf id) 0) (id / 256 % 4) (id / 256 % 65536); source = sourceOf id; destination = 0 }
 
 unfoldable pub streamOf : ℕ → Stream
 streamOf id = streamIf (isService id) id

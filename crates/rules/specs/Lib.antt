@@ -1,3 +1,4 @@
+pub mod Limits
 pub mod Tests
 pub mod Frame
 pub mod Setup

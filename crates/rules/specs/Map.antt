@@ -11,7 +11,7 @@ use Rattle.rules.specs.Tests.{pick}
 
 -- "a map of 32 entries over type, type ID and destination": "Own ID is no part of the map"
 pub record Topic : Type 0 where
-  pub kind : ℕ
+  pub transferType : ℕ
   pub type : ℕ
   pub destination : ℕ
 
@@ -28,7 +28,7 @@ abbrev pub blank : Map
 blank = replicate 32 free
 
 unfoldable pub sameTopic : Topic → Topic → Bool
-sameTopic a b = eqb (a .kind) (b .kind) && (eqb (a .type) (b .type) && eqb (a .destination) (b .destination))
+sameTopic a b = eqb (a .transferType) (b .transferType) && (eqb (a .type) (b .type) && eqb (a .destination) (b .destination))
 
 abbrev pub isOf : Topic → Slot → Bool
 isOf k free = false
@@ -57,8 +57,8 @@ drawn k (used e t since) = pick (sameTopic e k) t 0
 -- a message's type is below 65536 and its destination 0; a request's type is below 256 and its destination named; a response has no entry
 unfoldable pub topicFits : Topic → Bool
 topicFits k =
-    pick (eqb (k .kind) 0) (ltb (k .type) 65536 && eqb (k .destination) 0)
-    (eqb (k .kind) 1 && (ltb (k .type) 256 && (ltb 0 (k .destination) && ltb (k .destination) 128)))
+    pick (eqb (k .transferType) 0) (ltb (k .type) 65536 && eqb (k .destination) 0)
+    (eqb (k .transferType) 1 && (ltb (k .type) 256 && (ltb 0 (k .destination) && ltb (k .destination) 128)))
 
 -- how many entries a topic has
 unfoldable pub times : Topic → Map → ℕ

@@ -11,7 +11,7 @@ use Rattle.rules.specs.Table.{Places}
 
 pub record HandedRange (p : List ℕ) (d : Stream) (prio t : ℕ) : Type 0 where
   pub length : length p ≤ 512
-  pub kind : d .kind < 3
+  pub transferType : d .transferType < 3
   pub type : d .type < 65536
   pub source : d .source < 128
   pub destination : d .destination < 128

@@ -16,7 +16,7 @@ use Rattle.rules.specs.Tests.{pick}
 -- discriminator for an anonymous message; "elsewhere these two are ignored".
 pub record Call : Type 0 where
   pub own : ℕ
-  pub kind : ℕ
+  pub transferType : ℕ
   pub type : ℕ
   pub destination : ℕ
   pub priority : ℕ
@@ -30,13 +30,13 @@ abbrev pub isAnonymous : Call → Bool
 isAnonymous c = eqb (c .own) 0
 
 abbrev pub isResponse : Call → Bool
-isResponse c = eqb (c .kind) 2
+isResponse c = eqb (c .transferType) 2
 
 abbrev pub topicOf : Call → Topic
-topicOf c = record { kind = c .kind; type = c .type; destination = c .destination }
+topicOf c = record { transferType = c .transferType; type = c .type; destination = c .destination }
 
 abbrev pub streamOf : Call → Stream
-streamOf c = record { kind = c .kind; type = c .type; source = c .own; destination = c .destination }
+streamOf c = record { transferType = c .transferType; type = c .type; source = c .own; destination = c .destination }
 
 -- ── the checks, in their order 14, 11, 8, 9 ──
 
@@ -45,26 +45,26 @@ any [] = false
 any (b ∷ bs) = b || any bs
 
 -- "destination (not 0 for a message, not 1-127 for a service)"
-abbrev pub typeOver : ℕ → ℕ → Bool
-typeOver kind type = ltb (pick (eqb kind 0) 65535 255) type
+abbrev pub badType : ℕ → ℕ → Bool
+badType transferType type = ltb (pick (eqb transferType 0) 65535 255) type
 
-abbrev pub astray : ℕ → ℕ → Bool
-astray kind destination = pick (eqb kind 0) (ltb 0 destination) (eqb destination 0 || ltb 127 destination)
+abbrev pub badDestination : ℕ → ℕ → Bool
+badDestination transferType destination = pick (eqb transferType 0) (ltb 0 destination) (eqb destination 0 || ltb 127 destination)
 
 -- "discriminator out of range; anonymous with a type over 3, a payload over 7 or as a service"
-abbrev pub unfitUnnamed : ℕ → ℕ → ℕ → ℕ → Bool
-unfitUnnamed discriminator type size kind = any (ltb 16383 discriminator ∷ ltb 3 type ∷ ltb 7 size ∷ not (eqb kind 0) ∷ [])
+abbrev pub badAnonymous : ℕ → ℕ → ℕ → ℕ → Bool
+badAnonymous discriminator type size transferType = any (ltb 16383 discriminator ∷ ltb 3 type ∷ ltb 7 size ∷ not (eqb transferType 0) ∷ [])
 
 -- "own ID over 127, unknown transfer type, type ID, destination .., priority, transfer ID of a response or discriminator out of range; anonymous .."
-unfoldable pub misfits : Call → Bool
-misfits c =
+unfoldable pub notSendable : Call → Bool
+notSendable c =
     any (ltb 127 (c .own) ∷
-    ltb 2 (c .kind) ∷
-    typeOver (c .kind) (c .type) ∷
-    astray (c .kind) (c .destination) ∷
+    ltb 2 (c .transferType) ∷
+    badType (c .transferType) (c .type) ∷
+    badDestination (c .transferType) (c .destination) ∷
     ltb 31 (c .priority) ∷
     (isResponse c && ltb 31 (c .transfer)) ∷
-    (isAnonymous c && unfitUnnamed (c .discriminator) (c .type) (length (c .payload)) (c .kind)) ∷ [])
+    (isAnonymous c && badAnonymous (c .discriminator) (c .type) (length (c .payload)) (c .transferType)) ∷ [])
 
 -- "Up to 7 payload bytes go in one frame"; "n > 7 bytes makes (n + 8) / 7 frames, rounded down"
 unfoldable pub frameCount : ℕ → ℕ
@@ -73,21 +73,21 @@ frameCount n = pick (leb n 7) 1 ((n + 8) / 7)
 pub data Outcome : Type 0 where
   -- the number of frames
   done : ℕ → Outcome
-  misfit : Outcome
+  unsendable : Outcome
   long : Outcome
   small : Outcome
   full : Outcome
 
 abbrev pub numberOf : Outcome → ℕ
 numberOf (done n) = 0
-numberOf misfit = 14
+numberOf unsendable = 14
 numberOf long = 11
 numberOf small = 8
 numberOf full = 9
 
 abbrev pub framesOf : Outcome → ℕ
 framesOf (done n) = n
-framesOf misfit = 0
+framesOf unsendable = 0
 framesOf long = 0
 framesOf small = 0
 framesOf full = 0
@@ -142,6 +142,6 @@ sendAs false c m = sendIn (slotFor (topicOf c) (c .time) m) c m
 -- into `room` bytes of output
 unfoldable pub sendStep : Call → Map → ℕ → Step
 sendStep c m room =
-    pick (misfits c) (refuse misfit m)
+    pick (notSendable c) (refuse unsendable m)
     (pick (ltb 512 (length (c .payload))) (refuse long m)
     (pick (ltb room (13 * frameCount (length (c .payload)))) (refuse small m) (sendAs (isResponse c) c m)))

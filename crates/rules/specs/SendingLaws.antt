@@ -17,7 +17,7 @@ use Rattle.rules.specs.Frame as frame
 use Rattle.rules.specs.Frame.{Frame, priorityOf}
 use Rattle.rules.specs.Map.{Map, blank, sound}
 use Rattle.rules.specs.Reception.{run}
-use Rattle.rules.specs.Sending.{Call, streamOf, any, misfits, frameCount, done, numberOf, framesOf, anonymousId, recordsOf, sendStep}
+use Rattle.rules.specs.Sending.{Call, streamOf, any, notSendable, frameCount, done, numberOf, framesOf, anonymousId, recordsOf, sendStep}
 use Rattle.rules.specs.Sent.{sent, idOf, frameAt}
 use Rattle.rules.specs.Setup.{Setup, subscribed}
 use Rattle.rules.specs.Sound.{streamFits}
@@ -27,12 +27,12 @@ use Rattle.rules.specs.Tests.{pick}
 -- a call that 14 lets through
 pub record InRange (c : Call) : Type 0 where
   pub own : c .own < 128
-  pub kind : c .kind < 3
-  pub message : c .kind ≡ 0 → (c .type < 65536) × (c .destination ≡ 0)
-  pub service : (c .kind ≡ 0 → ⊥) → (c .type < 256) × ((0 < c .destination) × (c .destination < 128))
+  pub transferType : c .transferType < 3
+  pub message : c .transferType ≡ 0 → (c .type < 65536) × (c .destination ≡ 0)
+  pub service : (c .transferType ≡ 0 → ⊥) → (c .type < 256) × ((0 < c .destination) × (c .destination < 128))
   pub priority : c .priority < 32
-  pub response : c .kind ≡ 2 → c .transfer < 32
-  pub anonymous : c .own ≡ 0 → (c .discriminator < 16384) × ((c .type < 4) × ((length (c .payload) ≤ 7) × (c .kind ≡ 0)))
+  pub response : c .transferType ≡ 2 → c .transfer < 32
+  pub anonymous : c .own ≡ 0 → (c .discriminator < 16384) × ((c .type < 4) × ((length (c .payload) ≤ 7) × (c .transferType ≡ 0)))
 
 -- ── the records ──
 
@@ -41,7 +41,7 @@ abbrev pub frameIn : List ℕ → ℕ → ℕ → Frame
 frameIn r time n = frameAt (le (span r (13 * n) 4)) (span r (13 * n + 5) (getD r (13 * n + 4) 0)) time
 
 pub record RecordLaws : Type 0 where
-  pub fits : (c : Call) → misfits c ≡ false → InRange c
+  pub fits : (c : Call) → notSendable c ≡ false → InRange c
   -- the frames are as many as the answer says: 1 for up to 7 payload bytes, (n + 8) / 7 for n > 7
   pub count : (signature t : ℕ) (p : List ℕ) → length (sent signature t p) ≡ frameCount (length p)
   -- a refusal changes nothing and writes nothing
@@ -77,7 +77,7 @@ pub record Correct (c : Call) (records : List ℕ) : Type 0 where
 pub record SourceLaws : Type 0 where
   -- for the ID of a named source see IdLaws
   pub named : (c : Call) (m : Map) (room n : ℕ) → sound m ≡ true → sendStep c m room .answer ≡ done n → 0 < c .own → Correct c (sendStep c m room .records)
-  pub anonymous : (c : Call) → misfits c ≡ false → c .own ≡ 0 → AnonymousId c
+  pub anonymous : (c : Call) → notSendable c ≡ false → c .own ≡ 0 → AnonymousId c
 
 -- ── the map ──
 
@@ -90,8 +90,8 @@ pub record MapLasts : Type 0 where
 
 -- a receiver that the call is for: it subscribes to the type under the call's signature, and a service is addressed to it
 pub record Hears (u : Setup) (c : Call) : Type 0 where
-  pub subscribes : subscribed (pick (eqb (c .kind) 0) 0 1) (c .type) (u .subscriptions) ≡ some (c .signature)
-  pub addressed : (c .kind ≡ 0 → ⊥) → u .own ≡ c .destination
+  pub subscribes : subscribed (pick (eqb (c .transferType) 0) 0 1) (c .type) (u .subscriptions) ≡ some (c .signature)
+  pub addressed : (c .transferType ≡ 0 → ⊥) → u .own ≡ c .destination
 
 -- n records received at one time, with room
 abbrev pub arriving : List ℕ → ℕ → ℕ → ℕ → List Reception

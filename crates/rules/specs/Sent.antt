@@ -48,8 +48,8 @@ sent signature t p = carrying t (carried signature p)
 unfoldable pub idOf : Stream → ℕ → ℕ
 idOf d priority =
     16777216 * priority
-    + pick (eqb (d .kind) 0) (256 * d .type + d .source)
-    (65536 * d .type + (32768 * flag (eqb (d .kind) 1) + (256 * d .destination + (128 + d .source))))
+    + pick (eqb (d .transferType) 0) (256 * d .type + d .source)
+    (65536 * d .type + (32768 * flag (eqb (d .transferType) 1) + (256 * d .destination + (128 + d .source))))
 
 -- ── the frame ──
 

@@ -8,6 +8,7 @@ use lib.ListN.{length, drop}
 use Rattle.checksum.specs.Crc16.{checksum}
 use Rattle.rules.specs.Answer.{Answer, taken, handed, passed, long, differs, Reason, noTransfer, wrongToggle, wrongTransfer, repeatedStart}
 use Rattle.rules.specs.Check.{Parsed}
+use Rattle.rules.specs.Limits.{gatheredMax, oldAge}
 use Rattle.rules.specs.Tests.{pick, sameBool, isEmpty}
 
 -- the expected transfer ID, the bytes gathered, the next toggle and the time of the last start taken
@@ -25,9 +26,9 @@ distance a b = (b + 32 - a) % 32
 abbrev pub next : ℕ → ℕ
 next t = (t + 1) % 32
 
--- an age above 2,000,000; an earlier time counts as age 0
+-- an age above the limit; an earlier time counts as age 0
 abbrev pub old : ℕ → Session → Bool
-old t s = ltb 2000000 (t - s .since)
+old t s = ltb oldAge (t - s .since)
 
 -- ── restart ──
 
@@ -100,7 +101,7 @@ takeLong true s v all = record { answer = long; session = closed s (sinceOf s v)
 takeLong false s v all = takeEnd (v .last) s v all
 
 unfoldable pub takes : Session → Parsed → Out
-takes s v = takeLong (ltb 514 (length (s .gathered ++ v .payload))) s v (s .gathered ++ v .payload)
+takes s v = takeLong (ltb gatheredMax (length (s .gathered ++ v .payload))) s v (s .gathered ++ v .payload)
 
 -- ── the rule ──
 

@@ -22,7 +22,7 @@ serviceFits d = ltb (d .type) 256 && (ltb 0 (d .destination) && ltb (d .destinat
 
 -- a stream with a named source
 unfoldable pub streamFits : Stream → Bool
-streamFits d = (ltb 0 (d .source) && ltb (d .source) 128) && (ltb (d .kind) 3 && pick (eqb (d .kind) 0) (messageFits d) (serviceFits d))
+streamFits d = (ltb 0 (d .source) && ltb (d .source) 128) && (ltb (d .transferType) 3 && pick (eqb (d .transferType) 0) (messageFits d) (serviceFits d))
 
 unfoldable pub sessionFits : Session → Bool
 sessionFits s = ltb (s .expected) 32 && (leb (length (s .gathered)) 514 && (not (s .toggle) || not (isEmpty (s .gathered))))

@@ -86,7 +86,7 @@ outOfOrder = receiver begun (received two 10100000 ∷ received third 10200000 �
 
 -- an anonymous frame is handed out as often as it comes
 abbrev pub unnamed : Stream
-unnamed = record { kind = 0; type = 1; source = 0; destination = 0 }
+unnamed = record { transferType = 0; type = 1; source = 0; destination = 0 }
 
 abbrev pub unnamedTwice : Receiver
 unnamedTwice = receiver begun (other 0x10000100 (1 ∷ 0xC0 ∷ []) 10000001 ∷ [])

@@ -1,4 +1,6 @@
 // The rules of 01 as definitions, in specs/. The functions here have no body: each one's contract is a theorem about the definitions.
+pub mod limits;
+
 ghost use Rattle.rules.specs.Condition3.{Condition3};
 ghost use Rattle.rules.specs.Example.{Example};
 ghost use Rattle.rules.specs.Range.{RangeLaw};

@@ -27,7 +27,7 @@ use Rattle.sender.specs.Send.{sendsIf, sends}
 use Rattle.sender.proofs.Lent.{kept, stored-is, key-in}
 
 -- an entry that a call stores fits the layout
-holdable : (c : Call) → InRange c → (c .kind ≡ 2 → ⊥) → c .time < 2 ^ 64 → Holdable (topicOf c) (c .time)
+holdable : (c : Call) → InRange c → (c .transferType ≡ 2 → ⊥) → c .time < 2 ^ 64 → Holdable (topicOf c) (c .time)
 unfolding keyOf
 holdable c r n h =
     let k = key-in c r n in

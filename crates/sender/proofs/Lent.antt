@@ -21,13 +21,13 @@ use Rattle.id_map.proofs.Soundness.{long-enough, slot-fit, keys-odd}
 use Rattle.id_map.proofs.Written.{written-kept, written-set}
 use Rattle.rules.specs.Map.{Topic, free, used, slotFor, drawn}
 use Rattle.rules.specs.Sending as rules
-use Rattle.rules.specs.Sending.{Call, topicOf, isResponse, misfits, frameCount, Outcome, misfit, long, small, full, anonymousId, idFor, recordsOf, refuse, transmit, sendAt, sendIn, sendAs, sendStep}
+use Rattle.rules.specs.Sending.{Call, topicOf, isResponse, notSendable, frameCount, Outcome, unsendable, long, small, full, anonymousId, idFor, recordsOf, refuse, transmit, sendAt, sendIn, sendAs, sendStep}
 use Rattle.rules.specs.SendingLaws.{InRange}
 use Rattle.rules.specs.Sent.{sent}
 use Rattle.rules.proofs.Draws.{drawn-small}
 use Rattle.sender.specs.Send.{callOf, Result, result, lent, sendsIf, sends}
 use Rattle.sender.specs.declared.Outgoing.{Outgoing}
-use Rattle.sender.specs.declared.Sent.the-variants.{Done, OutputSmall, MapFull, TooLong, Misfit, Faulty}
+use Rattle.sender.specs.declared.Sent.the-variants.{Done, OutputSmall, MapFull, TooLong, NotSendable, Faulty}
 
 module _ (m : List ℕ) (fine : soundMap m ≡ true) (bytes : Octets m) where
   -- a map that the rules leave as it was
@@ -57,11 +57,11 @@ module _ (m : List ℕ) (fine : soundMap m ≡ true) (bytes : Octets m) where
     refusal o = λ i. record { number = rules.numberOf o; frames = rules.framesOf o; map = sym kept i; out = out }
 
     module _ (room : ℕ) where
-      pub misfitting : misfits c ≡ true → result Misfit m out ≡ lent m out (sendStep c (mapOf m) room)
+      pub misfitting : notSendable c ≡ true → result NotSendable m out ≡ lent m out (sendStep c (mapOf m) room)
       unfolding sendStep
-      misfitting e = rw e (refusal misfit)
+      misfitting e = rw e (refusal unsendable)
 
-      module _ (fits : misfits c ≡ false) where
+      module _ (fits : notSendable c ≡ false) where
         pub too-long : 512 < length (c .payload) → result TooLong m out ≡ lent m out (sendStep c (mapOf m) room)
         unfolding sendStep
         too-long h = rw (fits, lt-ltb 512 (length (c .payload)) h) (refusal long)
@@ -76,17 +76,17 @@ module _ (m : List ℕ) (fine : soundMap m ≡ true) (bytes : Octets m) where
             unfolding sendStep
             step-is b e = rw (fits, le-ltb 512 (length (c .payload)) h, le-ltb room (13 * frameCount (length (c .payload))) k, e)
 
-            pub responded : c .kind ≡ 2 → (n : ℕ) (out' : List ℕ) → n ≡ frameCount (length (c .payload))
+            pub responded : c .transferType ≡ 2 → (n : ℕ) (out' : List ℕ) → n ≡ frameCount (length (c .payload))
                 → out' ≡ splice out 0 (recordsOf (idFor c) (sent (c .signature) (c .transfer) (c .payload)))
                 → result (Done n) m out' ≡ lent m out (sendStep c (mapOf m) room)
             unfolding sendAs transmit
             responded e n out' en eo =
-                (λ i. record { number = 0; frames = en i; map = sym kept i; out = eo i }) ∙ ap (lent m out) (sym (step-is true (eq-eqb (c .kind) 2 e)))
+                (λ i. record { number = 0; frames = en i; map = sym kept i; out = eo i }) ∙ ap (lent m out) (sym (step-is true (eq-eqb (c .transferType) 2 e)))
 
-            pub numbered : (c .kind ≡ 2 → ⊥) → (r : Result) → r ≡ lent m out (sendIn (slotFor (topicOf c) (c .time) (mapOf m)) c (mapOf m))
+            pub numbered : (c .transferType ≡ 2 → ⊥) → (r : Result) → r ≡ lent m out (sendIn (slotFor (topicOf c) (c .time) (mapOf m)) c (mapOf m))
                 → r ≡ lent m out (sendStep c (mapOf m) room)
             unfolding sendAs
-            numbered e r q = q ∙ ap (lent m out) (sym (step-is false (ne-eqb (c .kind) 2 e)))
+            numbered e r q = q ∙ ap (lent m out) (sym (step-is false (ne-eqb (c .transferType) 2 e)))
 
     -- ── a place in the map ──
 
@@ -138,7 +138,7 @@ pub without-payload : (c : Outgoing) (p : List ℕ) → InRange (callOf c p) →
 without-payload c p r =
     record {
       own = r .own;
-      kind = r .kind;
+      transferType = r .transferType;
       message = r .message;
       service = r .service;
       priority = r .priority;
@@ -151,14 +151,14 @@ pub same-id : (c : Outgoing) (p : List ℕ) → idFor (callOf c []) ≡ idFor (c
 unfolding anonymousId
 same-id c p = refl
 
-pub key-in : (c : Call) → InRange c → (c .kind ≡ 2 → ⊥) → (c .kind < 2) × ((c .type < 65536) × (c .destination < 128))
-key-in c r n = go (eqb (c .kind) 0) refl
+pub key-in : (c : Call) → InRange c → (c .transferType ≡ 2 → ⊥) → (c .transferType < 2) × ((c .type < 65536) × (c .destination < 128))
+key-in c r n = go (eqb (c .transferType) 0) refl
   where
-    go : (b : Bool) → eqb (c .kind) 0 ≡ b → (c .kind < 2) × ((c .type < 65536) × (c .destination < 128))
+    go : (b : Bool) → eqb (c .transferType) 0 ≡ b → (c .transferType < 2) × ((c .type < 65536) × (c .destination < 128))
     go true e =
-        let z = eqb-true (c .kind) 0 e in
+        let z = eqb-true (c .transferType) 0 e in
         let k = r .message z in
         (omega arith, (k .0, omega arith))
     go false e =
-        let k = r .service (eqb-false (c .kind) 0 e) in
-        (omega (arith, r .kind), (omega arith, k .1 .1))
+        let k = r .service (eqb-false (c .transferType) 0 e) in
+        (omega (arith, r .transferType), (omega arith, k .1 .1))

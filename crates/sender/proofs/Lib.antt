@@ -1,4 +1,4 @@
-pub mod Misfits
+pub mod NotSendable
 pub mod Pieces
 pub mod Lent
 pub mod After

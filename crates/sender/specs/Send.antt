@@ -10,13 +10,13 @@ use Rattle.rules.specs.Sending as rules
 use Rattle.rules.specs.Sending.{Call, Step, sendStep}
 use Rattle.sender.specs.declared.Outgoing.{Outgoing}
 use Rattle.sender.specs.declared.Sent.{Sent}
-use Rattle.sender.specs.declared.Sent.the-variants.{Done, OutputSmall, MapFull, TooLong, Misfit, Faulty}
+use Rattle.sender.specs.declared.Sent.the-variants.{Done, OutputSmall, MapFull, TooLong, NotSendable, Faulty}
 
 abbrev pub callOf : Outgoing → List ℕ → Call
 callOf c p =
     record {
       own = c .own;
-      kind = c .kind;
+      transferType = c .«transfer_type»;
       type = c .«type_id»;
       destination = c .destination;
       priority = c .priority;
@@ -33,7 +33,7 @@ numberOf (Done n) = 0
 numberOf OutputSmall = 8
 numberOf MapFull = 9
 numberOf TooLong = 11
-numberOf Misfit = 14
+numberOf NotSendable = 14
 numberOf Faulty = 20
 
 -- "The answer gives the number of frames"
@@ -42,7 +42,7 @@ framesOf (Done n) = n
 framesOf OutputSmall = 0
 framesOf MapFull = 0
 framesOf TooLong = 0
-framesOf Misfit = 0
+framesOf NotSendable = 0
 framesOf Faulty = 0
 
 pub record Result : Type 0 where

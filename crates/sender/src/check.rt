@@ -3,14 +3,14 @@ use super::Outgoing;
 ghost use mathlib.Core.Path.{_≡_};
 ghost use mathlib.Core.Bool.{_&&_, _||_};
 ghost use lib.Dec.{ltb, eqb};
-ghost use Rattle.rules.specs.Sending.{typeOver, astray, unfitUnnamed, misfits};
+ghost use Rattle.rules.specs.Sending.{badType, badDestination, badAnonymous, notSendable};
 ghost use Rattle.sender.specs.Send.{callOf};
 
 // The type ID or the destination does not go with the transfer type.
-fn is_astray(kind: u32, type_id: u32, destination: u32) -> bool
-    ensures { λ r. ⌜ r ≡ (typeOver kind «type_id» || astray kind destination) ⌝ }
+fn bad_address(transfer_type: u32, type_id: u32, destination: u32) -> bool
+    ensures { λ r. ⌜ r ≡ (badType «transfer_type» «type_id» || badDestination «transfer_type» destination) ⌝ }
 {
-    if kind == 0 {
+    if transfer_type == 0 {
         if 65535 < type_id {
             return true;
         }
@@ -25,8 +25,8 @@ fn is_astray(kind: u32, type_id: u32, destination: u32) -> bool
     127 < destination
 }
 
-fn is_unfit_unnamed(discriminator: u32, type_id: u32, n: usize, kind: u32) -> bool
-    ensures { λ r. ⌜ r ≡ unfitUnnamed discriminator «type_id» n kind ⌝ }
+fn bad_anonymous(discriminator: u32, type_id: u32, n: usize, transfer_type: u32) -> bool
+    ensures { λ r. ⌜ r ≡ badAnonymous discriminator «type_id» n «transfer_type» ⌝ }
 {
     if 16383 < discriminator {
         return true;
@@ -37,39 +37,39 @@ fn is_unfit_unnamed(discriminator: u32, type_id: u32, n: usize, kind: u32) -> bo
     if 7 < n {
         return true;
     }
-    kind != 0
+    transfer_type != 0
 }
 
 // A response's transfer ID is out of range.
-fn is_overnumbered(kind: u32, transfer_id: u32) -> bool
-    ensures { λ r. ⌜ r ≡ (eqb kind 2 && ltb 31 «transfer_id») ⌝ }
+fn bad_transfer_id(transfer_type: u32, transfer_id: u32) -> bool
+    ensures { λ r. ⌜ r ≡ (eqb «transfer_type» 2 && ltb 31 «transfer_id») ⌝ }
 {
-    if kind == 2 {
+    if transfer_type == 2 {
         return 31 < transfer_id;
     }
     false
 }
 
-pub fn is_misfit(c: Outgoing, payload: &[u8]) -> bool
-    ensures { λ r. ⌜ r ≡ misfits (callOf c (now (payload .entry))) ⌝ }
+pub fn not_sendable(c: Outgoing, payload: &[u8]) -> bool
+    ensures { λ r. ⌜ r ≡ notSendable (callOf c (now (payload .entry))) ⌝ }
 {
     if 127 < c.own {
         return true;
     }
-    if 2 < c.kind {
+    if 2 < c.transfer_type {
         return true;
     }
-    if is_astray(c.kind, c.type_id, c.destination) {
+    if bad_address(c.transfer_type, c.type_id, c.destination) {
         return true;
     }
     if 31 < c.priority {
         return true;
     }
-    if is_overnumbered(c.kind, c.transfer_id) {
+    if bad_transfer_id(c.transfer_type, c.transfer_id) {
         return true;
     }
     if c.own == 0 {
-        return is_unfit_unnamed(c.discriminator, c.type_id, payload.len(), c.kind);
+        return bad_anonymous(c.discriminator, c.type_id, payload.len(), c.transfer_type);
     }
     false
 }

@@ -34,10 +34,10 @@ pub fn id(c: Outgoing) -> u32
     if c.own == 0 {
         return priority + (1024 * c.discriminator + 256 * c.type_id);
     }
-    if c.kind == 0 {
+    if c.transfer_type == 0 {
         return priority + (256 * c.type_id + c.own);
     }
-    let request = (c.kind == 1) as u32;
+    let request = (c.transfer_type == 1) as u32;
     priority + (65536 * c.type_id + (32768 * request + (256 * c.destination + (128 + c.own))))
 }
 

@@ -17,7 +17,7 @@ ghost use Rattle.sender.specs.Send.{callOf, result, lent, sends};
 // What is to be sent, but for its payload. The transfer ID is for a response and the discriminator for an anonymous message; elsewhere they are ignored.
 pub struct Outgoing {
     pub own: u32,
-    pub kind: u32,
+    pub transfer_type: u32,
     pub type_id: u32,
     pub destination: u32,
     pub priority: u32,
@@ -33,17 +33,17 @@ pub enum Sent {
     OutputSmall,
     MapFull,
     TooLong,
-    Misfit,
+    NotSendable,
     Faulty,
 }
 
 // A message or a request: the transfer ID comes from the map.
 fn number(map: &mut [u8], c: Outgoing, payload: &[u8], out: &mut [u8]) -> Sent
     requires { ⌜ (soundMap (now map) ≡ true) × InRange (callOf c (now payload)) ⌝ }
-    requires { ⌜ (c .kind ≡ 2 → ⊥) × ((length (now payload) ≤ 512) × (13 * frameCount (length (now payload)) ≤ length (now out))) ⌝ }
+    requires { ⌜ (c .«transfer_type» ≡ 2 → ⊥) × ((length (now payload) ≤ 512) × (13 * frameCount (length (now payload)) ≤ length (now out))) ⌝ }
     ensures { λ r. ⌜ result r (now (map .exit)) (now (out .exit)) ≡ lent (now (map .entry)) (now (out .entry)) (sendIn (slotFor (topicOf (callOf c (now (payload .entry)))) (c .time) (mapOf (now (map .entry)))) (callOf c (now (payload .entry))) (mapOf (now (map .entry)))) ⌝ }
 {
-    let k = id_map::entry::key_of(c.kind, c.type_id, c.destination);
+    let k = id_map::entry::key_of(c.transfer_type, c.type_id, c.destination);
     let i = id_map::find::place(map, k, c.time);
     if 31 < i {
         return Sent::MapFull;
@@ -60,8 +60,8 @@ fn dispatch(map: &mut [u8], c: Outgoing, payload: &[u8], out: &mut [u8]) -> Sent
     ensures { λ r. ⌜ result r (now (map .exit)) (now (out .exit)) ≡ lent (now (map .entry)) (now (out .entry)) (sendStep (callOf c (now (payload .entry))) (mapOf (now (map .entry))) (length (now (out .entry)))) ⌝ }
 {
     let n = payload.len();
-    if check::is_misfit(c, payload) {
-        return Sent::Misfit;
+    if check::not_sendable(c, payload) {
+        return Sent::NotSendable;
     }
     if 512 < n {
         return Sent::TooLong;
@@ -70,7 +70,7 @@ fn dispatch(map: &mut [u8], c: Outgoing, payload: &[u8], out: &mut [u8]) -> Sent
     if out.len() < 13 * frames {
         return Sent::OutputSmall;
     }
-    if c.kind == 2 {
+    if c.transfer_type == 2 {
         frame::write(out, frame::id(c), c.transfer_id as u8, c.signature, payload);
         return Sent::Done(frames);
     }

@@ -26,7 +26,7 @@ numberOf Faulty = 20
 abbrev pub told : rules.Answer → Answer
 told rules.taken = Taken
 told (rules.handed p d prio t) =
-    Handed (record { len = length p; kind = d .kind; «type_id» = d .type; source = d .source; destination = d .destination; priority = prio; transfer = t })
+    Handed (record { len = length p; «transfer_type» = d .transferType; «type_id» = d .type; source = d .source; destination = d .destination; priority = prio; transfer = t })
 told (rules.refused n) = Refused n
 told rules.full = Full
 told (rules.passed r) = Passed

@@ -22,7 +22,7 @@ pub record InRange (s : Session) : Type 0 where
   pub len : s .len ≤ 514
 
 abbrev pub streamOf : Head → Stream
-streamOf h = record { kind = h .kind; type = h .«type_id»; source = h .source; destination = h .destination }
+streamOf h = record { transferType = h .«transfer_type»; type = h .«type_id»; source = h .source; destination = h .destination }
 
 -- a head and the payload beside it
 unfoldable pub parsedOf : Head → List ℕ → Parsed

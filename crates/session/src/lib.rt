@@ -1,10 +1,13 @@
 // A session by value with its methods, and the tests and answers of one frame of its stream.
+use rules::limits::GATHERED;
+use rules::limits::OLD_AGE;
 ghost use mathlib.Core.Path.{_≡_};
 ghost use mathlib.Core.Bool.{true, false};
 ghost use Prim.Native.Nat.{_+_, _-_, _≤_, _<_};
 ghost use lib.Dec.{ltb};
 ghost use lib.ListN.{length, take};
 ghost use Rattle.bits.specs.Part.{span};
+ghost use Rattle.rules.specs.Limits.{oldAge, gatheredMax};
 ghost use Rattle.rules.specs.Session.{next, sumOk};
 ghost use Rattle.rules.specs.Tests.{pick};
 ghost use Rattle.session.specs.Session.{sessionOf, freshOf, added, restartsAt, awaitedAt};
@@ -16,12 +19,12 @@ pub struct Session {
     pub toggle: bool,
     pub time: u64,
     pub len: usize,
-    pub bytes: [u8; 514],
+    pub bytes: [u8; GATHERED],
 }
 
 // What the rules read of a frame, but for its payload.
 pub struct Head {
-    pub kind: u8,
+    pub transfer_type: u8,
     pub type_id: u16,
     pub source: u8,
     pub destination: u8,
@@ -37,7 +40,7 @@ pub struct Head {
 // A transfer that was handed out: its length, stream, the closing frame's priority and transfer ID.
 pub struct Transfer {
     pub len: usize,
-    pub kind: u8,
+    pub transfer_type: u8,
     pub type_id: u16,
     pub source: u8,
     pub destination: u8,
@@ -70,7 +73,7 @@ impl Session {
     pub fn fresh(transfer: u8, time: u64) -> Self
         ensures { λ r. ⌜ r ≡ freshOf transfer time ⌝ }
     {
-        let bytes = [0u8; 514];
+        let bytes = [0u8; GATHERED];
         Session {
             expected: transfer,
             toggle: false,
@@ -92,7 +95,7 @@ impl Session {
 
     // Internal. A frame is taken: its bytes come behind those in hand, a start sets the time, the toggle turns.
     pub fn take(mut self, start: bool, time: u64, p: &[u8]) -> Self
-        requires { ⌜ self .len + length (now p) ≤ 514 ⌝ }
+        requires { ⌜ self .len + length (now p) ≤ gatheredMax ⌝ }
         ensures { λ r. ⌜ (sessionOf r ≡ added (sessionOf self) start time (now (p .entry))) × ((r .len ≡ self .len + length (now (p .entry))) × (r .expected ≡ self .expected)) ⌝ }
     {
         let at = self.len;
@@ -129,10 +132,10 @@ fn started(start: bool, time: u64, before: u64) -> u64
 
 // The age is above 2,000,000. An earlier time counts as age 0.
 fn is_old(since: u64, time: u64) -> bool
-    ensures { λ r. ⌜ r ≡ ltb 2000000 (time - since) ⌝ }
+    ensures { λ r. ⌜ r ≡ ltb oldAge (time - since) ⌝ }
 {
     if since < time {
-        return 2_000_000 < time - since;
+        return OLD_AGE < time - since;
     }
     false
 }
@@ -184,7 +187,7 @@ pub fn hand_out(s: &[u8], from: usize, len: usize, h: Head, out: &mut [u8]) -> A
     bits::part::copy_span(out, 0, s, from, n);
     Answer::Handed(Transfer {
         len: n,
-        kind: h.kind,
+        transfer_type: h.transfer_type,
         type_id: h.type_id,
         source: h.source,
         destination: h.destination,
@@ -195,7 +198,7 @@ pub fn hand_out(s: &[u8], from: usize, len: usize, h: Head, out: &mut [u8]) -> A
 
 // Internal. An end: start and end together hand out the bytes, else the checksum in front decides.
 pub fn finish(s: &[u8], len: usize, h: Head, out: &mut [u8]) -> Answer
-    requires { ⌜ (len ≤ length (now s)) × ((len ≤ 514) × ((512 ≤ length (now out)) × ((h .start ≡ true) → len ≤ 512))) ⌝ }
+    requires { ⌜ (len ≤ length (now s)) × ((len ≤ gatheredMax) × ((512 ≤ length (now out)) × ((h .start ≡ true) → len ≤ 512))) ⌝ }
     ensures { λ r. ⌜ Closes h (take len (now (s .entry))) r (now (out .entry)) (now (out .exit)) ⌝ }
 {
     if h.start {

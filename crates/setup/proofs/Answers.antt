@@ -7,7 +7,7 @@ use borrow.Author.Tests.{lt-ltb, le-ltb}
 use lib.Dec.{ltb, leb, eqb}
 use lib.ListN.{length, drop}
 use Rattle.rules.specs.Setup.{allFit, acceptable}
-use Rattle.setup.specs.Setup.{recordAt, given, accepted, stateOf, result, setUp}
+use Rattle.setup.specs.Setup.{recordAt, given, accepted, stateOf, result, afterSetup}
 use Rattle.setup.specs.declared.Outcome.the-variants.{Done, Unacceptable, Short}
 use Rattle.bits.proofs.Tabulate.{length-tabulate}
 use Rattle.bits.specs.Tabulate.{tabulate}
@@ -19,15 +19,15 @@ unfolding accepted acceptable given
 tests own r a b c d ea eb ec ed = rw (length-tabulate (recordAt r) 0 (length r / 13), ea, eb, ec, ed)
 
 module _ (m : List ℕ) (own : ℕ) (r : List ℕ) where
-  pub short : length m < size → result Short m ≡ setUp m own r
-  unfolding setUp
+  pub short : length m < size → result Short m ≡ afterSetup m own r
+  unfolding afterSetup
   short h = rw (lt-ltb (length m) size h)
 
   module _ (long : size ≤ length m) where
-    pub refused : accepted own r ≡ false → result Unacceptable m ≡ setUp m own r
-    unfolding setUp
+    pub refused : accepted own r ≡ false → result Unacceptable m ≡ afterSetup m own r
+    unfolding afterSetup
     refused e = rw (le-ltb (length m) size long, e)
 
-    pub done : accepted own r ≡ true → (m' : List ℕ) → m' ≡ stateOf (given own r) ++ drop size m → result Done m' ≡ setUp m own r
-    unfolding setUp
+    pub done : accepted own r ≡ true → (m' : List ℕ) → m' ≡ stateOf (given own r) ++ drop size m → result Done m' ≡ afterSetup m own r
+    unfolding afterSetup
     done e m' em = rw (le-ltb (length m) size long, e, em)

@@ -59,7 +59,7 @@ abbrev pub result : Outcome → List ℕ → Result
 result a m = record { answer = a; state = m }
 
 -- 20 comes first; a refused setup leaves the state as it was; bytes past the layout stay
-unfoldable pub setUp : List ℕ → ℕ → List ℕ → Result
-setUp m own r =
+unfoldable pub afterSetup : List ℕ → ℕ → List ℕ → Result
+afterSetup m own r =
     pick (ltb (length m) size) (result Short m)
     (pick (accepted own r) (result Done (stateOf (given own r) ++ drop size m)) (result Unacceptable m))

@@ -6,7 +6,7 @@ ghost use mathlib.Core.List.{_++_};
 ghost use Prim.Native.Nat.{_+_, _*_, _-_, _/_, _≤_, _<_};
 ghost use lib.ListN.{length, drop, replicate};
 ghost use Rattle.rules.specs.Setup.{typeFits, unlike, allFit};
-ghost use Rattle.setup.specs.Setup.{recordAt, given, stateOf, setUp, result};
+ghost use Rattle.setup.specs.Setup.{recordAt, given, stateOf, afterSetup, result};
 ghost use Rattle.setup.specs.Subscription.{Keyed, withSubscription};
 ghost use Rattle.bits.specs.Tabulate.{tabulate};
 ghost use Rattle.state.specs.Layout.{size};
@@ -120,7 +120,7 @@ fn write(state: &mut [u8], own: u32, records: &[u8], n: usize)
 // Sets a receiver up with its own node ID (0: none yet) and subscriptions: records of 13 bytes, the kind (0 message, 1 service), the
 // type ID (4, low byte first) and the signature (8, low byte first).
 pub fn setup(state: &mut [u8], own: u32, subscriptions: &[u8]) -> Outcome
-    ensures { λ r. ⌜ result r (now (state .exit)) ≡ setUp (now (state .entry)) own (now (subscriptions .entry)) ⌝ }
+    ensures { λ r. ⌜ result r (now (state .exit)) ≡ afterSetup (now (state .entry)) own (now (subscriptions .entry)) ⌝ }
 {
     let len = subscriptions.len();
     let n = len / 13;

@@ -15,32 +15,32 @@ key-stream k h =
     let s : k / 128 % 128 ≡ k / 128 - k / 16384 * 128 = omega arith in
     omega arith
 
-pub stream-key : (d : Stream) → d .kind < 4 → d .type < 65536 → d .source < 128 → d .destination < 128 → streamOfKey (keyOf d) ≡ d
+pub stream-key : (d : Stream) → d .transferType < 4 → d .type < 65536 → d .source < 128 → d .destination < 128 → streamOfKey (keyOf d) ≡ d
 unfolding keyOf streamOfKey
 stream-key d hk ht hs hd =
-    let k = ((d .kind * 65536 + d .type) * 128 + d .source) * 128 + d .destination in
-    let e₁ : k / 1073741824 ≡ d .kind = omega arith in
-    let q : k / 16384 ≡ d .kind * 65536 + d .type = omega arith in
+    let k = ((d .transferType * 65536 + d .type) * 128 + d .source) * 128 + d .destination in
+    let e₁ : k / 1073741824 ≡ d .transferType = omega arith in
+    let q : k / 16384 ≡ d .transferType * 65536 + d .type = omega arith in
     let e₂ : k / 16384 % 65536 ≡ d .type = rw q (omega arith) in
-    let r : k / 128 ≡ (d .kind * 65536 + d .type) * 128 + d .source = omega arith in
+    let r : k / 128 ≡ (d .transferType * 65536 + d .type) * 128 + d .source = omega arith in
     let e₃ : k / 128 % 128 ≡ d .source = rw r (omega arith) in
     let e₄ : k % 128 ≡ d .destination = omega arith in
-    λ i. record { kind = e₁ i; type = e₂ i; source = e₃ i; destination = e₄ i }
+    λ i. record { transferType = e₁ i; type = e₂ i; source = e₃ i; destination = e₄ i }
 
 -- streams are the same exactly if they are equal
 same-refl : (x : Stream) → sameStream x x ≡ true
 unfolding sameStream
-same-refl x = rw (eq-eqb (x .kind) (x .kind) refl, eq-eqb (x .type) (x .type) refl, eq-eqb (x .source) (x .source) refl, eq-eqb (x .destination) (x .destination) refl)
+same-refl x = rw (eq-eqb (x .transferType) (x .transferType) refl, eq-eqb (x .type) (x .type) refl, eq-eqb (x .source) (x .source) refl, eq-eqb (x .destination) (x .destination) refl)
 
 same-not : (x y : Stream) → (x ≡ y → ⊥) → sameStream x y ≡ false
 unfolding sameStream
 same-not x y n =
-    four (eqb (x .kind) (y .kind)) refl (eqb (x .type) (y .type)) refl (eqb (x .source) (y .source)) refl (eqb (x .destination) (y .destination)) refl
+    four (eqb (x .transferType) (y .transferType)) refl (eqb (x .type) (y .type)) refl (eqb (x .source) (y .source)) refl (eqb (x .destination) (y .destination)) refl
   where
-    four : (k : Bool) → eqb (x .kind) (y .kind) ≡ k → (t : Bool) → eqb (x .type) (y .type) ≡ t → (s : Bool) → eqb (x .source) (y .source) ≡ s
+    four : (k : Bool) → eqb (x .transferType) (y .transferType) ≡ k → (t : Bool) → eqb (x .type) (y .type) ≡ t → (s : Bool) → eqb (x .source) (y .source) ≡ s
         → (d : Bool) → eqb (x .destination) (y .destination) ≡ d → (k && (t && (s && d))) ≡ false
     four true ek true et true es true ed = absurd (n (λ i. record {
-      kind = eqb-true (x .kind) (y .kind) ek i;
+      transferType = eqb-true (x .transferType) (y .transferType) ek i;
       type = eqb-true (x .type) (y .type) et i;
       source = eqb-true (x .source) (y .source) es i;
       destination = eqb-true (x .destination) (y .destination) ed i;

@@ -50,10 +50,10 @@ gatheredAt m i = span m (1288 + i * 514) (countAt m i)
 
 -- a stream as 32 bits; 0 is no stream, since a session's source is never 0
 unfoldable pub keyOf : Stream → ℕ
-keyOf d = ((d .kind * 65536 + d .type) * 128 + d .source) * 128 + d .destination
+keyOf d = ((d .transferType * 65536 + d .type) * 128 + d .source) * 128 + d .destination
 
 unfoldable pub streamOfKey : ℕ → Stream
-streamOfKey k = record { kind = k / 1073741824; type = k / 16384 % 65536; source = k / 128 % 128; destination = k % 128 }
+streamOfKey k = record { transferType = k / 1073741824; type = k / 16384 % 65536; source = k / 128 % 128; destination = k % 128 }
 
 unfoldable pub sessionAt : List ℕ → ℕ → Session
 sessionAt m i = record { expected = expectedAt m i; gathered = gatheredAt m i; toggle = eqb (toggleAt m i) 1; since = timeAt m i }

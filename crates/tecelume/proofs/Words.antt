@@ -21,7 +21,7 @@ told-fits rules.taken r = tt
 told-fits (rules.handed p d prio t) r =
     record {
       len = r .length;
-      kind = r .kind;
+      transferType = r .transferType;
       type = r .type;
       source = r .source;
       destination = r .destination;
@@ -48,7 +48,7 @@ read-back t h =
     record {
       number = omega (arith, h);
       len = omega (arith, h);
-      kind = omega (arith, h);
+      transferType = omega (arith, h);
       type = omega (arith, h);
       source = omega (arith, h);
       destination = omega (arith, h);

@@ -2,21 +2,21 @@
 use mathlib.Core.List.{List}
 use Prim.Native.Nat.{ℕ, _+_, _*_, _^_}
 use Rattle.tecelume.specs.Word.{wordOf}
-use Rattle.id_map.specs.SetUp as map
+use Rattle.id_map.specs.Setup as map
 use Rattle.receiver.specs.Receive as receive
 use Rattle.sender.specs.Send as send
 use Rattle.setup.specs.Setup as setup
 
 -- of a setup: the number, and the lent state or map
-pub record SetUp : Type 0 where
+pub record Numbered : Type 0 where
   pub number : ℕ
   pub state : List ℕ
 
 -- the Rattle call's result, its outcome as a number
-abbrev pub numbered : setup.Result → SetUp
+abbrev pub numbered : setup.Result → Numbered
 numbered r = record { number = setup.numberOf (r .answer); state = r .state }
 
-abbrev pub numberedMap : map.Result → SetUp
+abbrev pub numberedMap : map.Result → Numbered
 numberedMap r = record { number = r .number; state = r .map }
 
 -- of a reception or a send: the result word, the lent state or map, and the output buffer

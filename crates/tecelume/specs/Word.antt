@@ -12,7 +12,7 @@ use Rattle.session.specs.declared.Transfer.{Transfer}
 
 unfoldable pub transferWord : Transfer → ℕ
 transferWord t =
-    t .len * 2 ^ 8 + (t .kind * 2 ^ 18 + (t .«type_id» * 2 ^ 20 + (t .source * 2 ^ 36
+    t .len * 2 ^ 8 + (t .«transfer_type» * 2 ^ 18 + (t .«type_id» * 2 ^ 20 + (t .source * 2 ^ 36
     + (t .destination * 2 ^ 43 + (t .priority * 2 ^ 50 + t .transfer * 2 ^ 55)))))
 
 unfoldable pub wordOf : Answer → ℕ
@@ -29,7 +29,7 @@ wordOf Faulty = numberOf Faulty
 
 pub record TransferFits (t : Transfer) : Type 0 where
   pub len : t .len ≤ 512
-  pub kind : t .kind < 3
+  pub transferType : t .«transfer_type» < 3
   pub type : t .«type_id» < 65536
   pub source : t .source < 128
   pub destination : t .destination < 128
@@ -50,7 +50,7 @@ Fits Faulty = Unit {0}
 pub record ReadBack (w : ℕ) (t : Transfer) : Type 0 where
   pub number : w % 2 ^ 8 ≡ 1
   pub len : w / 2 ^ 8 % 2 ^ 10 ≡ t .len
-  pub kind : w / 2 ^ 18 % 2 ^ 2 ≡ t .kind
+  pub transferType : w / 2 ^ 18 % 2 ^ 2 ≡ t .«transfer_type»
   pub type : w / 2 ^ 20 % 2 ^ 16 ≡ t .«type_id»
   pub source : w / 2 ^ 36 % 2 ^ 7 ≡ t .source
   pub destination : w / 2 ^ 43 % 2 ^ 7 ≡ t .destination

@@ -6,10 +6,10 @@ ghost use mathlib.Core.Path.{_≡_};
 ghost use Rattle.tecelume.specs.Entry.{numbered, numberedMap, entry, packed, packedSend};
 ghost use Rattle.tecelume.specs.Word.{WordLaws};
 ghost use Rattle.id_map.specs.Layout as layout;
-ghost use Rattle.id_map.specs.SetUp as setting;
+ghost use Rattle.id_map.specs.Setup as setting;
 ghost use Rattle.receiver.specs.Receive.{frameOf, received};
 ghost use Rattle.sender.specs.Send.{sends};
-ghost use Rattle.setup.specs.Setup.{setUp};
+ghost use Rattle.setup.specs.Setup.{afterSetup};
 ghost use Rattle.state.specs.Layout.{size};
 ghost use Rattle.types.specs.Types.{signatureOf};
 
@@ -24,7 +24,7 @@ pub extern "C" fn tecelume_receiver_size() -> u64
 // Sets a receiver up in a lent state: 0, 13 or 20.
 #[no_mangle]
 pub extern "C" fn tecelume_setup(state: &mut [u8], own: u32, subscriptions: &[u8]) -> u32
-    ensures { λ r. ⌜ record { number = r; state = now (state .exit) } ≡ numbered (setUp (now (state .entry)) own (now (subscriptions .entry))) ⌝ }
+    ensures { λ r. ⌜ record { number = r; state = now (state .exit) } ≡ numbered (afterSetup (now (state .entry)) own (now (subscriptions .entry))) ⌝ }
 {
     word::of_outcome(transport::setup(state, own, subscriptions))
 }
@@ -54,7 +54,7 @@ pub extern "C" fn tecelume_map_size() -> u64
 // Makes a lent map one without an entry: 0 or 20.
 #[no_mangle]
 pub extern "C" fn tecelume_map_setup(map: &mut [u8]) -> u32
-    ensures { λ r. ⌜ record { number = r; state = now (map .exit) } ≡ numberedMap (setting.setUp (now (map .entry))) ⌝ }
+    ensures { λ r. ⌜ record { number = r; state = now (map .exit) } ≡ numberedMap (setting.afterSetup (now (map .entry))) ⌝ }
 {
     word::of_map_outcome(transport::map_setup(map))
 }
@@ -64,7 +64,7 @@ pub extern "C" fn tecelume_map_setup(map: &mut [u8]) -> u32
 pub extern "C" fn tecelume_send(
     map: &mut [u8],
     own: u32,
-    kind: u32,
+    transfer_type: u32,
     type_id: u32,
     destination: u32,
     priority: u32,
@@ -75,11 +75,11 @@ pub extern "C" fn tecelume_send(
     discriminator: u32,
     out: &mut [u8],
 ) -> u64
-    ensures { λ r. ⌜ entry r (now (map .exit)) (now (out .exit)) ≡ packedSend (sends (now (map .entry)) (record { own = own; kind = kind; type = «type_id»; destination = destination; priority = priority; payload = now (payload .entry); signature = signature; time = time; transfer = «transfer_id»; discriminator = discriminator }) (now (out .entry))) ⌝ }
+    ensures { λ r. ⌜ entry r (now (map .exit)) (now (out .exit)) ≡ packedSend (sends (now (map .entry)) (record { own = own; transferType = «transfer_type»; type = «type_id»; destination = destination; priority = priority; payload = now (payload .entry); signature = signature; time = time; transfer = «transfer_id»; discriminator = discriminator }) (now (out .entry))) ⌝ }
 {
     let c = Outgoing {
         own,
-        kind,
+        transfer_type,
         type_id,
         destination,
         priority,

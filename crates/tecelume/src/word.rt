@@ -5,7 +5,7 @@ use transport::Sent;
 use transport::Transfer;
 ghost use mathlib.Core.Path.{_≡_};
 ghost use Prim.Native.Nat.{_+_, _*_, _^_, _≤_};
-ghost use Rattle.id_map.specs.SetUp as setting;
+ghost use Rattle.id_map.specs.Setup as setting;
 ghost use Rattle.sender.specs.Send as send;
 ghost use Rattle.setup.specs.Setup.{numberOf};
 ghost use Rattle.tecelume.specs.Word.{transferWord, wordOf, TransferFits, Fits};
@@ -15,7 +15,7 @@ fn of_transfer(t: Transfer) -> u64
     ensures { λ r. ⌜ r ≡ transferWord t ⌝ }
 {
     t.len as u64 * 0x100
-        + (t.kind as u64 * 0x40000
+        + (t.transfer_type as u64 * 0x40000
             + (t.type_id as u64 * 0x100000
                 + (t.source as u64 * 0x1000000000
                     + (t.destination as u64 * 0x80000000000
@@ -67,7 +67,7 @@ pub fn of_sent(a: Sent) -> u64
         Sent::OutputSmall => 8,
         Sent::MapFull => 9,
         Sent::TooLong => 11,
-        Sent::Misfit => 14,
+        Sent::NotSendable => 14,
         Sent::Faulty => 20,
     }
 }

@@ -1,5 +1,5 @@
 // The transport in one place: the public calls of its crates, and their types. It decides nothing and adds nothing.
-pub use id_map::set_up as map_setup;
+pub use id_map::setup as map_setup;
 pub use id_map::size as map_size;
 pub use receiver::receive;
 pub use sender::Outgoing;

@@ -13,7 +13,7 @@ returns-2 c = ap letterOf (sym (c .match .keys2))
 
 returns-3 : tie.Need-returns-3
 returns-3 c =
-    let k = c .before .args .kind in
+    let k = c .before .args .transfer-type in
     let r = c .match .rest in
     rw (ne-eqb k 0 (r .0 .1), ne-eqb k 1 (r .1))
 

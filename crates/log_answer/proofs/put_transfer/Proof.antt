@@ -15,7 +15,7 @@ use Rattle.log_answer.proofs.put_transfer.Tie as tie
 -- the six parts, one behind the other, in a buffer of n bytes
 joined : (t : Transfer) (pay m m₁ m₂ m₃ m₄ m₅ m₆ : List ℕ) (n at a b c d e f l : ℕ) → at + 131 + length pay * 2 ≤ n → length m ≡ n
     → length m₁ ≡ n → length m₂ ≡ n
-    → length m₃ ≡ n → length m₄ ≡ n → length m₅ ≡ n → l ≡ letterOf (t .kind) → Puts m m₁ at a (32 ∷ []) → Puts m₁ m₂ a b (l ∷ [])
+    → length m₃ ≡ n → length m₄ ≡ n → length m₅ ≡ n → l ≡ letterOf (t .«transfer_type») → Puts m m₁ at a (32 ∷ []) → Puts m₁ m₂ a b (l ∷ [])
     → Puts m₂ m₃ b c (words (t .«type_id» ∷ t .source ∷ t .destination ∷ t .priority ∷ t .transfer ∷ t .len ∷ [])) → c ≤ b + 126 → Puts m₃ m₄ c d
     (32 ∷ [])
     → Puts m₄ m₅ d e (payloadText pay) → e ≤ d + 1 + length pay * 2 → Puts m₅ m₆ e f (10 ∷ [])

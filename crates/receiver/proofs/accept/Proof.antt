@@ -21,7 +21,7 @@ use Rattle.session.specs.Session.{parsedOf}
 use Rattle.session.specs.declared.Head.{Head}
 use Rattle.state.specs.Layout.{setupOf, placesOf}
 use Rattle.state.specs.Sound.{soundState}
-use Rattle.receiver.proofs.Checks.{Passed, passes, source-named, start-toggle, kind-lt, destination-lt, parsed-is}
+use Rattle.receiver.proofs.Checks.{Passed, passes, source-named, start-toggle, type-small, destination-lt, parsed-is}
 use Rattle.receiver.proofs.Heads.{source-is, type-lt}
 use Rattle.receiver.proofs.Lent.{untouched}
 use borrow.Author.Needs.{needs}
@@ -43,7 +43,7 @@ called m out bs id time g h e fine k a room p f = record {
   sound = fine;
   transfer = subst (λ (x : Head). x .transfer < 32) (sym e) (omega arith);
   start = subst (λ (x : Head). x .start ≡ true → x .toggle ≡ false) (sym e) (start-toggle (frameOf id bs time) k);
-  kind = subst (λ (x : Head). x .kind < 3) (sym e) (kind-lt id);
+  transferType = subst (λ (x : Head). x .«transfer_type» < 3) (sym e) (type-small id);
   type = subst (λ (x : Head). x .«type_id» < 65536) (sym e) (type-lt id);
   source = subst (λ (x : Head). x .source < 128) (sym e) (omega (arith, source-is id));
   named = subst (λ (x : Head). x .source ≡ 0 → ⊥) (sym e) (source-named (frameOf id bs time) k a);

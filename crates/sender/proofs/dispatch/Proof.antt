@@ -8,7 +8,7 @@ use lib.ListN.{length}
 use Rattle.bits.specs.Order.{Octets}
 use Rattle.bits.specs.Part.{splice}
 use Rattle.bits.proofs.Octets.{octets-all}
-use Rattle.rules.specs.Sending.{Call, misfits, frameCount, recordsOf}
+use Rattle.rules.specs.Sending.{Call, notSendable, frameCount, recordsOf}
 use Rattle.rules.specs.SendingLaws.{InRange}
 use Rattle.rules.specs.Sent.{sent}
 use Rattle.rules.proofs.Calls.{in-range}
@@ -25,9 +25,9 @@ call s = callOf (s .args .c) (s .args .payload .now)
 octets : (k : tie.After-slice-known) → Octets (k .before .args .map .now)
 octets k = octets-all (k .before .args .map .now) (λ i. omega (arith, k .slice-known .given i))
 
-fit : (e : tie.Else1) → misfits (call (e .before .before .before .before .before)) ≡ false
+fit : (e : tie.Else1) → notSendable (call (e .before .before .before .before .before)) ≡ false
 unfolding call
-fit e = sym (e .before .is-misfit .ensures) ∙ e .if1 .left
+fit e = sym (e .before .not-sendable .ensures) ∙ e .if1 .left
 
 -- what is known behind the check for room
 ranged : (e : tie.Else1) → InRange (call (e .before .before .before .before .before))
@@ -36,8 +36,8 @@ ranged e = in-range (call (e .before .before .before .before .before)) (fit e)
 roomy : (e : tie.Else3) → let s = e .before .before .before .before .before .before .before .before in 13 * frameCount (length (s .args .payload .now)) ≤ length (s .args .out .now)
 roomy e = omega (arith, e .before .count .ensures)
 
-is-misfit-requires : tie.Need-is-misfit-requires
-is-misfit-requires c κs = search needs
+not-sendable-requires : tie.Need-not-sendable-requires
+not-sendable-requires c κs = search needs
 
 returns : tie.Need-returns
 unfolding call
@@ -45,7 +45,7 @@ returns c =
     let e = c .before in
     let k = e .before .before .before in
     let s = k .before in
-    misfitting (s .args .map .now) (s .pre) (octets k) (call s) (s .args .out .now) (length (s .args .out .now)) (sym (e .is-misfit .ensures) ∙ c .if1 .taken)
+    misfitting (s .args .map .now) (s .pre) (octets k) (call s) (s .args .out .now) (length (s .args .out .now)) (sym (e .not-sendable .ensures) ∙ c .if1 .taken)
 
 returns-2 : tie.Need-returns-2
 unfolding call
@@ -147,7 +147,7 @@ pub dispatch-spec : {M : Type 1} → statement M
 dispatch-spec =
     tie.close
     (tie.spec
-    is-misfit-requires
+    not-sendable-requires
     returns
     returns-2
     count-requires

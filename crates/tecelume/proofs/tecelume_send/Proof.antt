@@ -34,7 +34,7 @@ of-sent-requires c κs =
     let call : Call =
     record {
       own = a .own;
-      kind = a .kind;
+      transferType = a .transfer-type;
       type = a .type-id;
       destination = a .destination;
       priority = a .priority;

@@ -84,7 +84,7 @@ impl Receptions {
         if self.random.once_in(3) {
             let receiver = states::empty(&mut self.random);
             self.state.level();
-            self.set_up(&receiver)?;
+            self.setup(&receiver)?;
             return Ok(receiver);
         }
         let receiver = states::receiver(&mut self.random, clock);
@@ -93,7 +93,7 @@ impl Receptions {
         Ok(receiver)
     }
 
-    fn set_up(&mut self, receiver: &Receiver) -> Result<(), Difference> {
+    fn setup(&mut self, receiver: &Receiver) -> Result<(), Difference> {
         let list = records(&receiver.subscriptions);
         let mut lent = Pair::new(list.len(), &mut self.random);
         lent.lend_content(&list, true);

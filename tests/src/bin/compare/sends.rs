@@ -73,7 +73,7 @@ impl Sends {
         let (expected, actual) = (SIZE as u64, (self.side.size)());
         compare((expected, actual), &[], || "map size".to_string())?;
         while self.setups.calls() < calls / 10 {
-            self.set_up_each()?;
+            self.setup_each()?;
         }
         while self.tally.calls() < calls {
             let mut clock = self.random.below(1 << 40);
@@ -93,20 +93,20 @@ impl Sends {
     }
 
     /// Setups of a buffer that is too short, of one that fits, and of a longer one.
-    fn set_up_each(&mut self) -> Result<(), Difference> {
+    fn setup_each(&mut self) -> Result<(), Difference> {
         for length in [self.random.pick(&[0, 1, SIZE - 1]), SIZE, SIZE + EXTRA] {
             let null = self.random.coin();
             self.map.lend(length, null);
             self.random.fill(self.map.expected.content_mut());
             self.map.level();
-            self.set_up()?;
+            self.setup()?;
         }
         Ok(())
     }
 
     /// A map to begin with, by setup or lent as it is.
     fn open(&mut self, descriptors: &[Descriptor], clock: u64) -> Result<(), Difference> {
-        self.set_up_each()?;
+        self.setup_each()?;
         if self.random.coin() {
             self.map.lend(SIZE, false);
         }
@@ -119,7 +119,7 @@ impl Sends {
         Ok(())
     }
 
-    fn set_up(&mut self) -> Result<(), Difference> {
+    fn setup(&mut self) -> Result<(), Difference> {
         let expected = entry::map_setup(self.map.expected.content_mut());
         let actual = (self.side.setup)(&mut self.map.actual);
         self.setups.number(expected);

@@ -28,7 +28,7 @@ returns : tie.Need-returns
 unfolding keyOf
 returns c =
     let a = c .args in
-    (topic-key (record { kind = a .kind; type = a .type-id; destination = a .destination }) (omega arith) (omega arith), omega arith)
+    (topic-key (record { transferType = a .transfer-type; type = a .type-id; destination = a .destination }) (omega arith) (omega arith), omega arith)
 
 pub key-of-spec : {M : Type 1} → statement M
 key-of-spec =

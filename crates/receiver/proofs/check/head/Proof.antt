@@ -33,10 +33,10 @@ cast-t14 c = search needs
 -- two heads with equal fields
 alike : {k k' y y' s s' d d' p p' x t g : ℕ} {a e o : Bool} → k ≡ k' → y ≡ y' → s ≡ s' → d ≡ d' → p ≡ p'
     → _≡_ {A = Head}
-    (record { kind = k; «type_id» = y; source = s; destination = d; priority = p; start = a; end = e; toggle = o; transfer = x; time = t; signature = g })
-    (record { kind = k'; «type_id» = y'; source = s'; destination = d'; priority = p'; start = a; end = e; toggle = o; transfer = x; time = t; signature = g })
+    (record { «transfer_type» = k; «type_id» = y; source = s; destination = d; priority = p; start = a; end = e; toggle = o; transfer = x; time = t; signature = g })
+    (record { «transfer_type» = k'; «type_id» = y'; source = s'; destination = d'; priority = p'; start = a; end = e; toggle = o; transfer = x; time = t; signature = g })
 alike {x = x} {t = t} {g = g} {a = a} {e = e} {o = o} ek ey es ed ep =
-    λ j. record { kind = ek j; «type_id» = ey j; source = es j; destination = ed j; priority = ep j; start = a; end = e; toggle = o; transfer = x; time = t; signature = g }
+    λ j. record { «transfer_type» = ek j; «type_id» = ey j; source = es j; destination = ed j; priority = ep j; start = a; end = e; toggle = o; transfer = x; time = t; signature = g }
 
 returns : tie.Need-returns
 unfolding headOf

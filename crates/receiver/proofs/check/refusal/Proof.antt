@@ -67,27 +67,27 @@ returns-2 c = let a = c .before .before .before .args in none (a .own) (a .id) (
 returns-3 : tie.Need-returns-3
 returns-3 c = let a = c .before .before .before .before .args in many (a .own) (a .id) (a .frame .now) (c .before .before .if1 .left) (c .before .if2 .left) (c .if3 .taken)
 
-is-unnamed-requires : tie.Need-is-unnamed-requires
-is-unnamed-requires c κs = search needs
+unnamed-service-requires : tie.Need-unnamed-service-requires
+unnamed-service-requires c κs = search needs
 
 returns-4 : tie.Need-returns-4
 returns-4 c =
     let u = c .before in
     let e = u .before in
     let a = e .before .before .before .before .args in
-    unnamed (a .own) (a .id) (a .frame .now) (e .before .before .if1 .left) (e .before .if2 .left) (e .if3 .left) (sym (u .is-unnamed .ensures) ∙ c .if4 .taken)
+    unnamed (a .own) (a .id) (a .frame .now) (e .before .before .if1 .left) (e .before .if2 .left) (e .if3 .left) (sym (u .unnamed-service .ensures) ∙ c .if4 .taken)
 
 is-anonymous-requires : tie.Need-is-anonymous-requires
 is-anonymous-requires c κs = search needs
 
-sub-is-bad-tail : tie.Need-sub-is-bad-tail
-sub-is-bad-tail c = search needs
+sub-bad-tail : tie.Need-sub-bad-tail
+sub-bad-tail c = search needs
 
-shared-slice-read-is-bad-tail : tie.Need-shared-slice-read-is-bad-tail
-shared-slice-read-is-bad-tail c = search needs
+shared-slice-read-bad-tail : tie.Need-shared-slice-read-bad-tail
+shared-slice-read-bad-tail c = search needs
 
-is-bad-tail-requires : tie.Need-is-bad-tail-requires
-is-bad-tail-requires c κs = search needs
+bad-tail-requires : tie.Need-bad-tail-requires
+bad-tail-requires c κs = search needs
 
 returns-5 : tie.Need-returns-5
 returns-5 c =
@@ -96,11 +96,11 @@ returns-5 c =
     let u = n .before .before in
     let e = u .before in
     let a = e .before .before .before .before .args in
-    tail (a .own) (a .id) (a .frame .now) (e .before .before .if1 .left) (e .before .if2 .left) (e .if3 .left) (sym (u .is-unnamed .ensures) ∙ n .before .if4 .left)
-    (tested (a .frame .now) (a .id) (t .is-bad-tail .result) (n .is-anonymous .ensures) (t .is-bad-tail .ensures) ∙ c .if5 .taken)
+    tail (a .own) (a .id) (a .frame .now) (e .before .before .if1 .left) (e .before .if2 .left) (e .if3 .left) (sym (u .unnamed-service .ensures) ∙ n .before .if4 .left)
+    (tested (a .frame .now) (a .id) (t .bad-tail .result) (n .is-anonymous .ensures) (t .bad-tail .ensures) ∙ c .if5 .taken)
 
-is-for-another-requires : tie.Need-is-for-another-requires
-is-for-another-requires c κs = search needs
+for-another-node-requires : tie.Need-for-another-node-requires
+for-another-node-requires c κs = search needs
 
 returns-6 : tie.Need-returns-6
 returns-6 c =
@@ -110,8 +110,8 @@ returns-6 c =
     let u = n .before .before in
     let e = u .before in
     let a = e .before .before .before .before .args in
-    another (a .own) (a .id) (a .frame .now) (e .before .before .if1 .left) (e .before .if2 .left) (e .if3 .left) (sym (u .is-unnamed .ensures) ∙ n .before .if4 .left)
-    (tested (a .frame .now) (a .id) (t .is-bad-tail .result) (n .is-anonymous .ensures) (t .is-bad-tail .ensures) ∙ o .before .if5 .left) (sym (o .is-for-another .ensures) ∙ c .if6 .taken)
+    another (a .own) (a .id) (a .frame .now) (e .before .before .if1 .left) (e .before .if2 .left) (e .if3 .left) (sym (u .unnamed-service .ensures) ∙ n .before .if4 .left)
+    (tested (a .frame .now) (a .id) (t .bad-tail .result) (n .is-anonymous .ensures) (t .bad-tail .ensures) ∙ o .before .if5 .left) (sym (o .for-another-node .ensures) ∙ c .if6 .taken)
 
 returns-7 : tie.Need-returns-7
 returns-7 c =
@@ -121,8 +121,8 @@ returns-7 c =
     let u = n .before .before in
     let e = u .before in
     let a = e .before .before .before .before .args in
-    passed (a .own) (a .id) (a .frame .now) (e .before .before .if1 .left) (e .before .if2 .left) (e .if3 .left) (sym (u .is-unnamed .ensures) ∙ n .before .if4 .left)
-    (tested (a .frame .now) (a .id) (t .is-bad-tail .result) (n .is-anonymous .ensures) (t .is-bad-tail .ensures) ∙ o .before .if5 .left) (sym (o .is-for-another .ensures) ∙ c .if6 .left)
+    passed (a .own) (a .id) (a .frame .now) (e .before .before .if1 .left) (e .before .if2 .left) (e .if3 .left) (sym (u .unnamed-service .ensures) ∙ n .before .if4 .left)
+    (tested (a .frame .now) (a .id) (t .bad-tail .result) (n .is-anonymous .ensures) (t .bad-tail .ensures) ∙ o .before .if5 .left) (sym (o .for-another-node .ensures) ∙ c .if6 .left)
 
 pub refusal-spec : {M : Type 1} → statement M
 refusal-spec =
@@ -131,13 +131,13 @@ refusal-spec =
     returns
     returns-2
     returns-3
-    is-unnamed-requires
+    unnamed-service-requires
     returns-4
     is-anonymous-requires
-    sub-is-bad-tail
-    shared-slice-read-is-bad-tail
-    is-bad-tail-requires
+    sub-bad-tail
+    shared-slice-read-bad-tail
+    bad-tail-requires
     returns-5
-    is-for-another-requires
+    for-another-node-requires
     returns-6
     returns-7)

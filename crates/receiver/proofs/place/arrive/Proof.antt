@@ -55,8 +55,8 @@ known-requires c κs =
     let f : y .key .result ≡ keyOf d = y .key .ensures in
     let o = octets-all m (λ i. omega (arith, b .slice-known .given i)) in
     let z : y .key .result ≡ 0 → ⊥ = λ e. key-some d (q .named) (sym f ∙ e) in
-    let w : y .key .result < 4294967296 = omega (arith, f, key-word d (q .kind) (q .type) (q .source) (q .destination)) in
-    let g : streamOfKey (y .key .result) ≡ d = ap streamOfKey f ∙ head-key d (q .kind) (q .type) (q .source) (q .destination) in
+    let w : y .key .result < 4294967296 = omega (arith, f, key-word d (q .transferType) (q .type) (q .source) (q .destination)) in
+    let g : streamOfKey (y .key .result) ≡ d = ap streamOfKey f ∙ head-key d (q .transferType) (q .type) (q .source) (q .destination) in
     (q, (t .if1 .taken, (f, key-found m o (long m (q .sound)) d (y .key .result) z w g (n .scan .result) (n .scan .ensures) (t .if1 .taken))))
 
 same-length : tie.Need-same-length
@@ -81,8 +81,8 @@ returns c =
     let f : y .key .result ≡ keyOf d = y .key .ensures in
     let o = octets-all m (λ i. omega (arith, b .slice-known .given i)) in
     let z : y .key .result ≡ 0 → ⊥ = λ e. key-some d (q .named) (sym f ∙ e) in
-    let w : y .key .result < 4294967296 = omega (arith, f, key-word d (q .kind) (q .type) (q .source) (q .destination)) in
-    let g : streamOfKey (y .key .result) ≡ d = ap streamOfKey f ∙ head-key d (q .kind) (q .type) (q .source) (q .destination) in
+    let w : y .key .result < 4294967296 = omega (arith, f, key-word d (q .transferType) (q .type) (q .source) (q .destination)) in
+    let g : streamOfKey (y .key .result) ≡ d = ap streamOfKey f ∙ head-key d (q .transferType) (q .type) (q .source) (q .destination) in
     let v = parsedOf (a .h) (a .p .now) in
     let i = n .scan .result in
     let at : keyAt m i ≡ y .key .result = key-found m o (long m (q .sound)) d (y .key .result) z w g i (n .scan .ensures) (t .if1 .taken) in
@@ -116,8 +116,8 @@ returns-2 c =
     let f : y .key .result ≡ keyOf d = y .key .ensures in
     let o = octets-all m (λ i. omega (arith, b .slice-known .given i)) in
     let z : y .key .result ≡ 0 → ⊥ = λ e. key-some d (q .named) (sym f ∙ e) in
-    let w : y .key .result < 4294967296 = omega (arith, f, key-word d (q .kind) (q .type) (q .source) (q .destination)) in
-    let g : streamOfKey (y .key .result) ≡ d = ap streamOfKey f ∙ head-key d (q .kind) (q .type) (q .source) (q .destination) in
+    let w : y .key .result < 4294967296 = omega (arith, f, key-word d (q .transferType) (q .type) (q .source) (q .destination)) in
+    let g : streamOfKey (y .key .result) ≡ d = ap streamOfKey f ∙ head-key d (q .transferType) (q .type) (q .source) (q .destination) in
     let v = parsedOf (a .h) (a .p .now) in
     u .unknown .ensures ∙ ap (λ (x : Bool). lent m (a .out .now) (stepStart x (placesOf m) v)) (sym (t .if2 .taken))
     ∙ at-place m (a .out .now) (a .p .now) (a .h) (no-place-of m o (long m (q .sound)) d (y .key .result) z w g (n .scan .result) (n .scan .ensures) (e .if1 .left))
@@ -140,8 +140,8 @@ returns-3 c =
     let f : y .key .result ≡ keyOf d = y .key .ensures in
     let o = octets-all m (λ i. omega (arith, b .slice-known .given i)) in
     let z : y .key .result ≡ 0 → ⊥ = λ e. key-some d (q .named) (sym f ∙ e) in
-    let w : y .key .result < 4294967296 = omega (arith, f, key-word d (q .kind) (q .type) (q .source) (q .destination)) in
-    let g : streamOfKey (y .key .result) ≡ d = ap streamOfKey f ∙ head-key d (q .kind) (q .type) (q .source) (q .destination) in
+    let w : y .key .result < 4294967296 = omega (arith, f, key-word d (q .transferType) (q .type) (q .source) (q .destination)) in
+    let g : streamOfKey (y .key .result) ≡ d = ap streamOfKey f ∙ head-key d (q .transferType) (q .type) (q .source) (q .destination) in
     let v = parsedOf (a .h) (a .p .now) in
     untouched m (q .sound) o (a .out .now) (stepStart false (placesOf m) v) _ refl refl (a .out .now) refl
     ∙ ap (λ (x : Bool). lent m (a .out .now) (stepStart x (placesOf m) v)) (sym (c .if2 .left))

@@ -92,7 +92,7 @@ returns c =
     let x = takes-last (entered (a .way) m (a .i) (a .h)) (a .h) (a .p .now) (t .take .result) (added-to t) (n .few) (h .if1 .taken) (f .finish .result) (a .out .now) _ (f .finish .ensures) in
     let g : sessionOf (l .close .result) ≡ o .session = ap sessionOf (l .close .ensures) ∙ x .1 .0 in
     let r = subst InRange (sym (l .close .ensures)) (shut-range (t .take .result)) in
-    let e = ap streamOfKey (s .pre .1 .1 .0) ∙ head-key (streamOf (a .h)) (q .kind) (q .type) (q .source) (q .destination) in
+    let e = ap streamOfKey (s .pre .1 .1 .0) ∙ head-key (streamOf (a .h)) (q .transferType) (q .type) (q .source) (q .destination) in
     stored m (q .sound) (octets-all m (λ i. omega (arith, y .before .before .before .before .slice-known .given i))) (a .i) (s .pre .1 .0) (a .out .now) (streamOf (a .h)) o
     (few-of (l .close .result) r (o .session) g) (a .k) (sessionOf (l .close .result)) (f .finish .result)
     (w .store .last .0) _ (octets-all (w .store .last .0) (λ i. omega (arith, c .slice-known4 .given i))) e g (w .store .ensures) (x .0) (x .1 .1)
@@ -127,7 +127,7 @@ returns-2 c =
     let x = takes-on (entered (a .way) m (a .i) (a .h)) (a .h) (a .p .now) (t .take .result) (added-to t) (n .few) (h .if1 .left) in
     let g : sessionOf (t .take .result) ≡ o .session = sym (ap (λ (z : Out). z .session) x) in
     let r : InRange (t .take .result) = record { expected = omega (arith, t .take .ensures .1 .1, expected-is y, n .expected); len = omega (arith, t .take .ensures .1 .0, length-of y, n .few) } in
-    let e = ap streamOfKey (s .pre .1 .1 .0) ∙ head-key (streamOf (a .h)) (q .kind) (q .type) (q .source) (q .destination) in
+    let e = ap streamOfKey (s .pre .1 .1 .0) ∙ head-key (streamOf (a .h)) (q .transferType) (q .type) (q .source) (q .destination) in
     stored m (q .sound) (octets-all m (λ i. omega (arith, y .before .before .before .before .slice-known .given i))) (a .i) (s .pre .1 .0) (a .out .now) (streamOf (a .h)) o
     (few-of (t .take .result) r (o .session) g) (a .k) (sessionOf (t .take .result)) _
     (w .store2 .last .0) _ (octets-all (w .store2 .last .0) (λ i. omega (arith, c .slice-known5 .given i))) e g (w .store2 .ensures)

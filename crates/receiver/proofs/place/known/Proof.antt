@@ -133,7 +133,7 @@ returns-2 c =
     let y = restarts-at t (g .progress .result) (g .progress .ensures) (a .h) (r .restarts .result) (r .restarts .ensures) true (k .before .if1 .taken) in
     let o = react t (parsedOf (a .h) (a .p .now)) in
     let x = reacts-skip t (a .h) (a .p .now) y (k .if2 .left) in
-    let e = ap streamOfKey (s .pre .1 .1 .0) ∙ head-key (streamOf (a .h)) (q .kind) (q .type) (q .source) (q .destination) in
+    let e = ap streamOfKey (s .pre .1 .1 .0) ∙ head-key (streamOf (a .h)) (q .transferType) (q .type) (q .source) (q .destination) in
     stored m (q .sound) (octets-all m (λ i. omega (arith, b .slice-known .given i))) (a .i) (s .pre .1 .0) (a .out .now) (streamOf (a .h)) o (rw x (omega arith)) (a .k) (restarted t (next (a .h .transfer))) _
     (n .reset .last .0) _ (octets-all (n .reset .last .0) (λ i. omega (arith, c .slice-known5 .given i))) e (sym (ap (λ (u : Out). u .session) x)) (n .reset .ensures)
     (sym (ap (λ (u : Out). told (u .answer)) x)) (sym (ap (λ (u : Out). outAfter (u .answer) (a .out .now)) x))
@@ -190,7 +190,7 @@ returns-3 c =
     let i = awaited-at t p (g .progress .ensures) (a .h) (w .awaited .result) (w .awaited .ensures) true (k .before .before .if3 .taken) in
     let o = react t (parsedOf (a .h) (a .p .now)) in
     let x = reacts-over t (a .h) (a .p .now) y i (omega (arith, ap (λ (u : Progress). u .len) (g .progress .ensures), k .if4 .taken)) (q .payload) in
-    let e = ap streamOfKey (s .pre .1 .1 .0) ∙ head-key (streamOf (a .h)) (q .kind) (q .type) (q .source) (q .destination) in
+    let e = ap streamOfKey (s .pre .1 .1 .0) ∙ head-key (streamOf (a .h)) (q .transferType) (q .type) (q .source) (q .destination) in
     stored m (q .sound) (octets-all m (λ i. omega (arith, b .slice-known .given i))) (a .i) (s .pre .1 .0) (a .out .now) (streamOf (a .h)) o (rw x (omega arith)) (a .k) (restarted t (next (t .expected))) _
     (n .reset2 .last .0) _ (octets-all (n .reset2 .last .0) (λ i. omega (arith, c .slice-known6 .given i))) e (sym (ap (λ (u : Out). u .session) x))
     (n .reset2 .ensures ∙ ap (λ (u : Progress). withPlace m (a .i) (held (streamOfKey (a .k)) (restarted t (next (u .expected))))) (g .progress .ensures))
@@ -271,7 +271,7 @@ returns-5 c =
     let i = awaited-at t p (g .progress .ensures) (a .h) (w .awaited .result) (w .awaited .ensures) false (c .if3 .left) in
     let o = react t (parsedOf (a .h) (a .p .now)) in
     let x = reacts-pass t (a .h) (a .p .now) y i in
-    let e = ap streamOfKey (s .pre .1 .1 .1 ∙ s .pre .1 .1 .0) ∙ head-key (streamOf (a .h)) (q .kind) (q .type) (q .source) (q .destination) in
+    let e = ap streamOfKey (s .pre .1 .1 .1 ∙ s .pre .1 .1 .0) ∙ head-key (streamOf (a .h)) (q .transferType) (q .type) (q .source) (q .destination) in
     kept m (q .sound) (octets-all m (λ i. omega (arith, b .slice-known .given i))) (a .i) (s .pre .1 .0) (a .out .now) (streamOf (a .h)) o (rw (x .1 .0) (held-few m (q .sound) (a .i) (s .pre .1 .0) z)) z e (x .1 .0) _ _
     (sym (x .0)) (sym (x .1 .1 (a .out .now)))
 

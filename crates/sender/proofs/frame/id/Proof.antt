@@ -77,7 +77,7 @@ returns-2 c =
     let t = c .before .before in
     let e = t .before .before in
     let o = e .before .before .before .args .c in
-    rw (ne-eqb (o .own) 0 (e .if1 .left), eq-eqb (o .kind) 0 (t .if2 .taken))
+    rw (ne-eqb (o .own) 0 (e .if1 .left), eq-eqb (o .«transfer_type») 0 (t .if2 .taken))
 
 cast-request : tie.Need-cast-request
 cast-request c = search needs
@@ -86,7 +86,7 @@ mul-result-4 : tie.Need-mul-result-4
 mul-result-4 c = omega (arith, service (c .before .before))
 
 mul-result-5 : tie.Need-mul-result-5
-mul-result-5 c = let b = byte-le (eqb (c .before .before .before .before .before .before .before .args .c .kind) 1) in omega arith
+mul-result-5 c = let b = byte-le (eqb (c .before .before .before .before .before .before .before .args .c .«transfer_type») 1) in omega arith
 
 mul-result-6 : tie.Need-mul-result-6
 mul-result-6 c = omega (arith, service (c .before .before .before))
@@ -98,13 +98,13 @@ add-result-6 : tie.Need-add-result-6
 add-result-6 c = omega (arith, service (c .before .before .before .before))
 
 add-result-7 : tie.Need-add-result-7
-add-result-7 c = let b = byte-le (eqb (c .before .before .before .before .before .before .before .before .before .args .c .kind) 1) in omega (arith, service (c .before .before .before .before))
+add-result-7 c = let b = byte-le (eqb (c .before .before .before .before .before .before .before .before .before .args .c .«transfer_type») 1) in omega (arith, service (c .before .before .before .before))
 
 add-result-8 : tie.Need-add-result-8
-add-result-8 c = let b = byte-le (eqb (c .before .before .before .before .before .before .before .before .before .args .c .kind) 1) in omega (arith, service (c .before .before .before .before))
+add-result-8 c = let b = byte-le (eqb (c .before .before .before .before .before .before .before .before .before .args .c .«transfer_type») 1) in omega (arith, service (c .before .before .before .before))
 
 add-result-9 : tie.Need-add-result-9
-add-result-9 c = let b = byte-le (eqb (c .before .before .before .before .before .before .before .before .before .args .c .kind) 1) in omega (arith, service (c .before .before .before .before))
+add-result-9 c = let b = byte-le (eqb (c .before .before .before .before .before .before .before .before .before .args .c .«transfer_type») 1) in omega (arith, service (c .before .before .before .before))
 
 returns-3 : tie.Need-returns-3
 unfolding idOf
@@ -112,7 +112,7 @@ returns-3 c =
     let t = c .before .before .before .before in
     let e = t .before .before in
     let o = e .before .before .before .args .c in
-    rw (ne-eqb (o .own) 0 (e .if1 .left), ne-eqb (o .kind) 0 (t .if2 .left), byte-flag (eqb (o .kind) 1))
+    rw (ne-eqb (o .own) 0 (e .if1 .left), ne-eqb (o .«transfer_type») 0 (t .if2 .left), byte-flag (eqb (o .«transfer_type») 1))
 
 pub id-spec : {M : Type 1} → statement M
 id-spec =

@@ -1,4 +1,4 @@
--- `set_up` meets its contract.
+-- `setup` meets its contract.
 use mathlib.Core.Path.{_≡_}
 use mathlib.Core.List.{List}
 use Prim.Native.Nat.{ℕ, _≤_, _<_}
@@ -6,18 +6,18 @@ use borrow.Author.Tests.{lt-ltb, le-ltb}
 use lib.ListN.{length, replicate}
 use Rattle.bits.specs.Part.{splice}
 use Rattle.id_map.specs.Layout.{size}
-use Rattle.id_map.specs.SetUp.{result, setUp}
+use Rattle.id_map.specs.Setup.{result, afterSetup}
 use Rattle.id_map.specs.declared.Outcome.the-variants.{Done, Short}
 use borrow.Author.Needs.{needs}
-use Rattle.id_map.proofs.set_up.Statement.{statement}
-use Rattle.id_map.proofs.set_up.Tie as tie
+use Rattle.id_map.proofs.setup.Statement.{statement}
+use Rattle.id_map.proofs.setup.Tie as tie
 
-refused : (m : List ℕ) → length m < size → result Short m ≡ setUp m
-unfolding setUp
+refused : (m : List ℕ) → length m < size → result Short m ≡ afterSetup m
+unfolding afterSetup
 refused m h = rw (lt-ltb (length m) size h)
 
-cleared : (m m' : List ℕ) → size ≤ length m → m' ≡ splice m 0 (replicate size 0) → result Done m' ≡ setUp m
-unfolding setUp
+cleared : (m m' : List ℕ) → size ≤ length m → m' ≡ splice m 0 (replicate size 0) → result Done m' ≡ afterSetup m
+unfolding afterSetup
 cleared m m' h e = rw (le-ltb (length m) size h, e)
 
 returns : tie.Need-returns
@@ -38,6 +38,6 @@ returns-2 c =
     let e = p .before .before .before in
     cleared (e .before .before .args .map .now) (p .copy-at .last .0) (e .if1 .left) (p .copy-at .ensures)
 
-pub set-up-spec : {M : Type 1} → statement M
-set-up-spec =
+pub setup-spec : {M : Type 1} → statement M
+setup-spec =
     tie.close (tie.spec returns slice-aggregate-copy-at copy-at-requires same-length returns-2)

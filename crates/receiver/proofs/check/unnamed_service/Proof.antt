@@ -1,4 +1,4 @@
--- `check::is_unnamed` meets its contract.
+-- `check::unnamed_service` meets its contract.
 use mathlib.Core.Path.{sym, ap, _∙_}
 use mathlib.Core.Bool.{Bool, true, false}
 use Prim.Native.Nat.{_/_, _%_}
@@ -7,8 +7,8 @@ use lib.Dec.{eqb}
 use Rattle.rules.specs.Tests.{pick}
 use Rattle.receiver.proofs.Heads.{unnamed-is}
 use borrow.Author.Needs.{needs}
-use Rattle.receiver.proofs.check.is_unnamed.Statement.{statement}
-use Rattle.receiver.proofs.check.is_unnamed.Tie as tie
+use Rattle.receiver.proofs.check.unnamed_service.Statement.{statement}
+use Rattle.receiver.proofs.check.unnamed_service.Tie as tie
 
 is-service-requires : tie.Need-is-service-requires
 is-service-requires c κs = search needs
@@ -28,5 +28,5 @@ returns-2 c =
 returns-3 : tie.Need-returns-3
 returns-3 c = let s = c .before in sym (unnamed-is (s .before .args .id) false (sym (s .is-service .ensures) ∙ c .if1 .left))
 
-pub is-unnamed-spec : {M : Type 1} → statement M
-is-unnamed-spec = tie.close (tie.spec is-service-requires returns returns-2 returns-3)
+pub unnamed-service-spec : {M : Type 1} → statement M
+unnamed-service-spec = tie.close (tie.spec is-service-requires returns returns-2 returns-3)

@@ -1,4 +1,4 @@
--- `check::is_bad_tail` meets its contract, case by case.
+-- `check::bad_tail` meets its contract, case by case.
 use mathlib.Core.Path.{_≡_, refl, _∙_}
 use mathlib.Core.Bool.{Bool}
 use Prim.Native.Nat.{ℕ, _/_, _%_}
@@ -6,8 +6,8 @@ use borrow.Author.Tests.{eq-eqb, ne-eqb, lt-ltb, le-ltb}
 use Rattle.rules.specs.Check.{badTail}
 use Rattle.rules.specs.Frame.{isStart, isEnd, toggleOf}
 use Rattle.receiver.proofs.Tails.{whole, end-anonymous, end-only, open-anonymous, short, full-start, full-other}
-use Rattle.receiver.proofs.check.is_bad_tail.Statement.{statement}
-use Rattle.receiver.proofs.check.is_bad_tail.Tie as tie
+use Rattle.receiver.proofs.check.bad_tail.Statement.{statement}
+use Rattle.receiver.proofs.check.bad_tail.Tie as tie
 
 -- the test at what its parts are
 told : (n : ℕ) (a s l t : Bool) {b r k : Bool} → a ≡ b → s ≡ r → l ≡ k → badTail b r k t n ≡ badTail a s l t n
@@ -48,6 +48,6 @@ returns-7 c =
     let a = c .before .before .before .before .args in
     full-other (a .n) (toggleOf (a .tail)) (le-ltb (a .n) 8 (c .before .if5 .left)) ∙ told (a .n) (a .anonymous) (isStart (a .tail)) (isEnd (a .tail)) (toggleOf (a .tail)) (c .before .before .if4 .left) (c .if6 .left) (ne-eqb (a .tail / 64 % 2) 1 (c .before .before .before .if1 .left))
 
-pub is-bad-tail-spec : {M : Type 1} → statement M
-is-bad-tail-spec =
+pub bad-tail-spec : {M : Type 1} → statement M
+bad-tail-spec =
     tie.close (tie.spec returns returns-2 returns-3 returns-4 returns-5 returns-6 returns-7)

@@ -21,5 +21,5 @@ abbrev pub result : Outcome → List ℕ → Result
 result a m = record { number = numberOf a; map = m }
 
 -- a buffer that is too short stays as it was; bytes past the layout stay
-unfoldable pub setUp : List ℕ → Result
-setUp m = pick (ltb (length m) size) (record { number = 20; map = m }) (record { number = 0; map = replicate size 0 ++ drop size m })
+unfoldable pub afterSetup : List ℕ → Result
+afterSetup m = pick (ltb (length m) size) (record { number = 20; map = m }) (record { number = 0; map = replicate size 0 ++ drop size m })

@@ -1,9 +1,9 @@
--- `set_up` meets its contract.
-use Rattle.setup.specs.Setup.{setUp}
+-- `setup` meets its contract.
+use Rattle.setup.specs.Setup.{afterSetup}
 use mathlib.Core.Path.{ap, _∙_}
 use borrow.Author.Needs.{needs}
-use Rattle.log_replay.proofs.set_up.Statement.{statement}
-use Rattle.log_replay.proofs.set_up.Tie as tie
+use Rattle.log_replay.proofs.setup.Statement.{statement}
+use Rattle.log_replay.proofs.setup.Tie as tie
 
 subscriptions-requires : tie.Need-subscriptions-requires
 subscriptions-requires c κs = search needs
@@ -22,9 +22,9 @@ returns c =
     let r-setup = c .before .before in
     let r-subscriptions = r-setup .before .before .before in
     let s = r-subscriptions .before .before in
-    r-setup .setup .ensures ∙ ap (setUp (s .args .state .now) 1) (r-subscriptions .subscriptions .ensures)
+    r-setup .setup .ensures ∙ ap (afterSetup (s .args .state .now) 1) (r-subscriptions .subscriptions .ensures)
 
-pub set-up-spec : {M : Type 1} → statement M
-set-up-spec =
+pub setup-spec : {M : Type 1} → statement M
+setup-spec =
     tie.close
     (tie.spec subscriptions-requires slice-aggregate-setup setup-requires same-length returns)

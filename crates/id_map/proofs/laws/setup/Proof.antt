@@ -9,20 +9,20 @@ use lib.ListN.{length, drop, replicate, length-drop}
 use Rattle.bits.specs.Little.{le}
 use Rattle.bits.specs.Tabulate.{tabulate}
 use Rattle.id_map.specs.Layout.{size, keyAt, slotAt, mapOf}
-use Rattle.id_map.specs.SetUp.{setUp}
+use Rattle.id_map.specs.Setup.{afterSetup}
 use Rattle.id_map.specs.Sound.{soundMap}
 use Rattle.rules.specs.Map.{blank}
 use Rattle.rules.specs.Map as rules
 use Rattle.rules.proofs.Sends.{map-lasts}
-use Rattle.id_map.proofs.laws.set_up.Statement.{statement}
-use Rattle.id_map.proofs.laws.set_up.Tie as tie
+use Rattle.id_map.proofs.laws.setup.Statement.{statement}
+use Rattle.id_map.proofs.laws.setup.Tie as tie
 
 -- zeros, and what lies past the layout
 abbrev cleared : List ℕ → List ℕ
 cleared m = replicate size 0 ++ drop size m
 
-cleared-is : (m : List ℕ) → size ≤ length m → setUp m .map ≡ cleared m
-unfolding setUp
+cleared-is : (m : List ℕ) → size ≤ length m → afterSetup m .map ≡ cleared m
+unfolding afterSetup
 cleared-is m h = rw (le-ltb (length m) size h)
 
 view : (m : List ℕ) → mapOf (cleared m) ≡ blank
@@ -39,5 +39,5 @@ returns c = record {
   sound = λ m h. ap soundMap (cleared-is m h) ∙ fine m h;
 }
 
-pub set-up-spec : {M : Type 1} → statement M
-set-up-spec = tie.close (tie.spec returns)
+pub setup-spec : {M : Type 1} → statement M
+setup-spec = tie.close (tie.spec returns)
