@@ -20,7 +20,7 @@ use Rattle.rules.specs.Setup.{Setup}
 use Rattle.rules.specs.Table.{Places}
 use Rattle.rules.specs.Tests.{pick}
 use Rattle.receiver.specs.Receive.{arriving}
-use Rattle.session.specs.Answer.{numberOf, told}
+use Rattle.answers.specs.Reception.{numberOf, told}
 use Rattle.state.proofs.Faultless.{table-sound}
 use Rattle.state.specs.Layout.{setupOf, placesOf}
 use Rattle.state.specs.Sound.{soundState}

@@ -13,7 +13,7 @@ use Rattle.rules.specs.Reception.{Step, run, after}
 use Rattle.rules.specs.Setup.{Setup}
 use Rattle.rules.specs.Table.{Places}
 use Rattle.receiver.specs.Receive.{receivedIf, received, lent}
-use Rattle.session.specs.Answer.{told, outAfter}
+use Rattle.answers.specs.Reception.{told, outAfter}
 use Rattle.state.specs.Sound.{soundState}
 
 -- a payload is read back from the front of the output buffer

@@ -14,9 +14,9 @@ use Rattle.rules.specs.Condition3.{ofStream, startOf, keep, framesWith, forward
 use Rattle.rules.specs.Frame.{Frame, Stream}
 use Rattle.rules.specs.Tests.{pick}
 use Rattle.receiver.specs.Receive.{Result}
-use Rattle.session.specs.Answer.{numberOf}
-use Rattle.session.specs.declared.Answer.{Answer}
-use Rattle.session.specs.declared.Answer.the-variants.{Taken, Handed, Refused, Full, Passed, TooLong, BadChecksum, Faulty}
+use Rattle.answers.specs.Reception.{numberOf}
+use Rattle.answers.specs.declared.Answer.{Answer}
+use Rattle.answers.specs.declared.Answer.the-variants.{Taken, Handed, Refused, Full, Passed, TooLong, BadChecksum, Faulty}
 use Rattle.state.specs.Layout.{setupOf}
 use Rattle.state.specs.Sound.{soundState}
 

@@ -11,9 +11,9 @@ use Rattle.rules.specs.Check.{Reception}
 use Rattle.rules.specs.Frame.{Frame}
 use Rattle.rules.specs.Reception.{run, after}
 use Rattle.receiver.specs.Receive.{Result, arriving, received}
-use Rattle.session.specs.Answer.{told}
-use Rattle.session.specs.declared.Answer.{Answer}
-use Rattle.session.specs.declared.Answer.the-variants.{Taken, Handed, Refused, Full, Passed, TooLong, BadChecksum, Faulty}
+use Rattle.answers.specs.Reception.{told}
+use Rattle.answers.specs.declared.Answer.{Answer}
+use Rattle.answers.specs.declared.Answer.the-variants.{Taken, Handed, Refused, Full, Passed, TooLong, BadChecksum, Faulty}
 use Rattle.state.specs.Layout.{setupOf, placesOf}
 use Rattle.state.specs.Sound.{soundState}
 

@@ -4,10 +4,10 @@ use Prim.Native.Nat.{ℕ}
 use lib.Dec.{eqb}
 use lib.ListN.{take}
 use Rattle.rules.specs.Tests.{pick}
-use Rattle.session.specs.Answer.{numberOf}
-use Rattle.session.specs.declared.Answer.{Answer}
-use Rattle.session.specs.declared.Answer.the-variants.{Taken, Handed, Refused, Full, Passed, TooLong, BadChecksum, Faulty}
-use Rattle.session.specs.declared.Transfer.{Transfer}
+use Rattle.answers.specs.Reception.{numberOf}
+use Rattle.answers.specs.declared.Answer.{Answer}
+use Rattle.answers.specs.declared.Answer.the-variants.{Taken, Handed, Refused, Full, Passed, TooLong, BadChecksum, Faulty}
+use Rattle.answers.specs.declared.Transfer.{Transfer}
 use Rattle.digits.specs.Digits.{words, hexes}
 
 -- "+ 0" or "-" and a number

@@ -1,6 +1,6 @@
 // The text of an answer in a log, behind the time.
-use session::Answer;
-use session::Transfer;
+use answers::Answer;
+use answers::Transfer;
 ghost use mathlib.Core.Path.{_≡_};
 ghost use mathlib.Core.List.{[], _∷_};
 ghost use Prim.Native.Nat.{_+_, _*_, _≤_, _<_};

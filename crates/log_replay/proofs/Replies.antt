@@ -21,7 +21,7 @@ use Rattle.receiver.specs.Receive.{frameOf, received}
 use Rattle.log_replay.specs.Replay.{counted, isHanded, answered, reply, result, given}
 use Rattle.log_replay.specs.declared.Counts.{Counts}
 use Rattle.log_replay.specs.declared.Told.the-variants.{Line}
-use Rattle.session.specs.declared.Answer.{Answer}
+use Rattle.answers.specs.declared.Answer.{Answer}
 use Rattle.digits.specs.Digits.{Puts}
 use Rattle.digits.specs.Find.{before}
 

@@ -16,8 +16,8 @@ use Rattle.log_replay.specs.declared.Counts.{Counts}
 use Rattle.log_replay.specs.declared.Told.{Told}
 use Rattle.log_replay.specs.declared.Told.the-variants.{Small, Line}
 use Rattle.log_answer.specs.Answer.{numbered, answerText}
-use Rattle.session.specs.declared.Answer.{Answer}
-use Rattle.session.specs.declared.Answer.the-variants.{Taken, Handed, Refused, Full, Passed, TooLong, BadChecksum, Faulty}
+use Rattle.answers.specs.declared.Answer.{Answer}
+use Rattle.answers.specs.declared.Answer.the-variants.{Taken, Handed, Refused, Full, Passed, TooLong, BadChecksum, Faulty}
 use Rattle.digits.specs.Digits.{words}
 
 -- ── counting ──

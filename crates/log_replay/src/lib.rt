@@ -1,6 +1,6 @@
 // The log program's work on one line: reading it, receiving its frame, writing the answer, counting.
+use answers::Answer;
 use log_line::read::Line;
-use session::Answer;
 use setup::Outcome;
 ghost use mathlib.Core.Path.{_≡_};
 ghost use mathlib.Core.Bool.{true, false};

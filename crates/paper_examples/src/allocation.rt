@@ -1,7 +1,7 @@
 // 003, Example: the allocator's three answers in the log, through the sender on a map that was set up.
 use super::byte;
+use answers::Sent;
 use sender::Outgoing;
-use sender::Sent;
 ghost use Prim.Native.Nat.{_≤_};
 
 // The record from `at` on: ID, data length and the eight data bytes, unused ones too.

@@ -7,9 +7,9 @@ use lib.ListN.{length}
 use Rattle.rules.specs.Check.{Reception}
 use Rattle.rules.specs.Frame.{Frame}
 use Rattle.rules.specs.Reception.{Step, step}
-use Rattle.session.specs.Answer.{told, outAfter}
-use Rattle.session.specs.declared.Answer.{Answer}
-use Rattle.session.specs.declared.Answer.the-variants.{Faulty}
+use Rattle.answers.specs.Reception.{told, outAfter}
+use Rattle.answers.specs.declared.Answer.{Answer}
+use Rattle.answers.specs.declared.Answer.the-variants.{Faulty}
 use Rattle.session.specs.declared.Head.{Head}
 use Rattle.state.specs.Layout.{setupOf, placesOf}
 use Rattle.state.specs.Place.{written}

@@ -2,7 +2,7 @@
 mod check;
 mod place;
 
-use session::Answer;
+use answers::Answer;
 use state::subscription::Subscribed;
 ghost use mathlib.Core.Path.{_≡_};
 ghost use mathlib.Core.Bool.{true};

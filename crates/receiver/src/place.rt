@@ -1,5 +1,5 @@
 // A frame's session: the place that it has, or gets.
-use session::Answer;
+use answers::Answer;
 use session::Head;
 use session::Progress;
 use session::Session;

@@ -1,5 +1,5 @@
 -- 01, Numbers answered: the answers of a reception.
-use mathlib.Core.List.{List}
+use mathlib.Core.List.{List, []}
 use Prim.Native.Nat.{ℕ}
 use Rattle.rules.specs.Frame.{Stream}
 
@@ -29,3 +29,17 @@ numberOf full = 9
 numberOf (passed r) = 10
 numberOf long = 11
 numberOf differs = 12
+
+-- f of what is handed out, or else a
+abbrev pub handedOr {ℓ} : {A : Type ℓ} → A → (List ℕ → Stream → ℕ → ℕ → A) → Answer → A
+handedOr a f taken = a
+handedOr a f (handed p d priority t) = f p d priority t
+handedOr a f (refused n) = a
+handedOr a f full = a
+handedOr a f (passed r) = a
+handedOr a f long = a
+handedOr a f differs = a
+
+-- the payload that is handed out, or none
+abbrev pub handedPayload : Answer → List ℕ
+handedPayload a = handedOr [] (λ p d priority t. p) a

@@ -9,6 +9,7 @@ use native.Mathlib.Omega.{arith}
 use borrow.Author.Tests.{eq-eqb, ne-eqb, eqb-true, eqb-false, lt-ltb, le-ltb}
 use lib.Dec.{eqb}
 use lib.ListN.{length, getD, set}
+use Rattle.answers.specs.Sending.{told}
 use Rattle.bits.specs.Order.{Octets}
 use Rattle.bits.specs.Part.{splice}
 use Rattle.bits.proofs.Tabulate.{tab-at}
@@ -20,14 +21,13 @@ use Rattle.id_map.proofs.Seek.{Below, slot-below, length-mapOf}
 use Rattle.id_map.proofs.Soundness.{long-enough, slot-fit, keys-odd}
 use Rattle.id_map.proofs.Written.{written-kept, written-set}
 use Rattle.rules.specs.Map.{Topic, free, used, slotFor, drawn}
-use Rattle.rules.specs.Sending as rules
 use Rattle.rules.specs.Sending.{Call, topicOf, isResponse, notSendable, frameCount, Outcome, unsendable, long, small, full, anonymousId, idFor, recordsOf, refuse, transmit, sendAt, sendIn, sendAs, sendStep}
 use Rattle.rules.specs.SendingLaws.{InRange}
 use Rattle.rules.specs.Sent.{sent}
 use Rattle.rules.proofs.Draws.{drawn-small}
 use Rattle.sender.specs.Send.{callOf, Result, result, lent, sendsIf, sends}
 use Rattle.sender.specs.declared.Outgoing.{Outgoing}
-use Rattle.sender.specs.declared.Sent.the-variants.{Done, OutputSmall, MapFull, TooLong, NotSendable, Faulty}
+use Rattle.answers.specs.declared.Sent.the-variants.{Done, OutputSmall, MapFull, TooLong, NotSendable, Faulty}
 
 module _ (m : List ℕ) (fine : soundMap m ≡ true) (bytes : Octets m) where
   -- a map that the rules leave as it was
@@ -53,8 +53,8 @@ module _ (m : List ℕ) (fine : soundMap m ≡ true) (bytes : Octets m) where
   drawn-lt k i h = drawn-small k (mapOf m) (slotAt m i) (slot-fit m fine i h)
 
   module _ (c : Call) (out : List ℕ) where
-    refusal : (o : Outcome) → record { number = rules.numberOf o; frames = rules.framesOf o; map = m; out = out } ≡ lent m out (refuse o (mapOf m))
-    refusal o = λ i. record { number = rules.numberOf o; frames = rules.framesOf o; map = sym kept i; out = out }
+    refusal : (o : Outcome) → result (told o) m out ≡ lent m out (refuse o (mapOf m))
+    refusal o = λ i. result (told o) (sym kept i) out
 
     module _ (room : ℕ) where
       pub misfitting : notSendable c ≡ true → result NotSendable m out ≡ lent m out (sendStep c (mapOf m) room)
@@ -81,7 +81,7 @@ module _ (m : List ℕ) (fine : soundMap m ≡ true) (bytes : Octets m) where
                 → result (Done n) m out' ≡ lent m out (sendStep c (mapOf m) room)
             unfolding sendAs transmit
             responded e n out' en eo =
-                (λ i. record { number = 0; frames = en i; map = sym kept i; out = eo i }) ∙ ap (lent m out) (sym (step-is true (eq-eqb (c .transferType) 2 e)))
+                (λ i. result (Done (en i)) (sym kept i) (eo i)) ∙ ap (lent m out) (sym (step-is true (eq-eqb (c .transferType) 2 e)))
 
             pub numbered : (c .transferType ≡ 2 → ⊥) → (r : Result) → r ≡ lent m out (sendIn (slotFor (topicOf c) (c .time) (mapOf m)) c (mapOf m))
                 → r ≡ lent m out (sendStep c (mapOf m) room)
@@ -118,7 +118,7 @@ module _ (m : List ℕ) (fine : soundMap m ≡ true) (bytes : Octets m) where
         let s : drawn (topicOf c) (getD (mapOf m) i free) ≡ t = ap (drawn (topicOf c)) (slot-is i (omega arith)) ∙ sym et in
         let after = used (topicOf c) ((t + 1) % 32) (c .time) in
         let w : written m 0 (set (mapOf m) i after) ≡ withSlot m i after = stored-is i (topicOf c) ((t + 1) % 32) (c .time) (omega arith) (omega arith) in
-        (λ j. record { number = 0; frames = en j; map = (em ∙ sym w) j; out = eo j })
+        (λ j. result (Done (en j)) ((em ∙ sym w) j) (eo j))
         ∙ ap (λ x. lent m out (sendAt c i x (mapOf m))) (sym s)
         ∙ ap (λ x. lent m out (sendIn x c (mapOf m))) (sym p)
 

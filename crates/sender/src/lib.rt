@@ -3,6 +3,7 @@ mod check;
 mod frame;
 pub mod laws;
 
+use answers::Sent;
 ghost use mathlib.Core.Path.{_≡_};
 ghost use mathlib.Core.Bool.{true};
 ghost use Prim.Native.Nat.{_*_, _≤_};
@@ -25,16 +26,6 @@ pub struct Outgoing {
     pub time: u64,
     pub transfer_id: u32,
     pub discriminator: u32,
-}
-
-// The sender's answers; success has the number of frames.
-pub enum Sent {
-    Done(usize),
-    OutputSmall,
-    MapFull,
-    TooLong,
-    NotSendable,
-    Faulty,
 }
 
 // A message or a request: the transfer ID comes from the map.

@@ -13,10 +13,11 @@ use Rattle.rules.specs.Check.{Parsed}
 use Rattle.rules.specs.Session as rules
 use Rattle.rules.specs.Session.{distance, next, sumOk, over, overIf, closed, closing, takes, takeLong, takeEnd, sinceOf, proceed, proceedIf, react, reactIf, restarts, restarted, fresh}
 use Rattle.rules.specs.Tests.{pick, sameBool, isEmpty}
-use Rattle.session.specs.Answer.{told, outAfter, HandsOut, Closes}
+use Rattle.answers.specs.Reception.{told, outAfter}
+use Rattle.session.specs.Answer.{HandsOut, Closes}
 use Rattle.session.specs.Session.{sessionOf, InRange, parsedOf, added, restartsAt, awaitedAt}
-use Rattle.session.specs.declared.Answer.{Answer}
-use Rattle.session.specs.declared.Answer.the-variants.{Passed, BadChecksum}
+use Rattle.answers.specs.declared.Answer.{Answer}
+use Rattle.answers.specs.declared.Answer.the-variants.{Passed, BadChecksum}
 use Rattle.session.specs.declared.Head.{Head}
 use Rattle.session.specs.declared.Session.{Session}
 use Rattle.session.proofs.Gathered.{empty-length}

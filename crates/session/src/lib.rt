@@ -1,4 +1,6 @@
 // A session by value with its methods, and the tests and answers of one frame of its stream.
+use answers::Answer;
+use answers::Transfer;
 use rules::limits::GATHERED;
 use rules::limits::OLD_AGE;
 ghost use mathlib.Core.Path.{_≡_};
@@ -35,29 +37,6 @@ pub struct Head {
     pub transfer: u8,
     pub time: u64,
     pub signature: u64,
-}
-
-// A transfer that was handed out: its length, stream, the closing frame's priority and transfer ID.
-pub struct Transfer {
-    pub len: usize,
-    pub transfer_type: u8,
-    pub type_id: u16,
-    pub source: u8,
-    pub destination: u8,
-    pub priority: u8,
-    pub transfer: u8,
-}
-
-// The receiver's answers. `Refused` holds the number of the frame check, 2 to 8.
-pub enum Answer {
-    Taken,
-    Handed(Transfer),
-    Refused(u8),
-    Full,
-    Passed,
-    TooLong,
-    BadChecksum,
-    Faulty,
 }
 
 // A session but for its bytes: what decides on a frame.

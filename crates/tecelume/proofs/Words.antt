@@ -1,24 +1,25 @@
 -- Every answer of a reception fits the result word, and C reads back what was put in.
+use mathlib.Core.Path.{_≡_, refl, sym, subst}
 use mathlib.Core.Bool.{Bool, true, false}
 use mathlib.Core.List.{List}
-use Prim.Native.Nat.{ℕ}
+use Prim.Native.Nat.{ℕ, _^_, _<_}
 use native.Mathlib.Omega.{arith}
+use lib.ListN.{length}
 use Rattle.tecelume.specs.Word.{transferWord, wordOf, TransferFits, Fits, ReadBack, WordLaws}
 use Rattle.rules.proofs.Ranges.{ranges}
 use Rattle.rules.specs.Answer as rules
-use Rattle.rules.specs.Frame.{Frame}
-use Rattle.rules.specs.Range.{Ranged}
+use Rattle.rules.specs.Frame.{Frame, Stream}
+use Rattle.rules.specs.Range.{HandedRange, Ranged}
 use Rattle.rules.specs.Reception.{step}
 use Rattle.receiver.specs.Receive.{arriving, receivedIf, received}
-use Rattle.session.specs.Answer.{told}
-use Rattle.session.specs.declared.Transfer.{Transfer}
-use Rattle.session.specs.declared.Answer.the-variants.{Handed}
+use Rattle.answers.specs.Reception.{numberOf, noTransfer, transferIn, transferOf, told}
+use Rattle.answers.specs.declared.Answer.{Answer}
+use Rattle.answers.specs.declared.Answer.the-variants.{Faulty}
 use Rattle.state.specs.Layout.{setupOf, placesOf}
 use Rattle.state.specs.Sound.{soundState}
 
-told-fits : (a : rules.Answer) → Ranged a → Fits (told a)
-told-fits rules.taken r = tt
-told-fits (rules.handed p d prio t) r =
+in-range : (p : List ℕ) (d : Stream) (priority t : ℕ) → HandedRange p d priority t → TransferFits (transferOf (length p) d priority t)
+in-range p d priority t r =
     record {
       len = r .length;
       transferType = r .transferType;
@@ -28,32 +29,42 @@ told-fits (rules.handed p d prio t) r =
       priority = r .priority;
       transfer = r .transfer;
     }
-told-fits (rules.refused n) r = r
-told-fits rules.full r = tt
-told-fits (rules.passed x) r = tt
-told-fits rules.long r = tt
-told-fits rules.differs r = tt
+
+-- nothing is handed out, and the number is small
+small : (a : Answer) → transferIn a ≡ noTransfer → numberOf a < 2 ^ 8 → Fits a
+small a e h = record { number = h; transfer = subst TransferFits (sym e) (record { len = omega arith; transferType = omega arith; type = omega arith; source = omega arith; destination = omega arith; priority = omega arith; transfer = omega arith }) }
+
+told-fits : (a : rules.Answer) → Ranged a → Fits (told a)
+told-fits rules.taken r = small _ refl (omega arith)
+told-fits (rules.handed p d priority t) r = record { number = omega arith; transfer = in-range p d priority t r }
+told-fits (rules.refused n) r = small _ refl (omega arith)
+told-fits rules.full r = small _ refl (omega arith)
+told-fits (rules.passed x) r = small _ refl (omega arith)
+told-fits rules.long r = small _ refl (omega arith)
+told-fits rules.differs r = small _ refl (omega arith)
 
 pub received-fits : (m : List ℕ) (f : Frame) (out : List ℕ) → Fits (received m f out .answer)
 unfolding received receivedIf
 received-fits m f out = go (soundState m)
   where
     go : (b : Bool) → Fits (receivedIf b m f out .answer)
-    go false = tt
+    go false = small Faulty refl (omega arith)
     go true = told-fits (step (setupOf m) (placesOf m) (arriving f out) .answer) (ranges (setupOf m) (placesOf m) (arriving f out))
 
-read-back : (t : Transfer) → TransferFits t → ReadBack (wordOf (Handed t)) t
+read-back : (a : Answer) → Fits a → ReadBack (wordOf a) a
 unfolding wordOf transferWord
-read-back t h =
+read-back a h =
+    let n = h .number in
+    let t = h .transfer in
     record {
-      number = omega (arith, h);
-      len = omega (arith, h);
-      transferType = omega (arith, h);
-      type = omega (arith, h);
-      source = omega (arith, h);
-      destination = omega (arith, h);
-      priority = omega (arith, h);
-      transfer = omega (arith, h);
+      number = omega (arith, n, t);
+      len = omega (arith, n, t);
+      transferType = omega (arith, n, t);
+      type = omega (arith, n, t);
+      source = omega (arith, n, t);
+      destination = omega (arith, n, t);
+      priority = omega (arith, n, t);
+      transfer = omega (arith, n, t);
     }
 
 pub word-laws : WordLaws

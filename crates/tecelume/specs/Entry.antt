@@ -1,7 +1,7 @@
 -- What a C entry gives: its number or word, and the lent buffers after.
 use mathlib.Core.List.{List}
 use Prim.Native.Nat.{ℕ, _+_, _*_, _^_}
-use Rattle.tecelume.specs.Word.{wordOf}
+use Rattle.tecelume.specs.Word.{wordOf, sentWord}
 use Rattle.id_map.specs.Setup as map
 use Rattle.receiver.specs.Receive as receive
 use Rattle.sender.specs.Send as send
@@ -32,6 +32,5 @@ entry w m out = record { word = w; state = m; out = out }
 abbrev pub packed : receive.Result → Called
 packed r = entry (wordOf (r .answer)) (r .state) (r .out)
 
--- the number in bits 0 to 7, the frames from bit 8 on
 abbrev pub packedSend : send.Result → Called
-packedSend r = entry (r .number + r .frames * 2 ^ 8) (r .map) (r .out)
+packedSend r = entry (sentWord (r .answer)) (r .map) (r .out)

@@ -5,10 +5,11 @@ use mathlib.Core.List.{List}
 use Prim.Native.Nat.{ℕ, _+_, _*_, _/_, _%_, _^_, _≤_, _<_}
 use Rattle.rules.specs.Frame.{Frame}
 use Rattle.receiver.specs.Receive.{received}
-use Rattle.session.specs.Answer.{numberOf}
-use Rattle.session.specs.declared.Answer.{Answer}
-use Rattle.session.specs.declared.Answer.the-variants.{Taken, Handed, Refused, Full, Passed, TooLong, BadChecksum, Faulty}
-use Rattle.session.specs.declared.Transfer.{Transfer}
+use Rattle.answers.specs.Reception.{numberOf, transferIn}
+use Rattle.answers.specs.declared.Answer.{Answer}
+use Rattle.answers.specs.declared.Sent.{Sent}
+use Rattle.answers.specs.declared.Transfer.{Transfer}
+use Rattle.answers.specs.Sending as sending
 
 unfoldable pub transferWord : Transfer → ℕ
 transferWord t =
@@ -16,14 +17,7 @@ transferWord t =
     + (t .destination * 2 ^ 43 + (t .priority * 2 ^ 50 + t .transfer * 2 ^ 55)))))
 
 unfoldable pub wordOf : Answer → ℕ
-wordOf Taken = numberOf Taken
-wordOf (Handed t) = numberOf (Handed t) + transferWord t
-wordOf (Refused n) = numberOf (Refused n)
-wordOf Full = numberOf Full
-wordOf Passed = numberOf Passed
-wordOf TooLong = numberOf TooLong
-wordOf BadChecksum = numberOf BadChecksum
-wordOf Faulty = numberOf Faulty
+wordOf a = numberOf a + transferWord (transferIn a)
 
 -- ── every answer fits: no field runs into the next ──
 
@@ -36,27 +30,26 @@ pub record TransferFits (t : Transfer) : Type 0 where
   pub priority : t .priority < 32
   pub transfer : t .transfer < 32
 
-abbrev pub Fits : Answer → Type 0
-Fits Taken = Unit {0}
-Fits (Handed t) = TransferFits t
-Fits (Refused n) = n ≤ 8
-Fits Full = Unit {0}
-Fits Passed = Unit {0}
-Fits TooLong = Unit {0}
-Fits BadChecksum = Unit {0}
-Fits Faulty = Unit {0}
+pub record Fits (a : Answer) : Type 0 where
+  pub number : numberOf a < 2 ^ 8
+  pub transfer : TransferFits (transferIn a)
 
--- so C reads each value of a transfer in its field
-pub record ReadBack (w : ℕ) (t : Transfer) : Type 0 where
-  pub number : w % 2 ^ 8 ≡ 1
-  pub len : w / 2 ^ 8 % 2 ^ 10 ≡ t .len
-  pub transferType : w / 2 ^ 18 % 2 ^ 2 ≡ t .«transfer_type»
-  pub type : w / 2 ^ 20 % 2 ^ 16 ≡ t .«type_id»
-  pub source : w / 2 ^ 36 % 2 ^ 7 ≡ t .source
-  pub destination : w / 2 ^ 43 % 2 ^ 7 ≡ t .destination
-  pub priority : w / 2 ^ 50 % 2 ^ 5 ≡ t .priority
-  pub transfer : w / 2 ^ 55 ≡ t .transfer
+-- so C reads the number and each value in its field
+pub record ReadBack (w : ℕ) (a : Answer) : Type 0 where
+  pub number : w % 2 ^ 8 ≡ numberOf a
+  pub len : w / 2 ^ 8 % 2 ^ 10 ≡ transferIn a .len
+  pub transferType : w / 2 ^ 18 % 2 ^ 2 ≡ transferIn a .«transfer_type»
+  pub type : w / 2 ^ 20 % 2 ^ 16 ≡ transferIn a .«type_id»
+  pub source : w / 2 ^ 36 % 2 ^ 7 ≡ transferIn a .source
+  pub destination : w / 2 ^ 43 % 2 ^ 7 ≡ transferIn a .destination
+  pub priority : w / 2 ^ 50 % 2 ^ 5 ≡ transferIn a .priority
+  pub transfer : w / 2 ^ 55 ≡ transferIn a .transfer
 
 pub record WordLaws : Type 0 where
   pub fits : (m : List ℕ) (f : Frame) (out : List ℕ) → Fits (received m f out .answer)
-  pub back : (t : Transfer) → TransferFits t → ReadBack (wordOf (Handed t)) t
+  pub back : (a : Answer) → Fits a → ReadBack (wordOf a) a
+
+-- ── the result word of a send: the number in bits 0 to 7, the frames from bit 8 on ──
+
+abbrev pub sentWord : Sent → ℕ
+sentWord a = sending.numberOf a + sending.framesOf a * 2 ^ 8

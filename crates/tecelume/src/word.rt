@@ -4,11 +4,11 @@ use transport::Outcome;
 use transport::Sent;
 use transport::Transfer;
 ghost use mathlib.Core.Path.{_≡_};
-ghost use Prim.Native.Nat.{_+_, _*_, _^_, _≤_};
+ghost use Prim.Native.Nat.{_≤_};
+ghost use Rattle.answers.specs.Sending.{framesOf};
 ghost use Rattle.id_map.specs.Setup as setting;
-ghost use Rattle.sender.specs.Send as send;
 ghost use Rattle.setup.specs.Setup.{numberOf};
-ghost use Rattle.tecelume.specs.Word.{transferWord, wordOf, TransferFits, Fits};
+ghost use Rattle.tecelume.specs.Word.{transferWord, wordOf, sentWord, TransferFits, Fits};
 
 fn of_transfer(t: Transfer) -> u64
     requires { ⌜ TransferFits t ⌝ }
@@ -37,16 +37,7 @@ pub fn of_answer(a: Answer) -> u64
     requires { ⌜ Fits a ⌝ }
     ensures { λ r. ⌜ r ≡ wordOf a ⌝ }
 {
-    match a {
-        Answer::Taken => 0,
-        Answer::Handed(t) => 1 + of_transfer(t),
-        Answer::Refused(n) => n as u64,
-        Answer::Full => 9,
-        Answer::Passed => 10,
-        Answer::TooLong => 11,
-        Answer::BadChecksum => 12,
-        Answer::Faulty => 20,
-    }
+    a.number() + of_transfer(a.transfer())
 }
 
 pub fn of_map_outcome(o: id_map::Outcome) -> u32
@@ -59,15 +50,8 @@ pub fn of_map_outcome(o: id_map::Outcome) -> u32
 }
 
 pub fn of_sent(a: Sent) -> u64
-    requires { ⌜ send.framesOf a ≤ 74 ⌝ }
-    ensures { λ r. ⌜ r ≡ send.numberOf a + send.framesOf a * 2 ^ 8 ⌝ }
+    requires { ⌜ framesOf a ≤ 74 ⌝ }
+    ensures { λ r. ⌜ r ≡ sentWord a ⌝ }
 {
-    match a {
-        Sent::Done(n) => n as u64 * 0x100,
-        Sent::OutputSmall => 8,
-        Sent::MapFull => 9,
-        Sent::TooLong => 11,
-        Sent::NotSendable => 14,
-        Sent::Faulty => 20,
-    }
+    a.number() + a.frames() as u64 * 0x100
 }

@@ -1,9 +1,9 @@
 -- `put_answer` meets its contract.
 use Rattle.log_answer.specs.Answer.{numbered, transferText, answerText}
 use Rattle.digits.specs.Digits.{Puts}
-use Rattle.session.specs.declared.Transfer.{Transfer}
-use Rattle.session.specs.declared.Answer.the-variants.{Handed}
-use Rattle.session.specs.declared.Answer.{Answer}
+use Rattle.answers.specs.declared.Transfer.{Transfer}
+use Rattle.answers.specs.declared.Answer.the-variants.{Handed}
+use Rattle.answers.specs.declared.Answer.{Answer}
 use lib.Seq.{take-all}
 use lib.ListN.{length, take}
 use native.Mathlib.Nat.{sub-zero}

@@ -2,7 +2,7 @@
 use Rattle.log_answer.proofs.Texts.{char-next, text-next}
 use Rattle.log_answer.specs.Answer.{letterOf, payloadText, transferText}
 use Rattle.digits.specs.Digits.{words, Puts}
-use Rattle.session.specs.declared.Transfer.{Transfer}
+use Rattle.answers.specs.declared.Transfer.{Transfer}
 use lib.ListN.{length}
 use native.Mathlib.Omega.{arith}
 use Prim.Native.Nat.{ℕ, _+_, _*_, _≤_}

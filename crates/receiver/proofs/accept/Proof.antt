@@ -16,7 +16,7 @@ use Rattle.rules.specs.Reception.{stepAnonymous, stepSeek}
 use Rattle.rules.specs.Table.{seek, holds}
 use Rattle.receiver.specs.Check.{headOf}
 use Rattle.receiver.specs.Receive.{frameOf, lent, Called}
-use Rattle.session.specs.Answer.{told}
+use Rattle.answers.specs.Reception.{told}
 use Rattle.session.specs.Session.{parsedOf}
 use Rattle.session.specs.declared.Head.{Head}
 use Rattle.state.specs.Layout.{setupOf, placesOf}

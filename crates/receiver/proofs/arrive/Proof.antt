@@ -15,7 +15,7 @@ use Rattle.rules.specs.Reception.{step}
 use Rattle.rules.specs.Setup.{subscribed, signatureFor}
 use Rattle.rules.specs.Tests.{pick}
 use Rattle.receiver.specs.Receive.{result, frameOf, arriving, lent}
-use Rattle.session.specs.declared.Answer.the-variants.{Refused}
+use Rattle.answers.specs.declared.Answer.the-variants.{Refused}
 use Rattle.state.specs.Layout.{setupOf, placesOf}
 use Rattle.state.specs.Sound.{soundState}
 use Rattle.state.specs.Subscription.{asked}

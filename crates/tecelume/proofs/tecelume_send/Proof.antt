@@ -6,23 +6,25 @@ use Prim.Native.Nat.{ℕ, _≤_}
 use native.Mathlib.Omega.{arith}
 use denote.Ref.{now}
 use lib.ListN.{length}
+use Rattle.answers.specs.Sending.{framesOf}
+use Rattle.answers.proofs.Sending.{told-frames}
 use Rattle.tecelume.specs.Entry.{entry, packedSend}
 use Rattle.id_map.specs.Layout.{mapOf}
 use Rattle.id_map.specs.Sound.{soundMap}
-use Rattle.rules.specs.Sending.{Call}
+use Rattle.rules.specs.Sending.{Call, sendStep}
 use Rattle.rules.proofs.Sends.{record-laws}
 use Rattle.sender.specs.Send.{sendsIf, sends, Result}
 use borrow.Author.Needs.{needs}
 use Rattle.tecelume.proofs.tecelume_send.Statement.{statement}
 use Rattle.tecelume.proofs.tecelume_send.Tie as tie
 
-few : (m : List ℕ) (c : Call) (out : List ℕ) → sends m c out .frames ≤ 74
+few : (m : List ℕ) (c : Call) (out : List ℕ) → framesOf (sends m c out .answer) ≤ 74
 unfolding sends sendsIf
 few m c out = go (soundMap m)
   where
-    go : (b : Bool) → sendsIf b m c out .frames ≤ 74
+    go : (b : Bool) → framesOf (sendsIf b m c out .answer) ≤ 74
     go false = omega arith
-    go true = record-laws .few c (mapOf m) (length out)
+    go true = let s = sendStep c (mapOf m) (length out) in omega (arith, told-frames (s .answer), record-laws .few c (mapOf m) (length out))
 
 send-requires : tie.Need-send-requires
 send-requires c κs = search needs
@@ -44,7 +46,7 @@ of-sent-requires c κs =
       transfer = a .transfer-id;
       discriminator = a .discriminator;
     } in
-    omega (arith, ap (λ (r : Result). r .frames) (s .send .ensures), few (now (a .map)) call (now (a .out)))
+    omega (arith, ap (λ (r : Result). framesOf (r .answer)) (s .send .ensures), few (now (a .map)) call (now (a .out)))
 
 same-length : tie.Need-same-length
 same-length c = search needs

@@ -10,7 +10,7 @@ use Rattle.rules.specs.Reception.{store}
 use Rattle.rules.specs.Session.{Out, next, restarted, react}
 use Rattle.rules.specs.Table.{held}
 use Rattle.receiver.specs.Receive.{lent}
-use Rattle.session.specs.Answer.{told, outAfter}
+use Rattle.answers.specs.Reception.{told, outAfter}
 use Rattle.session.specs.Session.{streamOf, parsedOf}
 use Rattle.session.specs.declared.Progress.{Progress}
 use Rattle.session.proofs.Rules.{awaited-start, reacts-anew, reacts-skip, reacts-take, reacts-over, reacts-pass}

@@ -1,0 +1,62 @@
+-- The answers of a reception: the number of each case, the values of the one that hands a transfer out, and the rules' answer as the code tells it.
+use mathlib.Core.List.{List, []}
+use Prim.Native.Nat.{ℕ}
+use lib.ListN.{length}
+use Rattle.bits.specs.Part.{splice}
+use Rattle.answers.specs.declared.Answer.{Answer}
+use Rattle.answers.specs.declared.Answer.the-variants.{Taken, Handed, Refused, Full, Passed, TooLong, BadChecksum, Faulty}
+use Rattle.answers.specs.declared.Transfer.{Transfer}
+use Rattle.rules.specs.Answer as rules
+use Rattle.rules.specs.Frame.{Stream}
+
+abbrev pub numberOf : Answer → ℕ
+numberOf Taken = 0
+numberOf (Handed t) = 1
+numberOf (Refused n) = n
+numberOf Full = 9
+numberOf Passed = 10
+numberOf TooLong = 11
+numberOf BadChecksum = 12
+numberOf Faulty = 20
+
+-- nothing handed out: every value 0
+abbrev pub noTransfer : Transfer
+noTransfer = record { len = 0; «transfer_type» = 0; «type_id» = 0; source = 0; destination = 0; priority = 0; transfer = 0 }
+
+-- the transfer that is handed out
+abbrev pub transferIn : Answer → Transfer
+transferIn Taken = noTransfer
+transferIn (Handed t) = t
+transferIn (Refused n) = noTransfer
+transferIn Full = noTransfer
+transferIn Passed = noTransfer
+transferIn TooLong = noTransfer
+transferIn BadChecksum = noTransfer
+transferIn Faulty = noTransfer
+
+-- of a payload of n bytes
+abbrev pub transferOf : ℕ → Stream → ℕ → ℕ → Transfer
+transferOf n d priority transfer =
+    record {
+      len = n;
+      «transfer_type» = d .transferType;
+      «type_id» = d .type;
+      source = d .source;
+      destination = d .destination;
+      priority = priority;
+      transfer = transfer;
+    }
+
+-- the rules' answer as the code tells it: of a payload its length, the bytes are in the output buffer
+abbrev pub told : rules.Answer → Answer
+told rules.taken = Taken
+told (rules.handed p d priority t) = Handed (transferOf (length p) d priority t)
+told (rules.refused n) = Refused n
+told rules.full = Full
+told (rules.passed r) = Passed
+told rules.long = TooLong
+told rules.differs = BadChecksum
+
+-- the output buffer after it: the payload that is handed out at the front
+abbrev pub outAfter : rules.Answer → List ℕ → List ℕ
+outAfter a out = splice out 0 (rules.handedPayload a)

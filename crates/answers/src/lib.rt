@@ -1,0 +1,116 @@
+// What the calls of the transport answer: an enum for each, with its number. What a reader of answers needs to tell apart is the number and, of a
+// reception, the transfer that was handed out.
+ghost use mathlib.Core.Path.{_≡_};
+ghost use Prim.Native.Nat.{_<_};
+ghost use Rattle.answers.specs.Reception.{numberOf, noTransfer, transferIn};
+ghost use Rattle.answers.specs.Sending as sending;
+ghost use Rattle.answers.specs.Sending.{framesOf};
+
+// A transfer that was handed out: its length, stream, the closing frame's priority and transfer ID.
+pub struct Transfer {
+    pub len: usize,
+    pub transfer_type: u8,
+    pub type_id: u16,
+    pub source: u8,
+    pub destination: u8,
+    pub priority: u8,
+    pub transfer: u8,
+}
+
+// The receiver's answers. `Refused` holds the number of the frame check, 2 to 8.
+pub enum Answer {
+    Taken,
+    Handed(Transfer),
+    Refused(u8),
+    Full,
+    Passed,
+    TooLong,
+    BadChecksum,
+    Faulty,
+}
+
+// The sender's answers; success has the number of frames.
+pub enum Sent {
+    Done(usize),
+    OutputSmall,
+    MapFull,
+    TooLong,
+    NotSendable,
+    Faulty,
+}
+
+fn no_transfer() -> Transfer
+    ensures { λ r. ⌜ r ≡ noTransfer ⌝ }
+{
+    Transfer {
+        len: 0,
+        transfer_type: 0,
+        type_id: 0,
+        source: 0,
+        destination: 0,
+        priority: 0,
+        transfer: 0,
+    }
+}
+
+impl Answer {
+    pub fn number(self) -> u64
+        ensures { λ r. ⌜ (r ≡ numberOf self) × (r < 256) ⌝ }
+    {
+        match self {
+            Answer::Taken => 0,
+            Answer::Handed(_) => 1,
+            Answer::Refused(n) => n as u64,
+            Answer::Full => 9,
+            Answer::Passed => 10,
+            Answer::TooLong => 11,
+            Answer::BadChecksum => 12,
+            Answer::Faulty => 20,
+        }
+    }
+
+    // The transfer that was handed out; all zero under any other answer.
+    pub fn transfer(self) -> Transfer
+        ensures { λ r. ⌜ r ≡ transferIn self ⌝ }
+    {
+        match self {
+            Answer::Taken => no_transfer(),
+            Answer::Handed(t) => t,
+            Answer::Refused(_) => no_transfer(),
+            Answer::Full => no_transfer(),
+            Answer::Passed => no_transfer(),
+            Answer::TooLong => no_transfer(),
+            Answer::BadChecksum => no_transfer(),
+            Answer::Faulty => no_transfer(),
+        }
+    }
+}
+
+impl Sent {
+    pub fn number(self) -> u64
+        ensures { λ r. ⌜ (r ≡ sending.numberOf self) × (r < 256) ⌝ }
+    {
+        match self {
+            Sent::Done(_) => 0,
+            Sent::OutputSmall => 8,
+            Sent::MapFull => 9,
+            Sent::TooLong => 11,
+            Sent::NotSendable => 14,
+            Sent::Faulty => 20,
+        }
+    }
+
+    // How many frames were written; 0 under a refusal.
+    pub fn frames(self) -> usize
+        ensures { λ r. ⌜ r ≡ framesOf self ⌝ }
+    {
+        match self {
+            Sent::Done(n) => n,
+            Sent::OutputSmall => 0,
+            Sent::MapFull => 0,
+            Sent::TooLong => 0,
+            Sent::NotSendable => 0,
+            Sent::Faulty => 0,
+        }
+    }
+}
