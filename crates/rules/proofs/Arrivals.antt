@@ -9,7 +9,7 @@ use native.Mathlib.Omega.{arith}
 use lib.Dec.{ltb, eqb}
 use lib.ListN.{length, getD, take, drop}
 use lib.Seq.{length-take-le}
-use borrow.Author.Tests.{eq-eqb, ne-eqb, lt-ltb, le-ltb, le-leb, lt-leb}
+use borrow.Author.Tests.{eq-eqb, ne-eqb, lt-ltb, le-ltb, le-leb, lt-leb, eqb-false}
 use Rattle.rules.specs.Answer.{Answer, Reason}
 use Rattle.rules.specs.Answer as answer
 use Rattle.rules.specs.Check.{Reception, Parsed, parsed, badTail, isNone}
@@ -210,23 +210,6 @@ kind-of id = go (isService id)
     go true = rw (request (bit id 32768))
     go false = refl
 
-source-of : (id : ℕ) → streamOf id .source ≡ sourceOf id
-unfolding streamOf
-source-of id = go (isService id)
-  where
-    go : (b : Bool) → streamIf b id .source ≡ sourceOf id
-    go true = refl
-    go false = refl
-
-destination-of : (id : ℕ) → isService id ≡ true → streamOf id .destination ≡ destinationOf id
-unfolding streamOf
-destination-of id e = ap (λ b. streamIf b id .destination) e
-
-service-kind : (id : ℕ) → isService id ≡ true → streamOf id .transferType ≡ 0 → ⊥
-service-kind id e z =
-    let q : pick {A = ℕ} true 1 0 ≡ pick (eqb 0 0) 0 1 = ap (λ b. pick b 1 0) (sym e) ∙ kind-of id ∙ ap (λ k. pick (eqb k 0) 0 1) z in
-    omega arith
-
 module _ (u : Setup) (c : Call) (hears : Hears u c) (id : ℕ) (small : id < 2 ^ 29) (stream : streamOf id ≡ sending.streamOf c) (named : 0 < c .own)
     (aimed : (c .transferType ≡ 0 → ⊥) → 0 < c .destination) where
   pub signed : signatureFor u id ≡ some (c .signature)
@@ -234,12 +217,6 @@ module _ (u : Setup) (c : Call) (hears : Hears u c) (id : ℕ) (small : id < 2 ^
       ap (λ k. subscribed k (streamOf id .type) (u .subscriptions)) (kind-of id)
       ∙ ap (λ s. subscribed (pick (eqb (s .transferType) 0) 0 1) (s .type) (u .subscriptions)) stream
       ∙ hears .subscribes
-
-  service : isService id ≡ true → c .transferType ≡ 0 → ⊥
-  service e z = service-kind id e (ap (λ s. s .transferType) stream ∙ z)
-
-  to : isService id ≡ true → destinationOf id ≡ c .destination
-  to e = sym (destination-of id e) ∙ ap (λ s. s .destination) stream
 
   module _ (t : ℕ) (t-small : t < 32) (xs : List ℕ) (last : Bool) (most : length xs ≤ 7) (whole : last ≡ false → length xs ≡ 7) (time : ℕ) where
     abbrev bytes : List ℕ
@@ -258,10 +235,10 @@ module _ (u : Setup) (c : Call) (hears : Hears u c) (id : ℕ) (small : id < 2 ^
         record {
           id = lt-leb (2 ^ 29) id small;
           length = rw (ne-eqb (length bytes) 0 (λ e. omega arith), le-ltb 8 (length bytes) (omega arith));
-          service = served (isService id) refl;
+          service = rw stream (served (eqb (c .transferType) 0) refl);
           tail = rw (named-not-anonymous id (rw stream named), starts t t-small xs true last false, ends t t-small xs true last false, toggles t t-small xs true last false)
               (tail last refl);
-          mine = mine (isService id) refl;
+          mine = rw stream (mine (eqb (c .transferType) 0) refl);
           subscribed = ap (λ o. isNone o) signed;
         }
       where
@@ -269,17 +246,15 @@ module _ (u : Setup) (c : Call) (hears : Hears u c) (id : ℕ) (small : id < 2 ^
         tail true e = refl
         tail false e = rw (le-ltb (length bytes) 8 (omega (arith, framed-length xs (tailByte true last false t), whole e)))
 
-        served : (b : Bool) → isService id ≡ b → (b && (eqb (sourceOf id) 0 || eqb (destinationOf id) 0)) ≡ false
-        served false e = refl
-        served true e =
-            let s : sourceOf id ≡ c .own = sym (source-of id) ∙ ap (λ s. s .source) stream in
-            let a = aimed (service e) in
-            let q = to e in
-            rw (ne-eqb (sourceOf id) 0 (λ z. omega arith), ne-eqb (destinationOf id) 0 (λ z. omega arith))
+        served : (b : Bool) → eqb (c .transferType) 0 ≡ b → (not b && (eqb (c .own) 0 || eqb (c .destination) 0)) ≡ false
+        served true e = refl
+        served false e =
+            let a = aimed (eqb-false (c .transferType) 0 e) in
+            rw (ne-eqb (c .own) 0 (λ z. omega arith), ne-eqb (c .destination) 0 (λ z. omega arith))
 
-        mine : (b : Bool) → isService id ≡ b → (b && not (eqb (destinationOf id) (u .own))) ≡ false
-        mine false e = refl
-        mine true e = rw (eq-eqb (destinationOf id) (u .own) (to e ∙ sym (hears .addressed (service e))))
+        mine : (b : Bool) → eqb (c .transferType) 0 ≡ b → (not b && not (eqb (c .destination) (u .own))) ≡ false
+        mine true e = refl
+        mine false e = rw (eq-eqb (c .destination) (u .own) (sym (hears .addressed (eqb-false (c .transferType) 0 e))))
 
     -- ── its start ──
 

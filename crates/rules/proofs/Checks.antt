@@ -1,28 +1,33 @@
 -- What the frame checks tell of a frame that passes them.
 use mathlib.Core.Path.{_≡_, refl}
-use mathlib.Core.Bool.{Bool, true, false, not, _&&_, and-false}
+use mathlib.Core.Bool.{Bool, true, false, not, _&&_, _||_, and-false}
 use mathlib.Core.Option.{Option, none, some}
 use mathlib.Mathlib.Data.Bool.Basic.{and-elim-right, or-eq-false-eq-eq-false-and-eq-false as or-off}
 use Prim.Native.Nat.{ℕ, _^_, _≤_, _<_}
 use native.Mathlib.Omega.{arith}
-use lib.Dec.{ltb}
+use lib.Dec.{ltb, eqb}
+use lib.ListN.{length}
 use borrow.Author.Tests.{ne-eqb, le-ltb}
-use Rattle.rules.specs.Check.{Reception, parsed, largeId, badLength, unnamedService, badTailIn, forAnother, notSubscribed, frameCheck, roomCheck, check}
+use Rattle.rules.specs.Check.{Reception, parsed, largeId, badLength, unnamedService, badTail, forAnother, notSubscribed, frameCheck, roomCheck, check}
 use Rattle.rules.specs.Condition3.{ofStream}
-use Rattle.rules.specs.Frame.{Frame, Stream, isService, sourceOf, isAnonymous, streamIf, streamOf}
+use Rattle.rules.specs.Frame.{Frame, Stream, isService, sourceOf, destinationOf, isAnonymous, streamIf, streamOf, tailOf, isStart, isEnd, toggleOf}
 use Rattle.rules.specs.Sent.{frameAt}
 use Rattle.rules.specs.Setup.{Setup}
-use Rattle.rules.specs.Tests.{pick}
+use Rattle.rules.specs.Tests.{pick, bit}
 use Rattle.rules.proofs.Table.{same-eq}
 
 -- ── passed, check by check ──
 
+abbrev pub badTailIn : Frame → Bool
+badTailIn f =
+    badTail (isAnonymous (f .id)) (isStart (tailOf (f .bytes))) (isEnd (tailOf (f .bytes))) (toggleOf (tailOf (f .bytes))) (length (f .bytes))
+
 pub record Accepted (u : Setup) (f : Frame) : Type 0 where
-  pub id : largeId f ≡ false
-  pub length : badLength f ≡ false
-  pub service : unnamedService f ≡ false
+  pub id : largeId (f .id) ≡ false
+  pub length : badLength (length (f .bytes)) ≡ false
+  pub service : unnamedService (streamOf (f .id)) ≡ false
   pub tail : badTailIn f ≡ false
-  pub mine : forAnother u f ≡ false
+  pub mine : forAnother (u .own) (streamOf (f .id)) ≡ false
   pub subscribed : notSubscribed u f ≡ false
 
 pick-none : (b : Bool) (n : ℕ) (o : Option ℕ) → pick b (some n) o ≡ none → (b ≡ false) × (o ≡ none)
@@ -32,11 +37,11 @@ pick-none false n o e = (refl, e)
 pub accepted : (u : Setup) (f : Frame) → frameCheck u f ≡ none → Accepted u f
 unfolding frameCheck
 accepted u f e =
-    let e2 = pick-none (largeId f) 2 _ e in
-    let e3 = pick-none (badLength f) 3 _ (e2 .1) in
-    let e4 = pick-none (unnamedService f) 4 _ (e3 .1) in
+    let e2 = pick-none (largeId (f .id)) 2 _ e in
+    let e3 = pick-none (badLength (length (f .bytes))) 3 _ (e2 .1) in
+    let e4 = pick-none (unnamedService (streamOf (f .id))) 4 _ (e3 .1) in
     let e5 = pick-none (badTailIn f) 5 _ (e4 .1) in
-    let e6 = pick-none (forAnother u f) 6 _ (e5 .1) in
+    let e6 = pick-none (forAnother (u .own) (streamOf (f .id))) 6 _ (e5 .1) in
     let e7 = pick-none (notSubscribed u f) 7 _ (e6 .1) in
     record { id = e2 .0; length = e3 .0; service = e4 .0; tail = e5 .0; mine = e6 .0; subscribed = e7 .0 }
 
@@ -74,16 +79,17 @@ start-toggle u f e st =
 
 -- ── the stream ──
 
-source-is : (id : ℕ) → streamOf id .source ≡ sourceOf id
-unfolding streamOf
-source-is id = go (isService id)
-  where
-    go : (b : Bool) → streamIf b id .source ≡ sourceOf id
-    go true = refl
-    go false = refl
-
 pub named-not-anonymous : (id : ℕ) → 0 < streamOf id .source → isAnonymous id ≡ false
-named-not-anonymous id h = rw (ne-eqb (sourceOf id) 0 (λ e. omega (arith, source-is id))) (and-false (not (isService id)))
+named-not-anonymous id h = rw (ne-eqb (streamOf id .source) 0 (λ e. omega arith)) (and-false (eqb (streamOf id .transferType) 0))
+
+-- a service frame that 4 lets through names both nodes
+pub both-named : (id : ℕ) → isService id ≡ true → unnamedService (streamOf id) ≡ false → (eqb (sourceOf id) 0 || eqb (destinationOf id) 0) ≡ false
+unfolding streamOf
+both-named id k e = go (bit id 32768) _ (rw k at e)
+  where
+    go : (c x : Bool) → (not (eqb (pick {A = ℕ} c 1 2) 0) && x) ≡ false → x ≡ false
+    go true x e = e
+    go false x e = e
 
 pub of-stream : (d : Stream) (f : Frame) → ofStream d f ≡ true → streamOf (f .id) ≡ d
 of-stream d f e = same-eq (streamOf (f .id)) d (and-elim-right (ltb (f .id) (2 ^ 29)) _ e)

@@ -11,14 +11,14 @@ use lib.ListN.{length, take, drop, length-append, length-take, length-drop, take
 use lib.Seq.{length-take-le}
 use borrow.Author.Tests.{eq-eqb, ne-eqb, le-ltb, le-leb, lt-leb}
 use Rattle.rules.specs.Answer.{Answer, taken, handed, refused, full, passed, long, differs, Reason, noTransfer, wrongToggle, wrongTransfer, repeatedStart}
-use Rattle.rules.specs.Check.{Parsed, orZero, parsed, badLength, badTail, badTailIn, frameCheck}
+use Rattle.rules.specs.Check.{Parsed, orZero, parsed, badLength, badTail, frameCheck}
 use Rattle.rules.specs.Condition3.{keep, Brings, done, next as onward, again}
 use Rattle.rules.specs.Frame.{Frame, streamOf, priorityOf, isAnonymous}
 use Rattle.rules.specs.Sent.{tailByte, framed, frameAt, pieces, carrying}
 use Rattle.rules.specs.Session.{Session, Out, distance, next, restarts, overIf, over, sumOk, closing, takeEnd, takeLong, takes, proceedIf, proceed, reactIf, react, fresh}
 use Rattle.rules.specs.Setup.{Setup, signatureFor}
 use Rattle.rules.specs.Tests.{pick, bit, sameBool, isEmpty}
-use Rattle.rules.proofs.Checks.{Accepted, none-of, check-time}
+use Rattle.rules.proofs.Checks.{Accepted, none-of, check-time, badTailIn}
 use Rattle.rules.proofs.Frames.{framed-length, framed-tail, framed-payload, pieces-length, fulls}
 use Rattle.rules.proofs.Ids.{bit-is, flag-le}
 use Rattle.rules.proofs.Own.{proceed-taken, react-is, refIf, ref, refRun}
@@ -133,7 +133,7 @@ module _ (u : Setup) (f : Frame) (ok : Accepted u f) (named : isAnonymous (f .id
     size : length later-data ≡ length xs + 1
     size = framed-length xs (tailByte false l g t)
 
-    good-length : (x : ℕ) → badLength (frameAt (f .id) later-data x) ≡ false
+    good-length : (x : ℕ) → badLength (length later-data) ≡ false
     good-length x = rw (ne-eqb (length later-data) 0 (λ e. omega (arith, size)), le-ltb 8 (length later-data) (omega (arith, size)))
 
     good-end : (b : Bool) → l ≡ b → badTail false false b g (length later-data) ≡ false

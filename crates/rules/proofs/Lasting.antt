@@ -19,7 +19,7 @@ use Rattle.rules.specs.Setup.{Setup}
 use Rattle.rules.specs.Sound.{messageFits, streamFits, sessionFits, placeFits, placesFit, noneHolds, notAgain, apart, sound, Lasting}
 use Rattle.rules.specs.Table.{Place, empty, held, Places, seek, holds, placeFor}
 use Rattle.rules.specs.Tests.{pick, bit, isEmpty}
-use Rattle.rules.proofs.Checks.{Accepted, accepted, checked}
+use Rattle.rules.proofs.Checks.{Accepted, accepted, checked, both-named}
 use Rattle.rules.proofs.Others.{sole-step}
 use Rattle.rules.proofs.Table.{same-refl, same-eq, sessionsOf, not-held, is-held, AtMostOne, Sole}
 
@@ -220,7 +220,7 @@ stream-fits u f a n = go (isService (f .id)) refl
   where
     go : (b : Bool) → isService (f .id) ≡ b → streamFits (streamIf b (f .id)) ≡ true
     go true k =
-        let q : (eqb (sourceOf (f .id)) 0 || eqb (destinationOf (f .id)) 0) ≡ false = rw k at (a .service) in
+        let q = both-named (f .id) k (a .service) in
         let z = or-off _ _ .0 q in
         service-fits (f .id) (eqb-false (sourceOf (f .id)) 0 (z .0)) (eqb-false (destinationOf (f .id)) 0 (z .1))
     go false k = message-fits (f .id) (eqb-false (sourceOf (f .id)) 0 (rw k at n))

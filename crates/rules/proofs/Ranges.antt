@@ -10,7 +10,7 @@ use lib.Dec.{ltb, eqb}
 use lib.ListN.{length, take, drop, getD, length-take, length-drop}
 use borrow.Author.Tests.{ltb-false, leb-false}
 use Rattle.rules.specs.Answer.{Reason}
-use Rattle.rules.specs.Check.{Reception, Parsed, parsed, largeId, badLength, unnamedService, badTailIn, forAnother, notSubscribed, frameCheck, roomCheck, check}
+use Rattle.rules.specs.Check.{Reception, Parsed, parsed, largeId, badLength, unnamedService, forAnother, notSubscribed, frameCheck, roomCheck, check}
 use Rattle.rules.specs.Frame.{Frame, isService, isAnonymous, sourceOf, streamIf, streamOf}
 use Rattle.rules.specs.Range.{HandedRange, Ranged, RangeLaw}
 use Rattle.rules.specs.Reception.{sessionIn, stepNew, stepStart, stepSeek, stepAnonymous, stepChecked, step}
@@ -18,7 +18,7 @@ use Rattle.rules.specs.Session.{Session, sumOk, closing, takeEnd, takeLo
 use Rattle.rules.specs.Setup.{Setup}
 use Rattle.rules.specs.Table.{Places, empty, seek, holds, placeFor}
 use Rattle.rules.specs.Tests.{bit, pick, isEmpty, sameBool}
-use Rattle.rules.proofs.Checks.{Accepted, accepted, checked}
+use Rattle.rules.proofs.Checks.{Accepted, accepted, checked, badTailIn}
 
 -- ── a frame that passes the checks ──
 
@@ -170,10 +170,10 @@ or-next false n o h k = k
 frame-small : (u : Setup) (f : Frame) → Small (frameCheck u f)
 unfolding frameCheck
 frame-small u f =
-    or-next (largeId f) 2 _ (omega arith)
-    (or-next (badLength f) 3 _ (omega arith)
-    (or-next (unnamedService f) 4 _ (omega arith)
-    (or-next (badTailIn f) 5 _ (omega arith) (or-next (forAnother u f) 6 _ (omega arith) (or-next (notSubscribed u f) 7 none (omega arith) tt)))))
+    or-next (largeId (f .id)) 2 _ (omega arith)
+    (or-next (badLength (length (f .bytes))) 3 _ (omega arith)
+    (or-next (unnamedService (streamOf (f .id))) 4 _ (omega arith)
+    (or-next (badTailIn f) 5 _ (omega arith) (or-next (forAnother (u .own) (streamOf (f .id))) 6 _ (omega arith) (or-next (notSubscribed u f) 7 none (omega arith) tt)))))
 
 check-small : (u : Setup) (r : Reception) → Small (check u r)
 unfolding check

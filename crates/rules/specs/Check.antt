@@ -1,11 +1,12 @@
 -- 01, Reception: what the rules read of a frame, and the frame checks 2 to 8.
 use mathlib.Core.Bool.{Bool, true, false, not, _&&_, _||_}
-use mathlib.Core.List.{List, [], _∷_}
+use mathlib.Core.List.{List, [], _∷_, _++_}
 use mathlib.Core.Option.{Option, none, some}
 use Prim.Native.Nat.{ℕ, _^_}
 use lib.Dec.{ltb, leb, eqb}
 use lib.ListN.{length}
-use Rattle.rules.specs.Frame.{Frame, Stream, isService, sourceOf, destinationOf, priorityOf, isAnonymous, streamOf, tailOf, payloadOf, isStart, isEnd, toggleOf, transferOf}
+use Rattle.rules.specs.Frame.{Frame, Stream, priorityOf, isServiceStream, unnamed, streamOf, tailOf, payloadOf, isStart, isEnd, toggleOf, transferOf}
+use Rattle.rules.specs.Limits.{frameData, payloadMax}
 use Rattle.rules.specs.Setup.{Setup, signatureFor}
 use Rattle.rules.specs.Tests.{pick}
 
@@ -46,26 +47,22 @@ parsed u f =
 
 -- ── the checks, each true where it refuses ──
 
-abbrev pub largeId : Frame → Bool
-largeId f = leb (2 ^ 29) (f .id)
+abbrev pub largeId : ℕ → Bool
+largeId id = leb (2 ^ 29) id
 
-abbrev pub badLength : Frame → Bool
-badLength f = eqb (length (f .bytes)) 0 || ltb 8 (length (f .bytes))
+abbrev pub badLength : ℕ → Bool
+badLength n = eqb n 0 || ltb frameData n
 
-abbrev pub unnamedService : Frame → Bool
-unnamedService f = isService (f .id) && (eqb (sourceOf (f .id)) 0 || eqb (destinationOf (f .id)) 0)
+abbrev pub unnamedService : Stream → Bool
+unnamedService d = isServiceStream d && (eqb (d .source) 0 || eqb (d .destination) 0)
 
 -- start with toggle 1; anonymous not both start and end; not an end with fewer than 8 bytes; end without start and only the tail
 abbrev pub badTail : Bool → Bool → Bool → Bool → ℕ → Bool
 badTail anonymous start last toggle n =
-    (start && toggle) || ((anonymous && not (start && last)) || ((not last && ltb n 8) || (last && (not start && eqb n 1))))
+    (start && toggle) || ((anonymous && not (start && last)) || ((not last && ltb n frameData) || (last && (not start && eqb n 1))))
 
-abbrev pub badTailIn : Frame → Bool
-badTailIn f =
-    badTail (isAnonymous (f .id)) (isStart (tailOf (f .bytes))) (isEnd (tailOf (f .bytes))) (toggleOf (tailOf (f .bytes))) (length (f .bytes))
-
-abbrev pub forAnother : Setup → Frame → Bool
-forAnother u f = isService (f .id) && not (eqb (destinationOf (f .id)) (u .own))
+abbrev pub forAnother : ℕ → Stream → Bool
+forAnother own d = isServiceStream d && not (eqb (d .destination) own)
 
 abbrev pub isNone : Option ℕ → Bool
 isNone none = true
@@ -74,31 +71,43 @@ isNone (some n) = false
 abbrev pub notSubscribed : Setup → Frame → Bool
 notSubscribed u f = isNone (signatureFor u (f .id))
 
--- ── the first that refuses answers ──
+-- ── in their order ──
 
 pub record Test : Type 0 where
   pub refuses : Bool
   pub number : ℕ
 
+-- 2 and 3: a frame of n data bytes that cannot be read
+abbrev pub readTests : ℕ → ℕ → List Test
+readTests id n = record { refuses = largeId id; number = 2 } ∷ record { refuses = badLength n; number = 3 } ∷ []
+
+-- 4 to 6: its stream and the flags of its tail
+abbrev pub headTests : ℕ → Stream → Bool → Bool → Bool → ℕ → List Test
+headTests own d start last toggle n =
+    record { refuses = unnamedService d; number = 4 } ∷
+    record { refuses = badTail (unnamed d) start last toggle n; number = 5 } ∷
+    record { refuses = forAnother own d; number = 6 } ∷ []
+
+-- 2 to 7 look at the setup and the frame alone
+abbrev pub frameTests : Setup → Frame → List Test
+frameTests u f =
+    readTests (f .id) (length (f .bytes))
+    ++ (headTests (u .own) (streamOf (f .id)) (isStart (tailOf (f .bytes))) (isEnd (tailOf (f .bytes))) (toggleOf (tailOf (f .bytes))) (length (f .bytes))
+    ++ (record { refuses = notSubscribed u f; number = 7 } ∷ []))
+
+-- the first that refuses answers
 abbrev pub first : List Test → Option ℕ
 first [] = none
 first (t ∷ ts) = pick (t .refuses) (some (t .number)) (first ts)
 
--- 2 to 7 look at the setup and the frame alone
 unfoldable pub frameCheck : Setup → Frame → Option ℕ
-frameCheck u f =
-    first (record { refuses = largeId f; number = 2 } ∷
-    record { refuses = badLength f; number = 3 } ∷
-    record { refuses = unnamedService f; number = 4 } ∷
-    record { refuses = badTailIn f; number = 5 } ∷
-    record { refuses = forAnother u f; number = 6 } ∷
-    record { refuses = notSubscribed u f; number = 7 } ∷ [])
+frameCheck u f = first (frameTests u f)
 
--- 8 comes last: under 512 bytes of room
+-- 8 comes last: no room for the longest payload
 abbrev pub roomCheck : Option ℕ → Bool → Option ℕ
 roomCheck (some n) b = some n
 roomCheck none true = some 8
 roomCheck none false = none
 
 unfoldable pub check : Setup → Reception → Option ℕ
-check u r = roomCheck (frameCheck u (r .frame)) (ltb (r .room) 512)
+check u r = roomCheck (frameCheck u (r .frame)) (ltb (r .room) payloadMax)

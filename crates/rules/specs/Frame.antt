@@ -41,9 +41,6 @@ destinationOf id = id / 256 % 128
 abbrev pub priorityOf : ℕ → ℕ
 priorityOf id = id / 16777216
 
-abbrev pub isAnonymous : ℕ → Bool
-isAnonymous id = not (isService id) && eqb (sourceOf id) 0
-
 -- a service's type is bits 16 to 23 and its request flag bit 15; a message's type is bits 8 to 23, an anonymous one's bits 8 and 9
 abbrev pub streamIf : Bool → ℕ → Stream
 streamIf true id = record { transferType = pick (bit id 32768) 1 2; type = id / 65536 % 256; source = sourceOf id; destination = destinationOf id }
@@ -52,6 +49,19 @@ streamIf false id =
 
 unfoldable pub streamOf : ℕ → Stream
 streamOf id = streamIf (isService id) id
+
+-- ── a stream ──
+
+-- a request or a response
+abbrev pub isServiceStream : Stream → Bool
+isServiceStream d = not (eqb (d .transferType) 0)
+
+-- a message without a named source
+abbrev pub unnamed : Stream → Bool
+unnamed d = eqb (d .transferType) 0 && eqb (d .source) 0
+
+abbrev pub isAnonymous : ℕ → Bool
+isAnonymous id = unnamed (streamOf id)
 
 -- ── the data: the last byte is the tail, those before it are payload ──
 
