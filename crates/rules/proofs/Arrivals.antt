@@ -14,14 +14,14 @@ use Rattle.rules.specs.Answer.{Answer, Reason}
 use Rattle.rules.specs.Answer as answer
 use Rattle.rules.specs.Check.{Reception, Parsed, parsed, badTail, isNone}
 use Rattle.rules.specs.Condition3.{ofStream, startOf, framesWith, answersTo, upTo, forward, roomy, Brings, done, next}
-use Rattle.rules.specs.Frame.{Frame, Stream, sameStream, isService, sourceOf, destinationOf, streamIf, streamOf, tailOf, isStart, isEnd, toggleOf}
+use Rattle.rules.specs.Frame.{Frame, Stream, sameStream, streamOf, tailOf, isStart, isEnd, toggleOf}
 use Rattle.rules.specs.Reception.{stepNew, stepStart, sessionIn, stepSeek, stepAnonymous, stepChecked, step, run}
 use Rattle.rules.specs.Sending as sending
 use Rattle.rules.specs.Sending.{Call, any}
 use Rattle.rules.specs.SendingLaws.{Hears}
 use Rattle.rules.specs.Sent.{tailByte, framed, pieces, carrying, frameAt}
 use Rattle.rules.specs.Session.{Session, overIf, over, sumOk, closing, takeEnd, takeLong, takes, proceedIf, proceed, reactIf, react, restarts, restarted, fresh}
-use Rattle.rules.specs.Setup.{Setup, subscribed, signatureFor}
+use Rattle.rules.specs.Setup.{kindOf, Setup, subscribed, signatureFor}
 use Rattle.rules.specs.Table.{empty, Places, seek, holds, placeFor}
 use Rattle.rules.specs.Tests.{pick, bit, isEmpty, sameBool}
 use Rattle.rules.proofs.Checks.{Accepted, none-of, roomy-check, named-not-anonymous}
@@ -198,25 +198,10 @@ brings-each id time (c ∷ l) = next time (omega arith) (brings-each id time l)
 
 -- ── the receiver that a call is for ──
 
-kind-of : (id : ℕ) → pick {A = ℕ} (isService id) 1 0 ≡ pick (eqb (streamOf id .transferType) 0) 0 1
-unfolding streamOf
-kind-of id = go (isService id)
-  where
-    request : (r : Bool) → eqb (pick r 1 2) 0 ≡ false
-    request true = refl
-    request false = refl
-
-    go : (b : Bool) → pick {A = ℕ} b 1 0 ≡ pick (eqb (streamIf b id .transferType) 0) 0 1
-    go true = rw (request (bit id 32768))
-    go false = refl
-
 module _ (u : Setup) (c : Call) (hears : Hears u c) (id : ℕ) (small : id < 2 ^ 29) (stream : streamOf id ≡ sending.streamOf c) (named : 0 < c .own)
     (aimed : (c .transferType ≡ 0 → ⊥) → 0 < c .destination) where
   pub signed : signatureFor u id ≡ some (c .signature)
-  signed =
-      ap (λ k. subscribed k (streamOf id .type) (u .subscriptions)) (kind-of id)
-      ∙ ap (λ s. subscribed (pick (eqb (s .transferType) 0) 0 1) (s .type) (u .subscriptions)) stream
-      ∙ hears .subscribes
+  signed = ap (λ s. subscribed (kindOf s) (s .type) (u .subscriptions)) stream ∙ hears .subscribes
 
   module _ (t : ℕ) (t-small : t < 32) (xs : List ℕ) (last : Bool) (most : length xs ≤ 7) (whole : last ≡ false → length xs ≡ 7) (time : ℕ) where
     abbrev bytes : List ℕ

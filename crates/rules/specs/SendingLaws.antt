@@ -19,7 +19,7 @@ use Rattle.rules.specs.Map.{Map, blank, sound}
 use Rattle.rules.specs.Reception.{run}
 use Rattle.rules.specs.Sending.{Call, streamOf, any, notSendable, frameCount, done, numberOf, framesOf, anonymousId, recordsOf, sendStep}
 use Rattle.rules.specs.Sent.{sent, idOf, frameAt}
-use Rattle.rules.specs.Setup.{Setup, subscribed}
+use Rattle.rules.specs.Setup.{Setup, subscribed, kindOf}
 use Rattle.rules.specs.Sound.{streamFits}
 use Rattle.rules.specs.Table.{Places}
 use Rattle.rules.specs.Tests.{pick}
@@ -90,7 +90,7 @@ pub record MapLasts : Type 0 where
 
 -- a receiver that the call is for: it subscribes to the type under the call's signature, and a service is addressed to it
 pub record Hears (u : Setup) (c : Call) : Type 0 where
-  pub subscribes : subscribed (pick (eqb (c .transferType) 0) 0 1) (c .type) (u .subscriptions) ≡ some (c .signature)
+  pub subscribes : subscribed (kindOf (streamOf c)) (c .type) (u .subscriptions) ≡ some (c .signature)
   pub addressed : (c .transferType ≡ 0 → ⊥) → u .own ≡ c .destination
 
 -- n records received at one time, with room

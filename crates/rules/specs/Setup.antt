@@ -5,7 +5,7 @@ use mathlib.Core.Option.{Option, none, some}
 use Prim.Native.Nat.{ℕ}
 use lib.Dec.{ltb, leb, eqb}
 use lib.ListN.{length}
-use Rattle.rules.specs.Frame.{isService, streamOf}
+use Rattle.rules.specs.Frame.{Stream, streamOf}
 use Rattle.rules.specs.Tests.{pick}
 
 -- the kind is 0 for a message, 1 for a service: request and response share one subscription
@@ -46,5 +46,9 @@ unfoldable pub subscribed : ℕ → ℕ → List Subscription → Option ℕ
 subscribed kind type [] = none
 subscribed kind type (a ∷ more) = pick (eqb (a .kind) kind && eqb (a .type) type) (some (a .signature)) (subscribed kind type more)
 
+-- the kind of subscription that a stream asks for
+abbrev pub kindOf : Stream → ℕ
+kindOf d = pick (eqb (d .transferType) 0) 0 1
+
 abbrev pub signatureFor : Setup → ℕ → Option ℕ
-signatureFor u id = subscribed (pick (isService id) 1 0) (streamOf id .type) (u .subscriptions)
+signatureFor u id = subscribed (kindOf (streamOf id)) (streamOf id .type) (u .subscriptions)
