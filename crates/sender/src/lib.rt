@@ -1,6 +1,6 @@
 // The sender: a payload into records of frames, over a lent transfer-ID map.
 mod check;
-mod frame;
+mod frames;
 pub mod laws;
 
 use answers::Sent;
@@ -41,8 +41,8 @@ fn number(map: &mut [u8], c: Outgoing, payload: &[u8], out: &mut [u8]) -> Sent
     }
     let transfer = id_map::entry::drawn(map, i, k);
     id_map::entry::store(map, i, k, (transfer + 1) % 32, c.time);
-    frame::write(out, frame::id(c), transfer, c.signature, payload);
-    Sent::Done(frame::count(payload.len()))
+    frames::write(out, frames::id(c), transfer, c.signature, payload);
+    Sent::Done(frames::count(payload.len()))
 }
 
 // On a map without a fault.
@@ -57,12 +57,18 @@ fn dispatch(map: &mut [u8], c: Outgoing, payload: &[u8], out: &mut [u8]) -> Sent
     if 512 < n {
         return Sent::TooLong;
     }
-    let frames = frame::count(n);
+    let frames = frames::count(n);
     if out.len() < 13 * frames {
         return Sent::OutputSmall;
     }
     if c.transfer_type == 2 {
-        frame::write(out, frame::id(c), c.transfer_id as u8, c.signature, payload);
+        frames::write(
+            out,
+            frames::id(c),
+            c.transfer_id as u8,
+            c.signature,
+            payload,
+        );
         return Sent::Done(frames);
     }
     number(map, c, payload, out)
