@@ -18,22 +18,22 @@ use Rattle.session.specs.Answer.{HandsOut, Closes}
 use Rattle.session.specs.Session.{sessionOf, InRange, parsedOf, added, restartsAt, awaitedAt}
 use Rattle.answers.specs.declared.Answer.{Answer}
 use Rattle.answers.specs.declared.Answer.the-variants.{Passed, BadChecksum}
-use Rattle.session.specs.declared.Head.{Head}
+use Rattle.session.specs.declared.Incoming.{Incoming}
 use Rattle.session.specs.declared.Session.{Session}
 use Rattle.session.proofs.Gathered.{empty-length}
 
 -- ── the tests ──
 
-module _ (expected time : ℕ) (h : Head) (b : Bool) (e : b ≡ ltb 2000000 (h .time - time)) where
+module _ (expected time : ℕ) (h : Incoming) (b : Bool) (e : b ≡ ltb 2000000 (h .time - time)) where
   pub restarts-old : b ≡ true → true ≡ restartsAt expected time h
   unfolding restartsAt
   restarts-old o = rw (← e, o)
 
-  pub restarts-start : b ≡ false → h .start ≡ true → ltb 1 (distance (h .transfer) expected) ≡ restartsAt expected time h
+  pub restarts-start : b ≡ false → h .head .start ≡ true → ltb 1 (distance (h .head .transfer) expected) ≡ restartsAt expected time h
   unfolding restartsAt
   restarts-start o k = rw (← e, o, k)
 
-  pub restarts-not : b ≡ false → h .start ≡ false → false ≡ restartsAt expected time h
+  pub restarts-not : b ≡ false → h .head .start ≡ false → false ≡ restartsAt expected time h
   unfolding restartsAt
   restarts-not o k = rw (← e, o, k)
 
@@ -43,23 +43,23 @@ beq-same true false = refl
 beq-same false true = refl
 beq-same false false = refl
 
-module _ (expected : ℕ) (toggle : Bool) (len : ℕ) (h : Head) where
-  pub awaited-rest : h .transfer ≡ expected → Bool·beq (h .toggle) toggle ≡ true → Bool·beq (h .start) (eqb len 0) ≡ awaitedAt expected toggle len h
+module _ (expected : ℕ) (toggle : Bool) (len : ℕ) (h : Incoming) where
+  pub awaited-rest : h .head .transfer ≡ expected → Bool·beq (h .head .toggle) toggle ≡ true → Bool·beq (h .head .start) (eqb len 0) ≡ awaitedAt expected toggle len h
   unfolding awaitedAt
-  awaited-rest t g = rw (eq-eqb (h .transfer) expected t, sym (beq-same (h .toggle) toggle) ∙ g, beq-same (h .start) (eqb len 0))
+  awaited-rest t g = rw (eq-eqb (h .head .transfer) expected t, sym (beq-same (h .head .toggle) toggle) ∙ g, beq-same (h .head .start) (eqb len 0))
 
-  pub awaited-toggle : h .transfer ≡ expected → Bool·beq (h .toggle) toggle ≡ false → false ≡ awaitedAt expected toggle len h
+  pub awaited-toggle : h .head .transfer ≡ expected → Bool·beq (h .head .toggle) toggle ≡ false → false ≡ awaitedAt expected toggle len h
   unfolding awaitedAt
-  awaited-toggle t g = rw (eq-eqb (h .transfer) expected t, sym (beq-same (h .toggle) toggle) ∙ g)
+  awaited-toggle t g = rw (eq-eqb (h .head .transfer) expected t, sym (beq-same (h .head .toggle) toggle) ∙ g)
 
-  pub awaited-transfer : (h .transfer ≡ expected → ⊥) → false ≡ awaitedAt expected toggle len h
+  pub awaited-transfer : (h .head .transfer ≡ expected → ⊥) → false ≡ awaitedAt expected toggle len h
   unfolding awaitedAt
-  awaited-transfer t = rw (ne-eqb (h .transfer) expected t)
+  awaited-transfer t = rw (ne-eqb (h .head .transfer) expected t)
 
   -- a start is awaited only with nothing in hand
-  pub awaited-start : (b : Bool) → b ≡ awaitedAt expected toggle len h → b ≡ true → h .start ≡ true → len ≡ 0
+  pub awaited-start : (b : Bool) → b ≡ awaitedAt expected toggle len h → b ≡ true → h .head .start ≡ true → len ≡ 0
   unfolding awaitedAt
-  awaited-start b e w k = go (eqb (h .transfer) expected) (sameBool (h .toggle) toggle) (h .start) (sym e ∙ w) k
+  awaited-start b e w k = go (eqb (h .head .transfer) expected) (sameBool (h .head .toggle) toggle) (h .head .start) (sym e ∙ w) k
     where
       go : (e t start : Bool) → (e && (t && sameBool start (eqb len 0))) ≡ true → start ≡ true → len ≡ 0
       go true true true w k = eqb-true len 0 w
@@ -85,11 +85,11 @@ none-awaited false true false false = refl
 none-awaited false true false true = refl
 
 -- the test of the code is that of the rules
-pub over-awaited : (s : rules.Session) (h : Head) (p : List ℕ) → isNone (over s (parsedOf h p)) ≡ awaitedAt (s .expected) (s .toggle) (length (s .gathered)) h
+pub over-awaited : (s : rules.Session) (h : Incoming) (p : List ℕ) → isNone (over s (parsedOf h p)) ≡ awaitedAt (s .expected) (s .toggle) (length (s .gathered)) h
 unfolding over awaitedAt parsedOf
 over-awaited s h p =
-    none-awaited (h .start) (eqb (h .transfer) (s .expected)) (isEmpty (s .gathered)) (sameBool (h .toggle) (s .toggle))
-    ∙ ap (λ (b : Bool). eqb (h .transfer) (s .expected) && (sameBool (h .toggle) (s .toggle) && sameBool (h .start) b)) (empty-length (s .gathered))
+    none-awaited (h .head .start) (eqb (h .head .transfer) (s .expected)) (isEmpty (s .gathered)) (sameBool (h .head .toggle) (s .toggle))
+    ∙ ap (λ (b : Bool). eqb (h .head .transfer) (s .expected) && (sameBool (h .head .toggle) (s .toggle) && sameBool (h .head .start) b)) (empty-length (s .gathered))
 
 module _ (s : rules.Session) (v : Parsed) where
   proceed-taken : isNone (over s v) ≡ true → proceed s v ≡ takes s v
@@ -123,30 +123,30 @@ module _ (start ok : Bool) (all : List ℕ) (v : Parsed) where
   unfolding closing
   closing-differs k o = rw (k, o)
 
-module _ (h : Head) (all out : List ℕ) where
+module _ (h : Incoming) (all out : List ℕ) where
   abbrev ok : Bool
   ok = sumOk (h .signature) all
 
   module _ (a : Answer) (out' : List ℕ) where
-    pub closes-whole : h .start ≡ true → HandsOut h all a out out' → Closes h all a out out'
+    pub closes-whole : h .head .start ≡ true → HandsOut h all a out out' → Closes h all a out out'
     unfolding parsedOf
     closes-whole k d =
-        let e = closing-whole (h .start) ok all (parsedOf h []) k in
+        let e = closing-whole (h .head .start) ok all (parsedOf h []) k in
         record { answer = d .answer ∙ ap told (sym e); out = d .out ∙ ap (λ x. outAfter x out) (sym e) }
 
-    pub closes-behind : h .start ≡ false → (b : Bool) → b ≡ ok → b ≡ true → HandsOut h (drop 2 all) a out out' → Closes h all a out out'
+    pub closes-behind : h .head .start ≡ false → (b : Bool) → b ≡ ok → b ≡ true → HandsOut h (drop 2 all) a out out' → Closes h all a out out'
     unfolding parsedOf
     closes-behind k b w o d =
-        let e = closing-behind (h .start) ok all (parsedOf h []) k (sym w ∙ o) in
+        let e = closing-behind (h .head .start) ok all (parsedOf h []) k (sym w ∙ o) in
         record { answer = d .answer ∙ ap told (sym e); out = d .out ∙ ap (λ x. outAfter x out) (sym e) }
 
-  pub closes-differs : h .start ≡ false → (b : Bool) → b ≡ ok → b ≡ false → Closes h all BadChecksum out out
+  pub closes-differs : h .head .start ≡ false → (b : Bool) → b ≡ ok → b ≡ false → Closes h all BadChecksum out out
   closes-differs k b w o =
-      let e = closing-differs (h .start) ok all (parsedOf h []) k (sym w ∙ o) in
+      let e = closing-differs (h .head .start) ok all (parsedOf h []) k (sym w ∙ o) in
       record { answer = ap told (sym e); out = ap (λ x. outAfter x out) (sym e) }
 
 -- of the frame, a closing answer reads all but the payload
-closing-alike : (start ok : Bool) (all : List ℕ) (h : Head) (p : List ℕ) → closing start ok all (parsedOf h []) ≡ closing start ok all (parsedOf h p)
+closing-alike : (start ok : Bool) (all : List ℕ) (h : Incoming) (p : List ℕ) → closing start ok all (parsedOf h []) ≡ closing start ok all (parsedOf h p)
 unfolding closing parsedOf
 closing-alike true ok all h p = refl
 closing-alike false true all h p = refl
@@ -169,7 +169,7 @@ module _ (s : rules.Session) (v : Parsed) where
 
 -- ── what a frame does, from the tests of the code ──
 
-module _ (s : rules.Session) (h : Head) (p : List ℕ) where
+module _ (s : rules.Session) (h : Incoming) (p : List ℕ) where
   abbrev v : Parsed
   v = parsedOf h p
 
@@ -184,13 +184,13 @@ module _ (s : rules.Session) (h : Head) (p : List ℕ) where
   tested = refl
 
   -- a start that restarts the session is then the frame that it waits for: check 5 refused a start with toggle 1
-  pub reacts-anew : restarting ≡ true → h .start ≡ true → h .toggle ≡ false → react s v ≡ takes (restarted s (h .transfer)) v
+  pub reacts-anew : restarting ≡ true → h .head .start ≡ true → h .head .toggle ≡ false → react s v ≡ takes (restarted s (h .head .transfer)) v
   unfolding react reactIf parsedOf awaitedAt
   reacts-anew r k t =
-      let a : awaitedAt (h .transfer) false 0 h ≡ true = rw (eq-eqb (h .transfer) (h .transfer) refl, t, k) in
-      ap₂ (λ (b c : Bool). reactIf b c s v) (sym tested ∙ r) k ∙ proceed-taken (restarted s (h .transfer)) v (over-awaited (restarted s (h .transfer)) h p ∙ a)
+      let a : awaitedAt (h .head .transfer) false 0 h ≡ true = rw (eq-eqb (h .head .transfer) (h .head .transfer) refl, t, k) in
+      ap₂ (λ (b c : Bool). reactIf b c s v) (sym tested ∙ r) k ∙ proceed-taken (restarted s (h .head .transfer)) v (over-awaited (restarted s (h .head .transfer)) h p ∙ a)
 
-  pub reacts-skip : restarting ≡ true → h .start ≡ false → react s v ≡ record { answer = passed noTransfer; session = restarted s (next (h .transfer)) }
+  pub reacts-skip : restarting ≡ true → h .head .start ≡ false → react s v ≡ record { answer = passed noTransfer; session = restarted s (next (h .head .transfer)) }
   unfolding react reactIf parsedOf
   reacts-skip r k = ap₂ (λ (b c : Bool). reactIf b c s v) (sym tested ∙ r) k
 
@@ -206,10 +206,10 @@ module _ (s : rules.Session) (h : Head) (p : List ℕ) where
     unfolding parsedOf
     reacts-over a g n =
         let e : length (s .gathered ++ p) ≡ length (s .gathered) + length p = length-append (s .gathered) p in
-        let k : h .start ≡ false = not-start (h .start) refl in
+        let k : h .head .start ≡ false = not-start (h .head .start) refl in
         reacts-take a ∙ takes-long s v (omega arith) ∙ ap (λ (b : Bool). record { answer = long; session = closed s (pick b (h .time) (s .since)) }) k
       where
-        not-start : (b : Bool) → h .start ≡ b → h .start ≡ false
+        not-start : (b : Bool) → h .head .start ≡ b → h .head .start ≡ false
         not-start false x = x
         not-start true x = let z : length (s .gathered) ≡ 0 = awaited-start (s .expected) (s .toggle) (length (s .gathered)) h awaited refl a x in absurd (omega arith)
 
@@ -217,10 +217,10 @@ module _ (s : rules.Session) (h : Head) (p : List ℕ) where
     reacts-pass a = rw on (proceed-passed s v (over-awaited s h p ∙ a))
 
 -- a start begins a new session
-pub begins : (h : Head) (p : List ℕ) → h .start ≡ true → h .toggle ≡ false → proceed (fresh (parsedOf h p)) (parsedOf h p) ≡ takes (fresh (parsedOf h p)) (parsedOf h p)
+pub begins : (h : Incoming) (p : List ℕ) → h .head .start ≡ true → h .head .toggle ≡ false → proceed (fresh (parsedOf h p)) (parsedOf h p) ≡ takes (fresh (parsedOf h p)) (parsedOf h p)
 unfolding parsedOf awaitedAt
 begins h p k t =
-    let a : awaitedAt (h .transfer) false 0 h ≡ true = rw (eq-eqb (h .transfer) (h .transfer) refl, t, k) in
+    let a : awaitedAt (h .head .transfer) false 0 h ≡ true = rw (eq-eqb (h .head .transfer) (h .head .transfer) refl, t, k) in
     proceed-taken (fresh (parsedOf h p)) (parsedOf h p) (over-awaited (fresh (parsedOf h p)) h p ∙ a)
 
 -- ── a frame is taken ──
@@ -233,20 +233,20 @@ pub shut-range : (g : Session) → InRange (shut g)
 shut-range g = record { expected = omega arith; len = lit≤ tt }
 
 -- s the session before, w what `take` made of it
-module _ (s : rules.Session) (h : Head) (p : List ℕ) (w : Session) (e : sessionOf w ≡ added s (h .start) (h .time) p) (g : length (s .gathered) + length p ≤ 514) where
+module _ (s : rules.Session) (h : Incoming) (p : List ℕ) (w : Session) (e : sessionOf w ≡ added s (h .head .start) (h .time) p) (g : length (s .gathered) + length p ≤ 514) where
   few : length (s .gathered ++ p) ≤ 514
   few = omega (arith, length-append (s .gathered) p)
 
-  pub takes-on : h .end ≡ false → takes s (parsedOf h p) ≡ record { answer = taken; session = sessionOf w }
+  pub takes-on : h .head .end ≡ false → takes s (parsedOf h p) ≡ record { answer = taken; session = sessionOf w }
   unfolding parsedOf
   takes-on l = takes-more s (parsedOf h p) few l ∙ ap (λ (x : rules.Session). record { answer = taken; session = x }) (sym e)
 
-  pub takes-last : h .end ≡ true → (a : Answer) (out out' : List ℕ) → Closes h (take (w .len) (w .bytes)) a out out'
+  pub takes-last : h .head .end ≡ true → (a : Answer) (out out' : List ℕ) → Closes h (take (w .len) (w .bytes)) a out out'
       → (a ≡ told (takes s (parsedOf h p) .answer)) × ((sessionOf (shut w) ≡ takes s (parsedOf h p) .session) × (out' ≡ outAfter (takes s (parsedOf h p) .answer) out))
   unfolding sessionOf parsedOf
   takes-last l a out out' d =
       let all = s .gathered ++ p in
-      let y = closing-alike (h .start) (sumOk (h .signature) all) all h p in
+      let y = closing-alike (h .head .start) (sumOk (h .signature) all) all h p in
       let x : Closes h all a out out' = rw (ap (λ (z : rules.Session). z .gathered) e) at d in
       rw (takes-end s (parsedOf h p) few l)
       (x .answer ∙ ap told y, (ap (λ (z : rules.Session). closed z (z .since)) e, x .out ∙ ap (λ z. outAfter z out) y))

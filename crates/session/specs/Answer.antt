@@ -8,14 +8,14 @@ use Rattle.rules.specs.Answer as rules
 use Rattle.rules.specs.Session.{closing, sumOk}
 use Rattle.session.specs.Session.{streamOf, parsedOf}
 use Rattle.answers.specs.declared.Answer.{Answer}
-use Rattle.session.specs.declared.Head.{Head}
+use Rattle.session.specs.declared.Incoming.{Incoming}
 
 -- the payload p is handed out under the head h
-pub record HandsOut (h : Head) (p : List ℕ) (r : Answer) (before after : List ℕ) : Type 0 where
-  pub answer : r ≡ told (rules.handed p (streamOf h) (h .priority) (h .transfer))
+pub record HandsOut (h : Incoming) (p : List ℕ) (r : Answer) (before after : List ℕ) : Type 0 where
+  pub answer : r ≡ told (rules.handed p (streamOf h) (h .head .priority) (h .head .transfer))
   pub out : after ≡ splice before 0 p
 
 -- the transfer with the bytes `all` in hand ends
-pub record Closes (h : Head) (all : List ℕ) (r : Answer) (before after : List ℕ) : Type 0 where
-  pub answer : r ≡ told (closing (h .start) (sumOk (h .signature) all) all (parsedOf h []))
-  pub out : after ≡ outAfter (closing (h .start) (sumOk (h .signature) all) all (parsedOf h [])) before
+pub record Closes (h : Incoming) (all : List ℕ) (r : Answer) (before after : List ℕ) : Type 0 where
+  pub answer : r ≡ told (closing (h .head .start) (sumOk (h .signature) all) all (parsedOf h []))
+  pub out : after ≡ outAfter (closing (h .head .start) (sumOk (h .signature) all) all (parsedOf h [])) before

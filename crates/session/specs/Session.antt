@@ -1,14 +1,16 @@
--- The code's session and frame head, as the rules of `rules` see them.
+-- The code's session and incoming frame, as the rules see them.
 use mathlib.Core.List.{List, _++_}
 use mathlib.Core.Bool.{Bool, false, not, _&&_, _||_}
 use Prim.Native.Nat.{ℕ, _-_, _≤_, _<_}
 use lib.Dec.{ltb, eqb}
 use lib.ListN.{length, take, replicate}
+use Rattle.frame.specs.Head as frame
 use Rattle.rules.specs.Check.{Parsed}
 use Rattle.rules.specs.Frame.{Stream}
+use Rattle.rules.specs.Limits.{gatheredMax, oldAge}
 use Rattle.rules.specs.Session as rules
 use Rattle.rules.specs.Tests.{pick, sameBool}
-use Rattle.session.specs.declared.Head.{Head}
+use Rattle.session.specs.declared.Incoming.{Incoming}
 use Rattle.session.specs.declared.Progress.{Progress}
 use Rattle.session.specs.declared.Session.{Session}
 
@@ -19,22 +21,22 @@ sessionOf s = record { expected = s .expected; gathered = take (s .len) (s .byte
 -- what a session of the receiver always keeps
 pub record InRange (s : Session) : Type 0 where
   pub expected : s .expected < 32
-  pub len : s .len ≤ 514
+  pub len : s .len ≤ gatheredMax
 
-abbrev pub streamOf : Head → Stream
-streamOf h = record { transferType = h .«transfer_type»; type = h .«type_id»; source = h .source; destination = h .destination }
+abbrev pub streamOf : Incoming → Stream
+streamOf h = frame.streamOf (h .head)
 
--- a head and the payload beside it
-unfoldable pub parsedOf : Head → List ℕ → Parsed
+-- a frame and the payload beside it
+unfoldable pub parsedOf : Incoming → List ℕ → Parsed
 parsedOf h p =
     record {
       stream = streamOf h;
       signature = h .signature;
-      priority = h .priority;
-      start = h .start;
-      last = h .end;
-      toggle = h .toggle;
-      transfer = h .transfer;
+      priority = h .head .priority;
+      start = h .head .start;
+      last = h .head .end;
+      toggle = h .head .toggle;
+      transfer = h .head .transfer;
       payload = p;
       time = h .time;
     }
@@ -44,17 +46,17 @@ abbrev pub added : rules.Session → Bool → ℕ → List ℕ → rules.Session
 added s start time p =
     record { expected = s .expected; gathered = s .gathered ++ p; toggle = not (s .toggle); since = pick start time (s .since) }
 
--- a fresh session holds 514 zero bytes, none of them gathered
+-- a fresh session holds zero bytes, none of them gathered
 abbrev pub freshOf : ℕ → ℕ → Session
-freshOf transfer time = record { expected = transfer; toggle = false; time = time; len = 0; bytes = replicate 514 0 }
+freshOf transfer time = record { expected = transfer; toggle = false; time = time; len = 0; bytes = replicate gatheredMax 0 }
 
 -- the restart test and the test of a frame that is not passed over, on the fields that they read
-unfoldable pub restartsAt : ℕ → ℕ → Head → Bool
-restartsAt expected time h = ltb 2000000 (h .time - time) || (h .start && ltb 1 (rules.distance (h .transfer) expected))
+unfoldable pub restartsAt : ℕ → ℕ → Incoming → Bool
+restartsAt expected time h = ltb oldAge (h .time - time) || (h .head .start && ltb 1 (rules.distance (h .head .transfer) expected))
 
-unfoldable pub awaitedAt : ℕ → Bool → ℕ → Head → Bool
+unfoldable pub awaitedAt : ℕ → Bool → ℕ → Incoming → Bool
 awaitedAt expected toggle len h =
-    eqb (h .transfer) expected && (sameBool (h .toggle) toggle && sameBool (h .start) (eqb len 0))
+    eqb (h .head .transfer) expected && (sameBool (h .head .toggle) toggle && sameBool (h .head .start) (eqb len 0))
 
 -- what decides on a frame, of a session of the rules
 abbrev pub progressOf : rules.Session → Progress

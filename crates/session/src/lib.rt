@@ -1,6 +1,7 @@
 // A session by value with its methods, and the tests and answers of one frame of its stream.
 use answers::Answer;
 use answers::Transfer;
+use frame::head::Head;
 use rules::limits::GATHERED;
 use rules::limits::OLD_AGE;
 ghost use mathlib.Core.Path.{_≡_};
@@ -24,19 +25,11 @@ pub struct Session {
     pub bytes: [u8; GATHERED],
 }
 
-// What the rules read of a frame, but for its payload.
-pub struct Head {
-    pub transfer_type: u8,
-    pub type_id: u16,
-    pub source: u8,
-    pub destination: u8,
-    pub priority: u8,
-    pub start: bool,
-    pub end: bool,
-    pub toggle: bool,
-    pub transfer: u8,
-    pub time: u64,
+// What the rules read of a frame, but for its payload: its head, the signature of its type and when it came.
+pub struct Incoming {
+    pub head: Head,
     pub signature: u64,
+    pub time: u64,
 }
 
 // A session but for its bytes: what decides on a frame.
@@ -120,26 +113,26 @@ fn is_old(since: u64, time: u64) -> bool
 }
 
 // Internal. The session restarts: it is old, or the frame is a start of another transfer.
-pub fn restarts(expected: u8, time: u64, h: Head) -> bool
-    requires { ⌜ (expected < 32) × (h .transfer < 32) ⌝ }
-    ensures { λ r. ⌜ r ≡ restartsAt expected time h ⌝ }
+pub fn restarts(expected: u8, time: u64, f: Incoming) -> bool
+    requires { ⌜ (expected < 32) × (f .head .transfer < 32) ⌝ }
+    ensures { λ r. ⌜ r ≡ restartsAt expected time f ⌝ }
 {
-    if is_old(time, h.time) {
+    if is_old(time, f.time) {
         return true;
     }
-    if h.start {
-        return 1 < (expected + 32 - h.transfer) % 32;
+    if f.head.start {
+        return 1 < (expected + 32 - f.head.transfer) % 32;
     }
     false
 }
 
 // Internal. The frame is the one that the session waits for.
-pub fn awaited(expected: u8, toggle: bool, len: usize, h: Head) -> bool
-    ensures { λ r. ⌜ r ≡ awaitedAt expected toggle len h ⌝ }
+pub fn awaited(expected: u8, toggle: bool, len: usize, f: Incoming) -> bool
+    ensures { λ r. ⌜ r ≡ awaitedAt expected toggle len f ⌝ }
 {
-    if h.transfer == expected {
-        if h.toggle == toggle {
-            return h.start == (len == 0);
+    if f.head.transfer == expected {
+        if f.head.toggle == toggle {
+            return f.head.start == (len == 0);
         }
     }
     false
@@ -158,33 +151,33 @@ fn sum_ok(signature: u64, s: &[u8], len: usize) -> bool
 }
 
 // Internal. The bytes of s from `from` up to `len`, handed out.
-pub fn hand_out(s: &[u8], from: usize, len: usize, h: Head, out: &mut [u8]) -> Answer
+pub fn hand_out(s: &[u8], from: usize, len: usize, f: Incoming, out: &mut [u8]) -> Answer
     requires { ⌜ (from ≤ len) × ((len ≤ length (now s)) × (len - from ≤ length (now out))) ⌝ }
-    ensures { λ r. ⌜ HandsOut h (span (now (s .entry)) from (len - from)) r (now (out .entry)) (now (out .exit)) ⌝ }
+    ensures { λ r. ⌜ HandsOut f (span (now (s .entry)) from (len - from)) r (now (out .entry)) (now (out .exit)) ⌝ }
 {
     let n = len - from;
     bits::part::copy_span(out, 0, s, from, n);
     Answer::Handed(Transfer {
         len: n,
-        transfer_type: h.transfer_type,
-        type_id: h.type_id,
-        source: h.source,
-        destination: h.destination,
-        priority: h.priority,
-        transfer: h.transfer,
+        transfer_type: f.head.transfer_type,
+        type_id: f.head.type_id,
+        source: f.head.source,
+        destination: f.head.destination,
+        priority: f.head.priority,
+        transfer: f.head.transfer,
     })
 }
 
 // Internal. An end: start and end together hand out the bytes, else the checksum in front decides.
-pub fn finish(s: &[u8], len: usize, h: Head, out: &mut [u8]) -> Answer
-    requires { ⌜ (len ≤ length (now s)) × ((len ≤ gatheredMax) × ((512 ≤ length (now out)) × ((h .start ≡ true) → len ≤ 512))) ⌝ }
-    ensures { λ r. ⌜ Closes h (take len (now (s .entry))) r (now (out .entry)) (now (out .exit)) ⌝ }
+pub fn finish(s: &[u8], len: usize, f: Incoming, out: &mut [u8]) -> Answer
+    requires { ⌜ (len ≤ length (now s)) × ((len ≤ gatheredMax) × ((512 ≤ length (now out)) × ((f .head .start ≡ true) → len ≤ 512))) ⌝ }
+    ensures { λ r. ⌜ Closes f (take len (now (s .entry))) r (now (out .entry)) (now (out .exit)) ⌝ }
 {
-    if h.start {
-        return hand_out(s, 0, len, h, out);
+    if f.head.start {
+        return hand_out(s, 0, len, f, out);
     }
-    if sum_ok(h.signature, s, len) {
-        return hand_out(s, 2, len, h, out);
+    if sum_ok(f.signature, s, len) {
+        return hand_out(s, 2, len, f, out);
     }
     Answer::BadChecksum
 }

@@ -16,7 +16,7 @@ two : (c : tie.Then2) → 2 ≤ c .before .before .before .before .before .args 
 two c =
     let a = c .before .before .before .before .before .args in
     let l : length (take (a .len) (a .s .now)) ≡ a .len = length-take-le (a .len) (a .s .now) (omega arith) in
-    omega (arith, sum-long (a .h .signature) (take (a .len) (a .s .now)) (c .before .sum-ok .result) (c .before .sum-ok .ensures) (c .if2 .taken))
+    omega (arith, sum-long (a .f .signature) (take (a .len) (a .s .now)) (c .before .sum-ok .result) (c .before .sum-ok .ensures) (c .if2 .taken))
 
 hand-out-requires : tie.Need-hand-out-requires
 hand-out-requires c κs =
@@ -31,7 +31,7 @@ returns c =
     let o = c .before .before in
     let t = o .before .before in
     let a = t .before .before .before .args in
-    closes-whole (a .h) (take (a .len) (a .s .now)) (a .out .now) (o .hand-out .result) (o .hand-out .last .1 .1 .1 .1 .0) (t .if1 .taken)
+    closes-whole (a .f) (take (a .len) (a .s .now)) (a .out .now) (o .hand-out .result) (o .hand-out .last .1 .1 .1 .1 .0) (t .if1 .taken)
     (rw sub-zero at (o .hand-out .ensures))
 
 sum-ok-requires : tie.Need-sum-ok-requires
@@ -49,14 +49,14 @@ returns-2 c =
     let t = o .before .before in
     let n = t .before .before in
     let a = n .before .before .before .args in
-    closes-behind (a .h) (take (a .len) (a .s .now)) (a .out .now) (o .hand-out2 .result) (o .hand-out2 .last .1 .1 .1 .1 .0) (n .if1 .left)
+    closes-behind (a .f) (take (a .len) (a .s .now)) (a .out .now) (o .hand-out2 .result) (o .hand-out2 .last .1 .1 .1 .1 .0) (n .if1 .left)
     (t .before .sum-ok .result) (t .before .sum-ok .ensures) (t .if2 .taken) (rw (behind-sum (a .s .now) (a .len) (two t) (omega arith)) at (o .hand-out2 .ensures))
 
 returns-3 : tie.Need-returns-3
 returns-3 c =
     let n = c .before .before in
     let a = n .before .before .before .args in
-    closes-differs (a .h) (take (a .len) (a .s .now)) (a .out .now) (n .if1 .left) (c .before .sum-ok .result) (c .before .sum-ok .ensures) (c .if2 .left)
+    closes-differs (a .f) (take (a .len) (a .s .now)) (a .out .now) (n .if1 .left) (c .before .sum-ok .result) (c .before .sum-ok .ensures) (c .if2 .left)
 
 pub finish-spec : {M : Type 1} → statement M
 finish-spec =

@@ -10,7 +10,7 @@ is-old-requires c κs = search needs
 returns : tie.Need-returns
 returns c =
     let o = c .before in
-    let a = o .before .args in restarts-old (a .expected) (a .time) (a .h) (o .is-old .result) (o .is-old .ensures) (c .if1 .taken)
+    let a = o .before .args in restarts-old (a .expected) (a .time) (a .f) (o .is-old .result) (o .is-old .ensures) (c .if1 .taken)
 
 add-result : tie.Need-add-result
 add-result c = search needs
@@ -23,13 +23,13 @@ returns-2 c =
     let n = c .before .before in
     let o = n .before in
     let a = o .before .args in
-    restarts-start (a .expected) (a .time) (a .h) (o .is-old .result) (o .is-old .ensures) (n .if1 .left) (c .before .if2 .taken)
+    restarts-start (a .expected) (a .time) (a .f) (o .is-old .result) (o .is-old .ensures) (n .if1 .left) (c .before .if2 .taken)
 
 returns-3 : tie.Need-returns-3
 returns-3 c =
     let n = c .before in
     let o = n .before in
-    let a = o .before .args in restarts-not (a .expected) (a .time) (a .h) (o .is-old .result) (o .is-old .ensures) (n .if1 .left) (c .if2 .left)
+    let a = o .before .args in restarts-not (a .expected) (a .time) (a .f) (o .is-old .result) (o .is-old .ensures) (n .if1 .left) (c .if2 .left)
 
 pub restarts-spec : {M : Type 1} → statement M
 restarts-spec = tie.close (tie.spec is-old-requires returns add-result sub-result returns-2 returns-3)
