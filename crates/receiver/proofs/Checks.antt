@@ -1,62 +1,58 @@
 -- The frame checks in the order of the code, and what a frame that passes them is.
 use mathlib.Core.Path.{_≡_, refl, sym, ap, _∙_}
-use mathlib.Core.Bool.{Bool, true, false, _&&_, _||_}
-use mathlib.Core.List.{List}
+use mathlib.Core.Bool.{Bool, true, false, not, _&&_, _||_}
+use mathlib.Core.List.{List, [], _∷_, _++_}
 use mathlib.Core.Option.{Option, none, some}
-use Prim.Native.Nat.{ℕ, zero, suc, _/_, _%_, _^_, _≤_, _<_}
+use Prim.Native.Nat.{ℕ, zero, suc, _^_, _≤_, _<_}
 use native.Mathlib.Omega.{arith}
 use borrow.Author.Tests.{leb-false, eqb-false, ltb-false, lt-ltb, le-ltb}
 use lib.Dec.{eqb, ltb}
 use lib.ListN.{length}
+use Rattle.frame.specs.Head.{headOf, headTestsOf}
+use Rattle.receiver.specs.Receive.{frameOf, arriving}
 use Rattle.rules.specs.Answer.{refused}
-use Rattle.rules.specs.Check.{Reception, check, parsed, largeId, badLength, unnamedService, badTailIn, forAnother, notSubscribed, frameCheck, orZero}
-use Rattle.rules.specs.Frame.{Frame, isService, isAnonymous, priorityOf, streamIf, streamOf, tailOf, payloadOf, isStart, isEnd, toggleOf, transferOf}
+use Rattle.rules.specs.Check.{Reception, Test, Parsed, check, parsed, largeId, badLength, unnamedService, badTail, forAnother, notSubscribed, readTests, headTests, first, frameCheck, orZero}
+use Rattle.rules.specs.Frame.{Frame, Stream, isAnonymous, unnamed, priorityOf, streamOf, tailOf, payloadOf, isStart, isEnd, toggleOf, transferOf}
 use Rattle.rules.specs.Reception.{step, stepChecked, stepAnonymous}
 use Rattle.rules.specs.Setup.{Setup, signatureFor}
-use Rattle.rules.specs.Table.{Places}
-use Rattle.rules.specs.Tests.{pick, bit}
-use Rattle.receiver.specs.Check.{shapeCheck, headOf}
-use Rattle.receiver.specs.Receive.{frameOf, arriving}
+use Rattle.rules.specs.Table.{Places, orElse}
+use Rattle.rules.specs.Tests.{pick}
 use Rattle.session.specs.Session.{parsedOf}
-use Rattle.receiver.proofs.Heads.{anonymous-is, source-is}
+use Rattle.session.specs.declared.Incoming.{Incoming}
 use Rattle.state.specs.Subscription.{asked}
 use Rattle.state.specs.declared.subscription.Subscribed.the-variants.{Under, Not}
 
--- ── 7 comes after 2 to 6 ──
+-- ── numbers of checks ──
 
-abbrev pub thenSeven : Option ℕ → Bool → Option ℕ
-thenSeven (some n) b = some n
-thenSeven none b = pick b (some 7) none
-
-pub in-order : (u : Setup) (f : Frame) → frameCheck u f ≡ thenSeven (shapeCheck (u .own) f) (notSubscribed u f)
-unfolding frameCheck shapeCheck
-in-order u f = go (largeId f) (badLength f) (unnamedService f) (badTailIn f) (forAnother u f) (notSubscribed u f) where
-  go : (a b c d e s : Bool)
-      → pick a (some 2) (pick b (some 3) (pick c (some 4) (pick d (some 5) (pick e (some 6) (pick s (some 7) none)))))
-      ≡ thenSeven (pick a (some 2) (pick b (some 3) (pick c (some 4) (pick d (some 5) (pick e (some 6) none))))) s
-  go true b c d e s = refl
-  go false true c d e s = refl
-  go false false true d e s = refl
-  go false false false true e s = refl
-  go false false false false true s = refl
-  go false false false false false s = refl
+first-append : (xs ys : List Test) → first (xs ++ ys) ≡ orElse (first xs) (first ys)
+first-append [] ys = refl
+first-append (t ∷ ts) ys = go (t .refuses) (first-append ts ys)
+  where
+    go : (b : Bool) → first (ts ++ ys) ≡ orElse (first ts) (first ys)
+        → pick b (some (t .number)) (first (ts ++ ys)) ≡ orElse (pick b (some (t .number)) (first ts)) (first ys)
+    go true e = refl
+    go false e = e
 
 -- a number above 0 is that of a check
 pub refuses : (o : Option ℕ) (r : ℕ) → r ≡ orZero o → 0 < r → o ≡ some r
 refuses none r e h = absurd (omega arith)
 refuses (some n) r e h = ap (λ (x : ℕ). some x) (sym e)
 
--- 0 is no check's number
-pub numbered : (u : Setup) (f : Frame) → orZero (shapeCheck (u .own) f) ≡ 0 → shapeCheck (u .own) f ≡ none
-unfolding shapeCheck
-numbered u f = go (largeId f) (badLength f) (unnamedService f) (badTailIn f) (forAnother u f) (shapeCheck (u .own) f) refl where
-  go : (a b c d e : Bool) → (o : Option ℕ) → o ≡ pick a (some 2) (pick b (some 3) (pick c (some 4) (pick d (some 5) (pick e (some 6) none)))) → orZero o ≡ 0 → o ≡ none
-  go true b c d e o q z = absurd (omega (arith, ap orZero q))
-  go false true c d e o q z = absurd (omega (arith, ap orZero q))
-  go false false true d e o q z = absurd (omega (arith, ap orZero q))
-  go false false false true e o q z = absurd (omega (arith, ap orZero q))
-  go false false false false true o q z = absurd (omega (arith, ap orZero q))
-  go false false false false false o q z = q
+-- 0 is the number of no check
+read-none : (id n : ℕ) → orZero (first (readTests id n)) ≡ 0 → first (readTests id n) ≡ none
+read-none id n = go (largeId id) (badLength n) where
+  go : (a b : Bool) → orZero (pick a (some 2) (pick b (some 3) none)) ≡ 0 → pick {A = Option ℕ} a (some 2) (pick b (some 3) none) ≡ none
+  go true b z = absurd (omega arith)
+  go false true z = absurd (omega arith)
+  go false false z = refl
+
+head-none : (own : ℕ) (d : Stream) (start last toggle : Bool) (n : ℕ) → orZero (first (headTests own d start last toggle n)) ≡ 0 → first (headTests own d start last toggle n) ≡ none
+head-none own d start last toggle n = go (unnamedService d) (badTail (unnamed d) start last toggle n) (forAnother own d) where
+  go : (a b c : Bool) → orZero (pick a (some 4) (pick b (some 5) (pick c (some 6) none))) ≡ 0 → pick {A = Option ℕ} a (some 4) (pick b (some 5) (pick c (some 6) none)) ≡ none
+  go true b c z = absurd (omega arith)
+  go false true c z = absurd (omega arith)
+  go false false true z = absurd (omega arith)
+  go false false false z = refl
 
 pub under : (o : Option ℕ) (g : ℕ) → asked o ≡ Under g → o ≡ some g
 under none g e = let z : _≡_ {A = ℕ} 0 1 = cc in absurd (omega arith)
@@ -66,7 +62,7 @@ pub not-asked : (o : Option ℕ) → asked o ≡ Not → o ≡ none
 not-asked none e = refl
 not-asked (some n) e = let z : _≡_ {A = ℕ} 0 1 = cc in absurd (omega arith)
 
--- ── a frame that passes ──
+-- ── a frame that can be read, and one that passes ──
 
 or-left : (a b : Bool) → (a || b) ≡ false → a ≡ false
 or-left true b e = e
@@ -76,70 +72,55 @@ or-right : (a b : Bool) → (a || b) ≡ false → b ≡ false
 or-right true b e = let z : _≡_ {A = ℕ} 0 1 = cc in absurd (omega arith)
 or-right false b e = e
 
-pub record Passed (f : Frame) : Type 0 where
-  pub id : f .id < 536870912
-  pub some-bytes : 0 < length (f .bytes)
-  pub few-bytes : length (f .bytes) ≤ 8
-  pub service : unnamedService f ≡ false
-  pub tail : badTailIn f ≡ false
+pub record Readable (id n : ℕ) : Type 0 where
+  pub small : id < 2 ^ 29
+  pub some-bytes : 0 < n
+  pub few-bytes : n ≤ 8
 
-pub passes : (u : Setup) (f : Frame) → frameCheck u f ≡ none → Passed f
-unfolding frameCheck
-passes u f e = go (largeId f) refl (badLength f) refl (unnamedService f) refl (badTailIn f) refl _ e where
-  go : (a : Bool) → largeId f ≡ a → (b : Bool) → badLength f ≡ b → (c : Bool) → unnamedService f ≡ c → (d : Bool) → badTailIn f ≡ d → (o : Option ℕ)
-      → pick {A = Option ℕ} a (some 2) (pick {A = Option ℕ} b (some 3) (pick {A = Option ℕ} c (some 4) (pick {A = Option ℕ} d (some 5) o))) ≡ none → Passed f
-  go true p b q c r d t o e = let z : _≡_ {A = ℕ} 0 1 = cc in absurd (omega arith)
-  go false p true q c r d t o e = let z : _≡_ {A = ℕ} 0 1 = cc in absurd (omega arith)
-  go false p false q true r d t o e = let z : _≡_ {A = ℕ} 0 1 = cc in absurd (omega arith)
-  go false p false q false r true t o e = let z : _≡_ {A = ℕ} 0 1 = cc in absurd (omega arith)
-  go false p false q false r false t o e =
-      let n = length (f .bytes) in
-      let z = eqb-false n 0 (or-left (eqb n 0) (ltb 8 n) q) in
+pub readable : (id n r : ℕ) → r ≡ orZero (first (readTests id n)) → r ≤ 0 → Readable id n
+readable id n r e z = go (largeId id) refl (badLength n) refl (sym e) where
+  pos : (n : ℕ) → (n ≡ 0 → ⊥) → 0 < n
+  pos zero z = absurd (z refl)
+  pos (suc n) z = omega arith
+
+  go : (a : Bool) → largeId id ≡ a → (b : Bool) → badLength n ≡ b → orZero (pick a (some 2) (pick b (some 3) none)) ≡ r → Readable id n
+  go true p b q e = absurd (omega arith)
+  go false p true q e = absurd (omega arith)
+  go false p false q e =
       record {
-        id = leb-false (2 ^ 29) (f .id) p;
-        some-bytes = omega (arith, pos n z);
+        small = leb-false (2 ^ 29) id p;
+        some-bytes = pos n (eqb-false n 0 (or-left (eqb n 0) (ltb 8 n) q));
         few-bytes = ltb-false 8 n (or-right (eqb n 0) (ltb 8 n) q);
-        service = r;
-        tail = t;
       }
-    where
-      pos : (n : ℕ) → (n ≡ 0 → ⊥) → 0 < n
-      pos zero z = absurd (z refl)
-      pos (suc n) z = omega arith
 
--- a start has toggle 0
-pub start-toggle : (f : Frame) → Passed f → isStart (tailOf (f .bytes)) ≡ true → toggleOf (tailOf (f .bytes)) ≡ false
-start-toggle f p s =
-    let t : (isStart (tailOf (f .bytes)) && toggleOf (tailOf (f .bytes))) ≡ false = or-left (isStart (tailOf (f .bytes)) && toggleOf (tailOf (f .bytes))) _ (p .tail) in
-    rw s at t
+-- of a head that 4 to 6 let through: a start has toggle 0, and a frame that is not anonymous a named source
+pub record HeadPasses (d : Stream) (start toggle : Bool) : Type 0 where
+  pub first : start ≡ true → toggle ≡ false
+  pub named : unnamed d ≡ false → d .source ≡ 0 → ⊥
 
--- a frame that is not anonymous has a named source
-pub source-named : (f : Frame) → Passed f → isAnonymous (f .id) ≡ false → streamOf (f .id) .source ≡ 0 → ⊥
-source-named f p a z = go (isService (f .id)) refl (sym (source-is (f .id)) ∙ z) where
-  go : (b : Bool) → isService (f .id) ≡ b → f .id % 128 ≡ 0 → ⊥
-  go true e s =
-      let t : (eqb (f .id % 128) 0 || eqb (f .id / 256 % 128) 0) ≡ false = rw e at (p .service) in
-      eqb-false (f .id % 128) 0 (or-left (eqb (f .id % 128) 0) (eqb (f .id / 256 % 128) 0) t) s
-  go false e s = eqb-false (f .id % 128) 0 (sym (anonymous-is (f .id) false e) ∙ a) s
+pub head-passes : (own : ℕ) (d : Stream) (start last toggle : Bool) (n r : ℕ) → r ≡ orZero (first (headTests own d start last toggle n)) → r ≤ 0 → HeadPasses d start toggle
+head-passes own d start last toggle n r e z = go (unnamedService d) refl (badTail (unnamed d) start last toggle n) refl (sym e) where
+  named : (b : Bool) → eqb (d .transferType) 0 ≡ b → (not b && (eqb (d .source) 0 || eqb (d .destination) 0)) ≡ false → (b && eqb (d .source) 0) ≡ false → eqb (d .source) 0 ≡ false
+  named true e p q = q
+  named false e p q = or-left (eqb (d .source) 0) (eqb (d .destination) 0) p
 
-pub type-small : (id : ℕ) → streamOf id .transferType < 3
-unfolding streamOf
-type-small id = go (isService id) (bit id 32768) refl where
-  go : (b c : Bool) → bit id 32768 ≡ c → streamIf b id .transferType < 3
-  go true true e = rw e (omega arith)
-  go true false e = rw e (omega arith)
-  go false c e = omega arith
+  off : (b c : Bool) → (b && c) ≡ false → b ≡ true → c ≡ false
+  off true c e k = e
+  off false c e k = let z : _≡_ {A = ℕ} 0 1 = cc in absurd (omega arith)
 
-pub destination-lt : (id : ℕ) → streamOf id .destination < 128
-unfolding streamOf
-destination-lt id = go (isService id) where
-  go : (b : Bool) → streamIf b id .destination < 128
-  go true = omega arith
-  go false = omega arith
+  go : (a : Bool) → unnamedService d ≡ a → (b : Bool) → badTail (unnamed d) start last toggle n ≡ b
+      → orZero (pick a (some 4) (pick b (some 5) (pick (forAnother own d) (some 6) none))) ≡ r → HeadPasses d start toggle
+  go true p b q e = absurd (omega arith)
+  go false p true q e = absurd (omega arith)
+  go false p false q e =
+      record {
+        first = off start toggle (or-left (start && toggle) _ q);
+        named = λ a. eqb-false (d .source) 0 (named (eqb (d .transferType) 0) refl p a);
+      }
 
--- the head and the payload beside it are what the rules read
+-- the head, the signature and the payload beside it are what the rules read
 pub parsed-is : (u : Setup) (id time signature : ℕ) (bs : List ℕ) → signatureFor u id ≡ some signature
-    → parsedOf (headOf id (tailOf bs) time signature) (payloadOf bs) ≡ parsed u (frameOf id bs time)
+    → parsedOf (record { head = headOf id (tailOf bs); signature = signature; time = time }) (payloadOf bs) ≡ parsed u (frameOf id bs time)
 unfolding parsedOf headOf parsed
 parsed-is u id time signature bs e =
     let g : signature ≡ orZero (signatureFor u id) = sym (ap orZero e) in
@@ -157,35 +138,51 @@ parsed-is u id time signature bs e =
 
 -- ── the step, by the number of the check ──
 
--- 2 to 6 look at no time
-timeless : (own id time : ℕ) (bs : List ℕ) → shapeCheck own (frameOf id bs 0) ≡ shapeCheck own (frameOf id bs time)
-unfolding shapeCheck
-timeless own id time bs = refl
-
 module _ (u : Setup) (id time : ℕ) (bs out : List ℕ) where
-  pub shape-refuses : (r : ℕ) → r ≡ orZero (shapeCheck (u .own) (frameOf id bs 0)) → 0 < r → check u (arriving (frameOf id bs time) out) ≡ some r
+  abbrev reads : Option ℕ
+  reads = first (readTests id (length bs))
+
+  abbrev pub heads : Option ℕ
+  heads = first (headTests (u .own) (streamOf id) (isStart (tailOf bs)) (isEnd (tailOf bs)) (toggleOf (tailOf bs)) (length bs))
+
+  in-order : frameCheck u (frameOf id bs time) ≡ orElse reads (orElse heads (pick (notSubscribed u (frameOf id bs time)) (some 7) none))
+  unfolding frameCheck
+  in-order =
+      let hs = headTests (u .own) (streamOf id) (isStart (tailOf bs)) (isEnd (tailOf bs)) (toggleOf (tailOf bs)) (length bs) in
+      let last : List Test = record { refuses = notSubscribed u (frameOf id bs time); number = 7 } ∷ [] in
+      first-append (readTests id (length bs)) (hs ++ last) ∙ ap (orElse reads) (first-append hs last)
+
+  pub read-refuses : (r : ℕ) → r ≡ orZero reads → 0 < r → check u (arriving (frameOf id bs time) out) ≡ some r
   unfolding check
-  shape-refuses r e h = rw (in-order u (frameOf id bs time), ← timeless (u .own) id time bs, refuses (shapeCheck (u .own) (frameOf id bs 0)) r e h)
+  read-refuses r e h = rw (in-order, refuses reads r e h)
 
-  module _ (r : ℕ) (e : r ≡ orZero (shapeCheck (u .own) (frameOf id bs 0))) (z : r ≤ 0) where
-    shape-none : shapeCheck (u .own) (frameOf id bs time) ≡ none
-    shape-none = numbered u (frameOf id bs time) (ap orZero (sym (timeless (u .own) id time bs)) ∙ sym e ∙ omega arith)
+  module _ (r : ℕ) (e : r ≡ orZero reads) (z : r ≤ 0) where
+    reads-none : reads ≡ none
+    reads-none = read-none id (length bs) (sym e ∙ omega arith)
 
-    pub not-subscribed : signatureFor u id ≡ none → check u (arriving (frameOf id bs time) out) ≡ some 7
+    pub head-refuses : (k : ℕ) → k ≡ orZero heads → 0 < k → check u (arriving (frameOf id bs time) out) ≡ some k
     unfolding check
-    not-subscribed s = rw (in-order u (frameOf id bs time), shape-none, s)
+    head-refuses k e h = rw (in-order, reads-none, refuses heads k e h)
 
-    module _ (g : ℕ) (s : signatureFor u id ≡ some g) where
-      pub all-passed : frameCheck u (frameOf id bs time) ≡ none
-      all-passed = rw (in-order u (frameOf id bs time), shape-none, s)
+    module _ (k : ℕ) (d : k ≡ orZero heads) (y : k ≤ 0) where
+      heads-none : heads ≡ none
+      heads-none = head-none (u .own) (streamOf id) (isStart (tailOf bs)) (isEnd (tailOf bs)) (toggleOf (tailOf bs)) (length bs) (sym d ∙ omega arith)
 
-      pub no-room : length out < 512 → check u (arriving (frameOf id bs time) out) ≡ some 8
+      pub not-subscribed : signatureFor u id ≡ none → check u (arriving (frameOf id bs time) out) ≡ some 7
       unfolding check
-      no-room h = rw (all-passed, lt-ltb (length out) 512 h)
+      not-subscribed s = rw (in-order, reads-none, heads-none, s)
 
-      pub accepted : 512 ≤ length out → check u (arriving (frameOf id bs time) out) ≡ none
-      unfolding check
-      accepted h = rw (all-passed, le-ltb (length out) 512 h)
+      module _ (g : ℕ) (s : signatureFor u id ≡ some g) where
+        all-passed : frameCheck u (frameOf id bs time) ≡ none
+        all-passed = rw (in-order, reads-none, heads-none, s)
+
+        pub no-room : length out < 512 → check u (arriving (frameOf id bs time) out) ≡ some 8
+        unfolding check
+        no-room h = rw (all-passed, lt-ltb (length out) 512 h)
+
+        pub accepted : 512 ≤ length out → check u (arriving (frameOf id bs time) out) ≡ none
+        unfolding check
+        accepted h = rw (all-passed, le-ltb (length out) 512 h)
 
 pub step-refused : (u : Setup) (ps : Places) (r : Reception) (n : ℕ) → check u r ≡ some n → step u ps r ≡ record { answer = refused n; places = ps }
 unfolding step stepChecked

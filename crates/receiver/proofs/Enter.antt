@@ -12,7 +12,7 @@ use Rattle.receiver.specs.Place.{entered}
 use Rattle.receiver.specs.declared.place.Way.{Way}
 use Rattle.receiver.specs.declared.place.Way.the-variants.{New, Again, On}
 use Rattle.session.specs.Session.{sessionOf, streamOf, freshOf, progressOf, restartsAt, awaitedAt}
-use Rattle.session.specs.declared.Head.{Head}
+use Rattle.session.specs.declared.Incoming.{Incoming}
 use Rattle.session.specs.declared.Progress.{Progress}
 use Rattle.session.specs.declared.Session as coded
 use Rattle.state.specs.Layout.{keyAt, keyOf, countAt, gatheredAt, sessionAt}
@@ -26,17 +26,17 @@ again-new q = let z : _≡_ {A = ℕ} 0 1 = cc in absurd (omega arith)
 pub on-new : On ≡ New → ⊥
 on-new q = let z : _≡_ {A = ℕ} 0 1 = cc in absurd (omega arith)
 
-module _ (m : List ℕ) (i : ℕ) (h : Head) (way : Way) where
-  pub enters-new : way ≡ New → (r : coded.Session) → r ≡ freshOf (h .transfer) (h .time) → (sessionOf r ≡ entered way m i h) × (r .len ≤ 514)
+module _ (m : List ℕ) (i : ℕ) (h : Incoming) (way : Way) where
+  pub enters-new : way ≡ New → (r : coded.Session) → r ≡ freshOf (h .head .transfer) (h .time) → (sessionOf r ≡ entered way m i h) × (r .len ≤ 514)
   unfolding sessionOf
   enters-new e r f = (ap sessionOf f ∙ ap (λ (w : Way). entered w m i h) (sym e), omega (arith, ap (λ (x : coded.Session). x .len) f))
 
   module _ (s : coded.Session) (l : sessionOf s ≡ sessionAt m i) where
     pub enters-again : way ≡ Again → (r : coded.Session)
-        → r ≡ record { expected = h .transfer; toggle = false; time = s .time; len = 0; bytes = s .bytes } → (sessionOf r ≡ entered way m i h) × (r .len ≤ 514)
+        → r ≡ record { expected = h .head .transfer; toggle = false; time = s .time; len = 0; bytes = s .bytes } → (sessionOf r ≡ entered way m i h) × (r .len ≤ 514)
     unfolding sessionOf
     enters-again e r f =
-        (ap sessionOf f ∙ ap (λ (x : Session). restarted x (h .transfer)) l ∙ ap (λ (w : Way). entered w m i h) (sym e), omega (arith, ap (λ (x : coded.Session). x .len) f))
+        (ap sessionOf f ∙ ap (λ (x : Session). restarted x (h .head .transfer)) l ∙ ap (λ (w : Way). entered w m i h) (sym e), omega (arith, ap (λ (x : coded.Session). x .len) f))
 
     pub enters-on : way ≡ On → s .len ≤ 514 → (sessionOf s ≡ entered way m i h) × (s .len ≤ 514)
     enters-on e n = (l ∙ ap (λ (w : Way). entered w m i h) (sym e), n)
@@ -51,7 +51,7 @@ unfolding sessionOf
 expected-of s q e = ap (λ (x : Session). x .expected) e
 
 -- the place is held, since the stream's source is named
-pub held-key : (h : Head) (m : List ℕ) (i k : ℕ) → (h .source ≡ 0 → ⊥) → k ≡ keyOf (streamOf h) → keyAt m i ≡ k → keyAt m i ≡ 0 → ⊥
+pub held-key : (h : Incoming) (m : List ℕ) (i k : ℕ) → (h .head .source ≡ 0 → ⊥) → k ≡ keyOf (streamOf h) → keyAt m i ≡ k → keyAt m i ≡ 0 → ⊥
 held-key h m i k n e f z = key-some (streamOf h) n (sym e ∙ sym f ∙ z)
 
 pub held-few : (m : List ℕ) → soundState m ≡ true → (i : ℕ) → i < 32 → (keyAt m i ≡ 0 → ⊥) → length (sessionAt m i .gathered) ≤ 514
@@ -63,7 +63,7 @@ held-few m fine i h z =
     omega arith
 
 -- the code's tests are those on the session of the place
-module _ (s : Session) (c : Progress) (e : c ≡ progressOf s) (h : Head) where
+module _ (s : Session) (c : Progress) (e : c ≡ progressOf s) (h : Incoming) where
   pub restarts-at : (b : Bool) → b ≡ restartsAt (c .expected) (c .time) h → (a : Bool) → b ≡ a → restartsAt (s .expected) (s .since) h ≡ a
   restarts-at b t a q = sym (ap (λ (x : Progress). restartsAt (x .expected) (x .time) h) e) ∙ sym t ∙ q
 

@@ -1,5 +1,3 @@
-mod Heads
-mod Tails
 mod Seek
 mod Lent
 mod Checks

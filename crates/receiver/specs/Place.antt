@@ -7,17 +7,17 @@ use lib.ListN.{length}
 use Rattle.rules.specs.Session.{Session, restarted}
 use Rattle.receiver.specs.declared.place.Way.{Way}
 use Rattle.receiver.specs.declared.place.Way.the-variants.{New, Again, On}
-use Rattle.session.specs.declared.Head.{Head}
+use Rattle.session.specs.declared.Incoming.{Incoming}
 use Rattle.state.specs.Layout.{countAt, sessionAt}
 
-abbrev pub entered : Way → List ℕ → ℕ → Head → Session
-entered New m i h = record { expected = h .transfer; gathered = []; toggle = false; since = h .time }
-entered Again m i h = restarted (sessionAt m i) (h .transfer)
+abbrev pub entered : Way → List ℕ → ℕ → Incoming → Session
+entered New m i h = record { expected = h .head .transfer; gathered = []; toggle = false; since = h .time }
+entered Again m i h = restarted (sessionAt m i) (h .head .transfer)
 entered On m i h = sessionAt m i
 
 -- the frame is the one that this session waits for, and its bytes have room
-pub record Enters (way : Way) (m : List ℕ) (i : ℕ) (h : Head) (p : List ℕ) : Type 0 where
+pub record Enters (way : Way) (m : List ℕ) (i : ℕ) (h : Incoming) (p : List ℕ) : Type 0 where
   pub stored : (way ≡ New → ⊥) → countAt m i ≤ 514
   pub expected : entered way m i h .expected < 32
   pub few : length (entered way m i h .gathered) + length p ≤ 514
-  pub first : h .start ≡ true → length (entered way m i h .gathered) ≡ 0
+  pub first : h .head .start ≡ true → length (entered way m i h .gathered) ≡ 0

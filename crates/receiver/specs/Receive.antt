@@ -10,7 +10,10 @@ use Rattle.rules.specs.Reception.{Step, step}
 use Rattle.answers.specs.Reception.{told, outAfter}
 use Rattle.answers.specs.declared.Answer.{Answer}
 use Rattle.answers.specs.declared.Answer.the-variants.{Faulty}
-use Rattle.session.specs.declared.Head.{Head}
+use Rattle.rules.specs.Frame.{unnamed}
+use Rattle.rules.specs.Limits.{payloadMax, frameData, framePayload}
+use Rattle.session.specs.Session.{streamOf}
+use Rattle.session.specs.declared.Incoming.{Incoming}
 use Rattle.state.specs.Layout.{setupOf, placesOf}
 use Rattle.state.specs.Place.{written}
 use Rattle.state.specs.Sound.{soundState}
@@ -41,15 +44,29 @@ receivedIf true m f out = lent m out (step (setupOf m) (placesOf m) (arriving f 
 unfoldable pub received : List ℕ → Frame → List ℕ → Result
 received m f out = receivedIf (soundState m) m f out
 
--- what the functions below the checks are called with: a sound state, a frame with a named source that passed the checks, and room
-pub record Called (m : List ℕ) (h : Head) (p out : List ℕ) : Type 0 where
+-- what the functions after the checks are called with: a state without a fault, a frame that passed the checks, and room
+pub record Accepted (m : List ℕ) (h : Incoming) (bs out : List ℕ) : Type 0 where
   pub sound : soundState m ≡ true
-  pub transfer : h .transfer < 32
-  pub start : h .start ≡ true → h .toggle ≡ false
-  pub transferType : h .«transfer_type» < 3
-  pub type : h .«type_id» < 65536
-  pub source : h .source < 128
-  pub named : h .source ≡ 0 → ⊥
-  pub destination : h .destination < 128
-  pub payload : length p ≤ 7
-  pub room : 512 ≤ length out
+  pub transfer : h .head .transfer < 32
+  pub start : h .head .start ≡ true → h .head .toggle ≡ false
+  pub transferType : h .head .«transfer_type» < 3
+  pub type : h .head .«type_id» < 65536
+  pub source : h .head .source < 128
+  pub named : unnamed (streamOf h) ≡ false → h .head .source ≡ 0 → ⊥
+  pub destination : h .head .destination < 128
+  pub some-bytes : 0 < length bs
+  pub few-bytes : length bs ≤ frameData
+  pub room : payloadMax ≤ length out
+
+-- the same of a frame with a named source and its payload
+pub record Called (m : List ℕ) (h : Incoming) (p out : List ℕ) : Type 0 where
+  pub sound : soundState m ≡ true
+  pub transfer : h .head .transfer < 32
+  pub start : h .head .start ≡ true → h .head .toggle ≡ false
+  pub transferType : h .head .«transfer_type» < 3
+  pub type : h .head .«type_id» < 65536
+  pub source : h .head .source < 128
+  pub named : h .head .source ≡ 0 → ⊥
+  pub destination : h .head .destination < 128
+  pub payload : length p ≤ framePayload
+  pub room : payloadMax ≤ length out

@@ -1,59 +1,62 @@
 // The receiver: one frame on a lent state.
-mod check;
 mod place;
 
 use answers::Answer;
+use rules::limits::PAYLOAD;
+use session::Incoming;
 use state::subscription::Subscribed;
 ghost use mathlib.Core.Path.{_≡_};
 ghost use mathlib.Core.Bool.{true};
-ghost use mathlib.Core.Option.{none, some};
-ghost use Prim.Native.Nat.{_≤_, _<_};
-ghost use lib.ListN.{length};
-ghost use Rattle.rules.specs.Check.{parsed, frameCheck};
-ghost use Rattle.rules.specs.Frame.{isAnonymous};
+ghost use Rattle.receiver.specs.Receive.{result, frameOf, arriving, lent, received, Accepted};
+ghost use Rattle.rules.specs.Frame.{unnamed, payloadOf};
 ghost use Rattle.rules.specs.Reception.{step, stepAnonymous};
-ghost use Rattle.rules.specs.Setup.{signatureFor};
-ghost use Rattle.receiver.specs.Receive.{result, frameOf, arriving, lent, received};
+ghost use Rattle.session.specs.Session.{streamOf, parsedOf};
 ghost use Rattle.state.specs.Layout.{setupOf, placesOf};
 ghost use Rattle.state.specs.Sound.{soundState};
 
 // A frame that passed the checks: an anonymous one is handed out at once, others go to their session.
-fn accept(
-    state: &mut [u8],
-    id: u32,
-    frame: &[u8],
-    time: u64,
-    signature: u64,
-    out: &mut [u8],
-) -> Answer
-    requires { ⌜ (soundState (now state) ≡ true) × (frameCheck (setupOf (now state)) (frameOf id (now frame) time) ≡ none) ⌝ }
-    requires { ⌜ (signatureFor (setupOf (now state)) id ≡ some signature) × (512 ≤ length (now out)) ⌝ }
-    ensures { λ r. ⌜ result r (now (state .exit)) (now (out .exit)) ≡ lent (now (state .entry)) (now (out .entry)) (stepAnonymous (isAnonymous id) (placesOf (now (state .entry))) (parsed (setupOf (now (state .entry))) (frameOf id (now (frame .entry)) time))) ⌝ }
+fn accept(state: &mut [u8], f: Incoming, frame: &[u8], out: &mut [u8]) -> Answer
+    requires { ⌜ Accepted (now state) f (now frame) (now out) ⌝ }
+    ensures { λ r. ⌜ result r (now (state .exit)) (now (out .exit)) ≡ lent (now (state .entry)) (now (out .entry)) (stepAnonymous (unnamed (streamOf f)) (placesOf (now (state .entry))) (parsedOf f (payloadOf (now (frame .entry))))) ⌝ }
 {
     let last = frame.len() - 1;
-    let h = check::head(id, frame[last], time, signature);
-    if check::is_anonymous(id) {
-        return session::hand_out(frame, 0, last, h, out);
+    if frame::check::is_anonymous(f.head) {
+        return session::hand_out(frame, 0, last, f, out);
     }
-    place::arrive(state, h, &frame[0..last], out)
+    place::arrive(state, f, &frame[0..last], out)
 }
 
-// On a state without a fault.
+// On a state without a fault: the frame is read once, then checked.
 fn arrive(state: &mut [u8], id: u32, frame: &[u8], time: u64, out: &mut [u8]) -> Answer
     requires { ⌜ soundState (now state) ≡ true ⌝ }
     ensures { λ r. ⌜ result r (now (state .exit)) (now (out .exit)) ≡ lent (now (state .entry)) (now (out .entry)) (step (setupOf (now (state .entry))) (placesOf (now (state .entry))) (arriving (frameOf id (now (frame .entry)) time) (now (out .entry)))) ⌝ }
 {
-    let refused = check::refusal(id, frame, state[0]);
+    let n = frame.len();
+    let unreadable = frame::check::unreadable(id, n);
+    if 0 < unreadable {
+        return Answer::Refused(unreadable);
+    }
+    let h = frame::head::read(id, frame[n - 1]);
+    let refused = frame::check::refusal(h, n, state[0]);
     if 0 < refused {
         return Answer::Refused(refused);
     }
-    match state::subscription::find(state, check::kind(id), check::type_id(id)) {
+    match state::subscription::find(state, frame::check::kind(h), h.type_id as u32) {
         Subscribed::Not => Answer::Refused(7),
         Subscribed::Under(signature) => {
-            if out.len() < 512 {
+            if out.len() < PAYLOAD {
                 return Answer::Refused(8);
             }
-            accept(state, id, frame, time, signature, out)
+            accept(
+                state,
+                Incoming {
+                    head: h,
+                    signature,
+                    time,
+                },
+                frame,
+                out,
+            )
         }
     }
 }

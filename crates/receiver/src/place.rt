@@ -1,6 +1,6 @@
 // A frame's session: the place that it has, or gets.
 use answers::Answer;
-use session::Head;
+use session::Incoming;
 use session::Progress;
 use session::Session;
 use state::scan::Want;
@@ -19,12 +19,13 @@ ghost use Rattle.state.specs.Layout.{size, keyAt, keyOf, countAt, sessionAt, pl
 ghost use Rattle.state.specs.Place.{withPlace};
 
 // The stream of a head in one number.
-fn key(h: Head) -> u32
-    requires { ⌜ (h .«transfer_type» < 3) × ((h .source < 128) × (h .destination < 128)) ⌝ }
-    ensures { λ r. ⌜ r ≡ keyOf (streamOf h) ⌝ }
+fn key(f: Incoming) -> u32
+    requires { ⌜ (f .head .«transfer_type» < 3) × ((f .head .source < 128) × (f .head .destination < 128)) ⌝ }
+    ensures { λ r. ⌜ r ≡ keyOf (streamOf f) ⌝ }
 {
-    ((h.transfer_type as u32 * 65536 + h.type_id as u32) * 128 + h.source as u32) * 128
-        + h.destination as u32
+    ((f.head.transfer_type as u32 * 65536 + f.head.type_id as u32) * 128 + f.head.source as u32)
+        * 128
+        + f.head.destination as u32
 }
 
 // The session that a frame enters: a new one, that of its place restarted, or that of its place.
@@ -34,26 +35,34 @@ enum Way {
     On,
 }
 
-fn session_for(state: &[u8], i: usize, way: Way, h: Head) -> Session
+fn session_for(state: &[u8], i: usize, way: Way, f: Incoming) -> Session
     requires { ⌜ (i < 32) × ((size ≤ length (now state)) × ((way ≡ New → ⊥) → countAt (now state) i ≤ 514)) ⌝ }
-    ensures { λ r. ⌜ (sessionOf r ≡ entered way (now (state .entry)) i h) × (r .len ≤ 514) ⌝ }
+    ensures { λ r. ⌜ (sessionOf r ≡ entered way (now (state .entry)) i f) × (r .len ≤ 514) ⌝ }
 {
     match way {
-        Way::New => Session::fresh(h.transfer, h.time),
-        Way::Again => state::place::load(state, i).restart(h.transfer),
+        Way::New => Session::fresh(f.head.transfer, f.time),
+        Way::Again => state::place::load(state, i).restart(f.head.transfer),
         Way::On => state::place::load(state, i),
     }
 }
 
 // The frame is taken into the session of place i.
-fn enter(state: &mut [u8], i: usize, k: u32, way: Way, h: Head, p: &[u8], out: &mut [u8]) -> Answer
-    requires { ⌜ Called (now state) h (now p) (now out) ⌝ }
-    requires { ⌜ (i < 32) × ((k ≡ keyOf (streamOf h)) × Enters way (now state) i h (now p)) ⌝ }
-    ensures { λ r. ⌜ result r (now (state .exit)) (now (out .exit)) ≡ lent (now (state .entry)) (now (out .entry)) (store (placesOf (now (state .entry))) i (streamOf h) (takes (entered way (now (state .entry)) i h) (parsedOf h (now (p .entry))))) ⌝ }
+fn enter(
+    state: &mut [u8],
+    i: usize,
+    k: u32,
+    way: Way,
+    f: Incoming,
+    p: &[u8],
+    out: &mut [u8],
+) -> Answer
+    requires { ⌜ Called (now state) f (now p) (now out) ⌝ }
+    requires { ⌜ (i < 32) × ((k ≡ keyOf (streamOf f)) × Enters way (now state) i f (now p)) ⌝ }
+    ensures { λ r. ⌜ result r (now (state .exit)) (now (out .exit)) ≡ lent (now (state .entry)) (now (out .entry)) (store (placesOf (now (state .entry))) i (streamOf f) (takes (entered way (now (state .entry)) i f) (parsedOf f (now (p .entry))))) ⌝ }
 {
-    let g = session_for(state, i, way, h).take(h.start, h.time, p);
-    if h.end {
-        let answer = session::finish(&g.bytes, g.len, h, out);
+    let g = session_for(state, i, way, f).take(f.head.start, f.time, p);
+    if f.head.end {
+        let answer = session::finish(&g.bytes, g.len, f, out);
         let q = g.close();
         let c = Progress {
             expected: q.expected,
@@ -90,58 +99,58 @@ fn reset(state: &mut [u8], i: usize, k: u32, expected: u8)
 }
 
 // The stream's session is in place i.
-fn known(state: &mut [u8], i: usize, k: u32, h: Head, p: &[u8], out: &mut [u8]) -> Answer
-    requires { ⌜ Called (now state) h (now p) (now out) ⌝ }
-    requires { ⌜ (i < 32) × ((k ≡ keyOf (streamOf h)) × (keyAt (now state) i ≡ k)) ⌝ }
-    ensures { λ r. ⌜ result r (now (state .exit)) (now (out .exit)) ≡ lent (now (state .entry)) (now (out .entry)) (store (placesOf (now (state .entry))) i (streamOf h) (react (sessionAt (now (state .entry)) i) (parsedOf h (now (p .entry))))) ⌝ }
+fn known(state: &mut [u8], i: usize, k: u32, f: Incoming, p: &[u8], out: &mut [u8]) -> Answer
+    requires { ⌜ Called (now state) f (now p) (now out) ⌝ }
+    requires { ⌜ (i < 32) × ((k ≡ keyOf (streamOf f)) × (keyAt (now state) i ≡ k)) ⌝ }
+    ensures { λ r. ⌜ result r (now (state .exit)) (now (out .exit)) ≡ lent (now (state .entry)) (now (out .entry)) (store (placesOf (now (state .entry))) i (streamOf f) (react (sessionAt (now (state .entry)) i) (parsedOf f (now (p .entry))))) ⌝ }
 {
     let c = state::place::progress(state, i);
-    if session::restarts(c.expected, c.time, h) {
-        if h.start {
-            return enter(state, i, k, Way::Again, h, p, out);
+    if session::restarts(c.expected, c.time, f) {
+        if f.head.start {
+            return enter(state, i, k, Way::Again, f, p, out);
         }
-        reset(state, i, k, (h.transfer + 1) % 32);
+        reset(state, i, k, (f.head.transfer + 1) % 32);
         return Answer::Passed;
     }
-    if session::awaited(c.expected, c.toggle, c.len, h) {
+    if session::awaited(c.expected, c.toggle, c.len, f) {
         if 514 < c.len + p.len() {
             reset(state, i, k, (c.expected + 1) % 32);
             return Answer::TooLong;
         }
-        return enter(state, i, k, Way::On, h, p, out);
+        return enter(state, i, k, Way::On, f, p, out);
     }
     Answer::Passed
 }
 
 // A start of a stream without a session: the lowest empty place, else the lowest old session's.
-fn unknown(state: &mut [u8], k: u32, h: Head, p: &[u8], out: &mut [u8]) -> Answer
-    requires { ⌜ Called (now state) h (now p) (now out) ⌝ }
-    requires { ⌜ (k ≡ keyOf (streamOf h)) × (h .start ≡ true) ⌝ }
-    ensures { λ r. ⌜ result r (now (state .exit)) (now (out .exit)) ≡ lent (now (state .entry)) (now (out .entry)) (stepNew (placeFor (h .time) (placesOf (now (state .entry)))) (placesOf (now (state .entry))) (parsedOf h (now (p .entry)))) ⌝ }
+fn unknown(state: &mut [u8], k: u32, f: Incoming, p: &[u8], out: &mut [u8]) -> Answer
+    requires { ⌜ Called (now state) f (now p) (now out) ⌝ }
+    requires { ⌜ (k ≡ keyOf (streamOf f)) × (f .head .start ≡ true) ⌝ }
+    ensures { λ r. ⌜ result r (now (state .exit)) (now (out .exit)) ≡ lent (now (state .entry)) (now (out .entry)) (stepNew (placeFor (f .time) (placesOf (now (state .entry)))) (placesOf (now (state .entry))) (parsedOf f (now (p .entry)))) ⌝ }
 {
     let free = state::scan::scan(state, Want::Key(0));
     if free < 32 {
-        return enter(state, free, k, Way::New, h, p, out);
+        return enter(state, free, k, Way::New, f, p, out);
     }
-    let old = state::scan::scan(state, Want::Old(h.time));
+    let old = state::scan::scan(state, Want::Old(f.time));
     if old < 32 {
-        return enter(state, old, k, Way::New, h, p, out);
+        return enter(state, old, k, Way::New, f, p, out);
     }
     Answer::Full
 }
 
 // A frame with a named source.
-pub fn arrive(state: &mut [u8], h: Head, p: &[u8], out: &mut [u8]) -> Answer
-    requires { ⌜ Called (now state) h (now p) (now out) ⌝ }
-    ensures { λ r. ⌜ result r (now (state .exit)) (now (out .exit)) ≡ lent (now (state .entry)) (now (out .entry)) (stepSeek (seek (holds (streamOf h)) (placesOf (now (state .entry)))) (placesOf (now (state .entry))) (parsedOf h (now (p .entry)))) ⌝ }
+pub fn arrive(state: &mut [u8], f: Incoming, p: &[u8], out: &mut [u8]) -> Answer
+    requires { ⌜ Called (now state) f (now p) (now out) ⌝ }
+    ensures { λ r. ⌜ result r (now (state .exit)) (now (out .exit)) ≡ lent (now (state .entry)) (now (out .entry)) (stepSeek (seek (holds (streamOf f)) (placesOf (now (state .entry)))) (placesOf (now (state .entry))) (parsedOf f (now (p .entry)))) ⌝ }
 {
-    let k = key(h);
+    let k = key(f);
     let i = state::scan::scan(state, Want::Key(k));
     if i < 32 {
-        return known(state, i, k, h, p, out);
+        return known(state, i, k, f, p, out);
     }
-    if h.start {
-        return unknown(state, k, h, p, out);
+    if f.head.start {
+        return unknown(state, k, f, p, out);
     }
     Answer::Passed
 }

@@ -14,7 +14,7 @@ use Rattle.rules.specs.Session.{Session, react}
 use Rattle.rules.specs.Table.{Place, empty}
 use Rattle.receiver.specs.Receive.{lent}
 use Rattle.session.specs.Session.{streamOf, parsedOf}
-use Rattle.session.specs.declared.Head.{Head}
+use Rattle.session.specs.declared.Incoming.{Incoming}
 use Rattle.state.specs.Layout.{keyAt, keyOf, streamOfKey, sessionAt, placeAt, placesOf}
 use Rattle.state.specs.Sound.{soundState}
 use Rattle.bits.proofs.Tabulate.{tab-at}
@@ -26,7 +26,7 @@ use Rattle.receiver.proofs.place.arrive.Statement.{statement}
 use Rattle.receiver.proofs.place.arrive.Tie as tie
 
 -- the step at the place that was found
-at-place : (m out p : List ℕ) (h : Head) {o q : Option ℕ} → o ≡ q → lent m out (stepSeek q (placesOf m) (parsedOf h p)) ≡ lent m out (stepSeek o (placesOf m) (parsedOf h p))
+at-place : (m out p : List ℕ) (h : Incoming) {o q : Option ℕ} → o ≡ q → lent m out (stepSeek q (placesOf m) (parsedOf h p)) ≡ lent m out (stepSeek o (placesOf m) (parsedOf h p))
 at-place m out p h e = ap (λ (x : Option ℕ). lent m out (stepSeek x (placesOf m) (parsedOf h p))) (sym e)
 
 -- the session in a place that is held
@@ -51,7 +51,7 @@ known-requires c κs =
     let a = s .args in
     let m = a .state .now in
     let q = s .pre in
-    let d = streamOf (a .h) in
+    let d = streamOf (a .f) in
     let f : y .key .result ≡ keyOf d = y .key .ensures in
     let o = octets-all m (λ i. omega (arith, b .slice-known .given i)) in
     let z : y .key .result ≡ 0 → ⊥ = λ e. key-some d (q .named) (sym f ∙ e) in
@@ -77,18 +77,18 @@ returns c =
     let a = s .args in
     let m = a .state .now in
     let q = s .pre in
-    let d = streamOf (a .h) in
+    let d = streamOf (a .f) in
     let f : y .key .result ≡ keyOf d = y .key .ensures in
     let o = octets-all m (λ i. omega (arith, b .slice-known .given i)) in
     let z : y .key .result ≡ 0 → ⊥ = λ e. key-some d (q .named) (sym f ∙ e) in
     let w : y .key .result < 4294967296 = omega (arith, f, key-word d (q .transferType) (q .type) (q .source) (q .destination)) in
     let g : streamOfKey (y .key .result) ≡ d = ap streamOfKey f ∙ head-key d (q .transferType) (q .type) (q .source) (q .destination) in
-    let v = parsedOf (a .h) (a .p .now) in
+    let v = parsedOf (a .f) (a .p .now) in
     let i = n .scan .result in
     let at : keyAt m i ≡ y .key .result = key-found m o (long m (q .sound)) d (y .key .result) z w g i (n .scan .ensures) (t .if1 .taken) in
     k .known .ensures
     ∙ ap (λ (x : Session). lent m (a .out .now) (store (placesOf m) i d (react x v))) (sym (session-of m (q .sound) i (t .if1 .taken) (λ e. z (sym at ∙ e)) v))
-    ∙ at-place m (a .out .now) (a .p .now) (a .h) (place-of m o (long m (q .sound)) d (y .key .result) z w g i (n .scan .ensures) (t .if1 .taken))
+    ∙ at-place m (a .out .now) (a .p .now) (a .f) (place-of m o (long m (q .sound)) d (y .key .result) z w g i (n .scan .ensures) (t .if1 .taken))
 
 unknown-requires : tie.Need-unknown-requires
 unknown-requires c κs = search needs
@@ -112,15 +112,15 @@ returns-2 c =
     let a = s .args in
     let m = a .state .now in
     let q = s .pre in
-    let d = streamOf (a .h) in
+    let d = streamOf (a .f) in
     let f : y .key .result ≡ keyOf d = y .key .ensures in
     let o = octets-all m (λ i. omega (arith, b .slice-known .given i)) in
     let z : y .key .result ≡ 0 → ⊥ = λ e. key-some d (q .named) (sym f ∙ e) in
     let w : y .key .result < 4294967296 = omega (arith, f, key-word d (q .transferType) (q .type) (q .source) (q .destination)) in
     let g : streamOfKey (y .key .result) ≡ d = ap streamOfKey f ∙ head-key d (q .transferType) (q .type) (q .source) (q .destination) in
-    let v = parsedOf (a .h) (a .p .now) in
+    let v = parsedOf (a .f) (a .p .now) in
     u .unknown .ensures ∙ ap (λ (x : Bool). lent m (a .out .now) (stepStart x (placesOf m) v)) (sym (t .if2 .taken))
-    ∙ at-place m (a .out .now) (a .p .now) (a .h) (no-place-of m o (long m (q .sound)) d (y .key .result) z w g (n .scan .result) (n .scan .ensures) (e .if1 .left))
+    ∙ at-place m (a .out .now) (a .p .now) (a .f) (no-place-of m o (long m (q .sound)) d (y .key .result) z w g (n .scan .result) (n .scan .ensures) (e .if1 .left))
 
 same-length-5 : tie.Need-same-length-5
 same-length-5 c = search needs
@@ -136,16 +136,16 @@ returns-3 c =
     let a = s .args in
     let m = a .state .now in
     let q = s .pre in
-    let d = streamOf (a .h) in
+    let d = streamOf (a .f) in
     let f : y .key .result ≡ keyOf d = y .key .ensures in
     let o = octets-all m (λ i. omega (arith, b .slice-known .given i)) in
     let z : y .key .result ≡ 0 → ⊥ = λ e. key-some d (q .named) (sym f ∙ e) in
     let w : y .key .result < 4294967296 = omega (arith, f, key-word d (q .transferType) (q .type) (q .source) (q .destination)) in
     let g : streamOfKey (y .key .result) ≡ d = ap streamOfKey f ∙ head-key d (q .transferType) (q .type) (q .source) (q .destination) in
-    let v = parsedOf (a .h) (a .p .now) in
+    let v = parsedOf (a .f) (a .p .now) in
     untouched m (q .sound) o (a .out .now) (stepStart false (placesOf m) v) _ refl refl (a .out .now) refl
     ∙ ap (λ (x : Bool). lent m (a .out .now) (stepStart x (placesOf m) v)) (sym (c .if2 .left))
-    ∙ at-place m (a .out .now) (a .p .now) (a .h) (no-place-of m o (long m (q .sound)) d (y .key .result) z w g (n .scan .result) (n .scan .ensures) (e .if1 .left))
+    ∙ at-place m (a .out .now) (a .p .now) (a .f) (no-place-of m o (long m (q .sound)) d (y .key .result) z w g (n .scan .result) (n .scan .ensures) (e .if1 .left))
 
 pub arrive-spec : {M : Type 1} → statement M
 arrive-spec =

@@ -25,17 +25,17 @@ array c = search needs
 array-after : (c : tie.After-take) → length (c .take .result .bytes) ≡ 514
 array-after c = search needs
 
-length-of : (c : tie.After-session-for) → c .session-for .result .len ≡ length (entered (c .before .before .before .before .before .args .way) (c .before .before .before .before .before .args .state .now) (c .before .before .before .before .before .args .i) (c .before .before .before .before .before .args .h) .gathered)
+length-of : (c : tie.After-session-for) → c .session-for .result .len ≡ length (entered (c .before .before .before .before .before .args .way) (c .before .before .before .before .before .args .state .now) (c .before .before .before .before .before .args .i) (c .before .before .before .before .before .args .f) .gathered)
 length-of c = in-hand (c .session-for .result) _ (omega (arith, array c, c .session-for .ensures .1)) (c .session-for .ensures .0)
 
-expected-is : (c : tie.After-session-for) → c .session-for .result .expected ≡ entered (c .before .before .before .before .before .args .way) (c .before .before .before .before .before .args .state .now) (c .before .before .before .before .before .args .i) (c .before .before .before .before .before .args .h) .expected
+expected-is : (c : tie.After-session-for) → c .session-for .result .expected ≡ entered (c .before .before .before .before .before .args .way) (c .before .before .before .before .before .args .state .now) (c .before .before .before .before .before .args .i) (c .before .before .before .before .before .args .f) .expected
 expected-is c = expected-of (c .session-for .result) _ (c .session-for .ensures .0)
 
 -- what `take` made of the session that the frame enters
-added-to : (c : tie.After-take) → sessionOf (c .take .result) ≡ added (entered (c .before .before .before .before .before .before .args .way) (c .before .before .before .before .before .before .args .state .now) (c .before .before .before .before .before .before .args .i) (c .before .before .before .before .before .before .args .h)) (c .before .before .before .before .before .before .args .h .start) (c .before .before .before .before .before .before .args .h .time) (c .before .before .before .before .before .before .args .p .now)
+added-to : (c : tie.After-take) → sessionOf (c .take .result) ≡ added (entered (c .before .before .before .before .before .before .args .way) (c .before .before .before .before .before .before .args .state .now) (c .before .before .before .before .before .before .args .i) (c .before .before .before .before .before .before .args .f)) (c .before .before .before .before .before .before .args .f .head .start) (c .before .before .before .before .before .before .args .f .time) (c .before .before .before .before .before .before .args .p .now)
 added-to c =
     let a = c .before .before .before .before .before .before .args in
-    c .take .ensures .0 ∙ ap (λ (x : Session). added x (a .h .start) (a .h .time) (a .p .now)) (c .before .session-for .ensures .0)
+    c .take .ensures .0 ∙ ap (λ (x : Session). added x (a .f .head .start) (a .f .time) (a .p .now)) (c .before .session-for .ensures .0)
 
 session-for-requires : tie.Need-session-for-requires
 session-for-requires c κs =
@@ -87,13 +87,13 @@ returns c =
     let m = a .state .now in
     let q = s .pre .0 in
     let n = s .pre .1 .1 .1 in
-    let v = parsedOf (a .h) (a .p .now) in
-    let o = takes (entered (a .way) m (a .i) (a .h)) v in
-    let x = takes-last (entered (a .way) m (a .i) (a .h)) (a .h) (a .p .now) (t .take .result) (added-to t) (n .few) (h .if1 .taken) (f .finish .result) (a .out .now) _ (f .finish .ensures) in
+    let v = parsedOf (a .f) (a .p .now) in
+    let o = takes (entered (a .way) m (a .i) (a .f)) v in
+    let x = takes-last (entered (a .way) m (a .i) (a .f)) (a .f) (a .p .now) (t .take .result) (added-to t) (n .few) (h .if1 .taken) (f .finish .result) (a .out .now) _ (f .finish .ensures) in
     let g : sessionOf (l .close .result) ≡ o .session = ap sessionOf (l .close .ensures) ∙ x .1 .0 in
     let r = subst InRange (sym (l .close .ensures)) (shut-range (t .take .result)) in
-    let e = ap streamOfKey (s .pre .1 .1 .0) ∙ head-key (streamOf (a .h)) (q .transferType) (q .type) (q .source) (q .destination) in
-    stored m (q .sound) (octets-all m (λ i. omega (arith, y .before .before .before .before .slice-known .given i))) (a .i) (s .pre .1 .0) (a .out .now) (streamOf (a .h)) o
+    let e = ap streamOfKey (s .pre .1 .1 .0) ∙ head-key (streamOf (a .f)) (q .transferType) (q .type) (q .source) (q .destination) in
+    stored m (q .sound) (octets-all m (λ i. omega (arith, y .before .before .before .before .slice-known .given i))) (a .i) (s .pre .1 .0) (a .out .now) (streamOf (a .f)) o
     (few-of (l .close .result) r (o .session) g) (a .k) (sessionOf (l .close .result)) (f .finish .result)
     (w .store .last .0) _ (octets-all (w .store .last .0) (λ i. omega (arith, c .slice-known4 .given i))) e g (w .store .ensures) (x .0) (x .1 .1)
 
@@ -122,13 +122,13 @@ returns-2 c =
     let m = a .state .now in
     let q = s .pre .0 in
     let n = s .pre .1 .1 .1 in
-    let v = parsedOf (a .h) (a .p .now) in
-    let o = takes (entered (a .way) m (a .i) (a .h)) v in
-    let x = takes-on (entered (a .way) m (a .i) (a .h)) (a .h) (a .p .now) (t .take .result) (added-to t) (n .few) (h .if1 .left) in
+    let v = parsedOf (a .f) (a .p .now) in
+    let o = takes (entered (a .way) m (a .i) (a .f)) v in
+    let x = takes-on (entered (a .way) m (a .i) (a .f)) (a .f) (a .p .now) (t .take .result) (added-to t) (n .few) (h .if1 .left) in
     let g : sessionOf (t .take .result) ≡ o .session = sym (ap (λ (z : Out). z .session) x) in
     let r : InRange (t .take .result) = record { expected = omega (arith, t .take .ensures .1 .1, expected-is y, n .expected); len = omega (arith, t .take .ensures .1 .0, length-of y, n .few) } in
-    let e = ap streamOfKey (s .pre .1 .1 .0) ∙ head-key (streamOf (a .h)) (q .transferType) (q .type) (q .source) (q .destination) in
-    stored m (q .sound) (octets-all m (λ i. omega (arith, y .before .before .before .before .slice-known .given i))) (a .i) (s .pre .1 .0) (a .out .now) (streamOf (a .h)) o
+    let e = ap streamOfKey (s .pre .1 .1 .0) ∙ head-key (streamOf (a .f)) (q .transferType) (q .type) (q .source) (q .destination) in
+    stored m (q .sound) (octets-all m (λ i. omega (arith, y .before .before .before .before .slice-known .given i))) (a .i) (s .pre .1 .0) (a .out .now) (streamOf (a .f)) o
     (few-of (t .take .result) r (o .session) g) (a .k) (sessionOf (t .take .result)) _
     (w .store2 .last .0) _ (octets-all (w .store2 .last .0) (λ i. omega (arith, c .slice-known5 .given i))) e g (w .store2 .ensures)
     (sym (ap (λ (z : Out). told (z .answer)) x)) (sym (ap (λ (z : Out). outAfter (z .answer) (a .out .now)) x))

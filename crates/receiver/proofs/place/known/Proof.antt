@@ -36,7 +36,7 @@ expects g =
     let a = s .args in
     let m = a .state .now in
     let q = s .pre .0 in
-    let z = held-key (a .h) m (a .i) (a .k) (q .named) (s .pre .1 .1 .0) (s .pre .1 .1 .1) in
+    let z = held-key (a .f) m (a .i) (a .k) (q .named) (s .pre .1 .1 .0) (s .pre .1 .1 .1) in
     let t = sessionAt m (a .i) in
     omega (arith, ap (λ (x : Progress). x .expected) (g .progress .ensures), expected-at m (q .sound) (a .i) (s .pre .1 .0) z)
 
@@ -46,7 +46,7 @@ progress-requires c κs =
     let a = s .args in
     let m = a .state .now in
     let q = s .pre .0 in
-    let z = held-key (a .h) m (a .i) (a .k) (q .named) (s .pre .1 .1 .0) (s .pre .1 .1 .1) in
+    let z = held-key (a .f) m (a .i) (a .k) (q .named) (s .pre .1 .1 .0) (s .pre .1 .1 .1) in
     ((omega arith, long m (q .sound)), count-le m (q .sound) (a .i) (s .pre .1 .0) z)
 
 restarts-requires : tie.Need-restarts-requires
@@ -60,7 +60,7 @@ enter-requires c κs =
     let a = s .args in
     let m = a .state .now in
     let q = s .pre .0 in
-    let z = held-key (a .h) m (a .i) (a .k) (q .named) (s .pre .1 .1 .0) (s .pre .1 .1 .1) in
+    let z = held-key (a .f) m (a .i) (a .k) (q .named) (s .pre .1 .1 .0) (s .pre .1 .1 .1) in
     let t = sessionAt m (a .i) in (
       q,
       (
@@ -94,10 +94,10 @@ returns c =
     let a = s .args in
     let m = a .state .now in
     let q = s .pre .0 in
-    let z = held-key (a .h) m (a .i) (a .k) (q .named) (s .pre .1 .1 .0) (s .pre .1 .1 .1) in
+    let z = held-key (a .f) m (a .i) (a .k) (q .named) (s .pre .1 .1 .0) (s .pre .1 .1 .1) in
     let t = sessionAt m (a .i) in
-    let y = restarts-at t (g .progress .result) (g .progress .ensures) (a .h) (r .restarts .result) (r .restarts .ensures) true (k .before .if1 .taken) in
-    n .enter .ensures ∙ ap (λ (x : Out). lent m (a .out .now) (store (placesOf m) (a .i) (streamOf (a .h)) x)) (sym (reacts-anew t (a .h) (a .p .now) y (k .if2 .taken) (q .start (k .if2 .taken))))
+    let y = restarts-at t (g .progress .result) (g .progress .ensures) (a .f) (r .restarts .result) (r .restarts .ensures) true (k .before .if1 .taken) in
+    n .enter .ensures ∙ ap (λ (x : Out). lent m (a .out .now) (store (placesOf m) (a .i) (streamOf (a .f)) x)) (sym (reacts-anew t (a .f) (a .p .now) y (k .if2 .taken) (q .start (k .if2 .taken))))
 
 add-reset : tie.Need-add-reset
 add-reset c = search needs
@@ -110,7 +110,7 @@ reset-requires c κs =
     let a = s .args in
     let m = a .state .now in
     let q = s .pre .0 in
-    let z = held-key (a .h) m (a .i) (a .k) (q .named) (s .pre .1 .1 .0) (s .pre .1 .1 .1) in
+    let z = held-key (a .f) m (a .i) (a .k) (q .named) (s .pre .1 .1 .0) (s .pre .1 .1 .1) in
     let t = sessionAt m (a .i) in
     ((s .pre .1 .0, long m (q .sound)), (count-le m (q .sound) (a .i) (s .pre .1 .0) z, omega arith))
 
@@ -128,13 +128,13 @@ returns-2 c =
     let a = s .args in
     let m = a .state .now in
     let q = s .pre .0 in
-    let z = held-key (a .h) m (a .i) (a .k) (q .named) (s .pre .1 .1 .0) (s .pre .1 .1 .1) in
+    let z = held-key (a .f) m (a .i) (a .k) (q .named) (s .pre .1 .1 .0) (s .pre .1 .1 .1) in
     let t = sessionAt m (a .i) in
-    let y = restarts-at t (g .progress .result) (g .progress .ensures) (a .h) (r .restarts .result) (r .restarts .ensures) true (k .before .if1 .taken) in
-    let o = react t (parsedOf (a .h) (a .p .now)) in
-    let x = reacts-skip t (a .h) (a .p .now) y (k .if2 .left) in
-    let e = ap streamOfKey (s .pre .1 .1 .0) ∙ head-key (streamOf (a .h)) (q .transferType) (q .type) (q .source) (q .destination) in
-    stored m (q .sound) (octets-all m (λ i. omega (arith, b .slice-known .given i))) (a .i) (s .pre .1 .0) (a .out .now) (streamOf (a .h)) o (rw x (omega arith)) (a .k) (restarted t (next (a .h .transfer))) _
+    let y = restarts-at t (g .progress .result) (g .progress .ensures) (a .f) (r .restarts .result) (r .restarts .ensures) true (k .before .if1 .taken) in
+    let o = react t (parsedOf (a .f) (a .p .now)) in
+    let x = reacts-skip t (a .f) (a .p .now) y (k .if2 .left) in
+    let e = ap streamOfKey (s .pre .1 .1 .0) ∙ head-key (streamOf (a .f)) (q .transferType) (q .type) (q .source) (q .destination) in
+    stored m (q .sound) (octets-all m (λ i. omega (arith, b .slice-known .given i))) (a .i) (s .pre .1 .0) (a .out .now) (streamOf (a .f)) o (rw x (omega arith)) (a .k) (restarted t (next (a .f .head .transfer))) _
     (n .reset .last .0) _ (octets-all (n .reset .last .0) (λ i. omega (arith, c .slice-known5 .given i))) e (sym (ap (λ (u : Out). u .session) x)) (n .reset .ensures)
     (sym (ap (λ (u : Out). told (u .answer)) x)) (sym (ap (λ (u : Out). outAfter (u .answer) (a .out .now)) x))
 
@@ -149,7 +149,7 @@ add-if4 c =
     let a = s .args in
     let m = a .state .now in
     let q = s .pre .0 in
-    let z = held-key (a .h) m (a .i) (a .k) (q .named) (s .pre .1 .1 .0) (s .pre .1 .1 .1) in
+    let z = held-key (a .f) m (a .i) (a .k) (q .named) (s .pre .1 .1 .0) (s .pre .1 .1 .1) in
     let t = sessionAt m (a .i) in
     omega (arith, q .payload, ap (λ (x : Progress). x .len) (g .progress .ensures), held-few m (q .sound) (a .i) (s .pre .1 .0) z)
 
@@ -164,7 +164,7 @@ reset-requires-2 c κs =
     let a = s .args in
     let m = a .state .now in
     let q = s .pre .0 in
-    let z = held-key (a .h) m (a .i) (a .k) (q .named) (s .pre .1 .1 .0) (s .pre .1 .1 .1) in
+    let z = held-key (a .f) m (a .i) (a .k) (q .named) (s .pre .1 .1 .0) (s .pre .1 .1 .1) in
     let t = sessionAt m (a .i) in
     ((s .pre .1 .0, long m (q .sound)), (count-le m (q .sound) (a .i) (s .pre .1 .0) z, omega arith))
 
@@ -183,15 +183,15 @@ returns-3 c =
     let a = s .args in
     let m = a .state .now in
     let q = s .pre .0 in
-    let z = held-key (a .h) m (a .i) (a .k) (q .named) (s .pre .1 .1 .0) (s .pre .1 .1 .1) in
+    let z = held-key (a .f) m (a .i) (a .k) (q .named) (s .pre .1 .1 .0) (s .pre .1 .1 .1) in
     let t = sessionAt m (a .i) in
     let p = g .progress .result in
-    let y = restarts-at t p (g .progress .ensures) (a .h) (r .restarts .result) (r .restarts .ensures) false (w .before .if1 .left) in
-    let i = awaited-at t p (g .progress .ensures) (a .h) (w .awaited .result) (w .awaited .ensures) true (k .before .before .if3 .taken) in
-    let o = react t (parsedOf (a .h) (a .p .now)) in
-    let x = reacts-over t (a .h) (a .p .now) y i (omega (arith, ap (λ (u : Progress). u .len) (g .progress .ensures), k .if4 .taken)) (q .payload) in
-    let e = ap streamOfKey (s .pre .1 .1 .0) ∙ head-key (streamOf (a .h)) (q .transferType) (q .type) (q .source) (q .destination) in
-    stored m (q .sound) (octets-all m (λ i. omega (arith, b .slice-known .given i))) (a .i) (s .pre .1 .0) (a .out .now) (streamOf (a .h)) o (rw x (omega arith)) (a .k) (restarted t (next (t .expected))) _
+    let y = restarts-at t p (g .progress .ensures) (a .f) (r .restarts .result) (r .restarts .ensures) false (w .before .if1 .left) in
+    let i = awaited-at t p (g .progress .ensures) (a .f) (w .awaited .result) (w .awaited .ensures) true (k .before .before .if3 .taken) in
+    let o = react t (parsedOf (a .f) (a .p .now)) in
+    let x = reacts-over t (a .f) (a .p .now) y i (omega (arith, ap (λ (u : Progress). u .len) (g .progress .ensures), k .if4 .taken)) (q .payload) in
+    let e = ap streamOfKey (s .pre .1 .1 .0) ∙ head-key (streamOf (a .f)) (q .transferType) (q .type) (q .source) (q .destination) in
+    stored m (q .sound) (octets-all m (λ i. omega (arith, b .slice-known .given i))) (a .i) (s .pre .1 .0) (a .out .now) (streamOf (a .f)) o (rw x (omega arith)) (a .k) (restarted t (next (t .expected))) _
     (n .reset2 .last .0) _ (octets-all (n .reset2 .last .0) (λ i. omega (arith, c .slice-known6 .given i))) e (sym (ap (λ (u : Out). u .session) x))
     (n .reset2 .ensures ∙ ap (λ (u : Progress). withPlace m (a .i) (held (streamOfKey (a .k)) (restarted t (next (u .expected))))) (g .progress .ensures))
     (sym (ap (λ (u : Out). told (u .answer)) x)) (sym (ap (λ (u : Out). outAfter (u .answer) (a .out .now)) x))
@@ -207,10 +207,10 @@ enter-requires-2 c κs =
     let a = s .args in
     let m = a .state .now in
     let q = s .pre .0 in
-    let z = held-key (a .h) m (a .i) (a .k) (q .named) (s .pre .1 .1 .0) (s .pre .1 .1 .1) in
+    let z = held-key (a .f) m (a .i) (a .k) (q .named) (s .pre .1 .1 .0) (s .pre .1 .1 .1) in
     let t = sessionAt m (a .i) in
     let p = g .progress .result in
-    let i = awaited-at t p (g .progress .ensures) (a .h) (w .awaited .result) (w .awaited .ensures) true (k .before .before .if3 .taken) in (
+    let i = awaited-at t p (g .progress .ensures) (a .f) (w .awaited .result) (w .awaited .ensures) true (k .before .before .if3 .taken) in (
       q,
       (
         s .pre .1 .0,
@@ -220,7 +220,7 @@ enter-requires-2 c κs =
             stored = λ n. count-le m (q .sound) (a .i) (s .pre .1 .0) z;
             expected = expected-at m (q .sound) (a .i) (s .pre .1 .0) z;
             few = omega (arith, ap (λ (u : Progress). u .len) (g .progress .ensures), k .if4 .left);
-            first = awaited-start (t .expected) (t .toggle) (length (t .gathered)) (a .h) _ refl i;
+            first = awaited-start (t .expected) (t .toggle) (length (t .gathered)) (a .f) _ refl i;
           },
         ),
       ),
@@ -244,12 +244,12 @@ returns-4 c =
     let a = s .args in
     let m = a .state .now in
     let q = s .pre .0 in
-    let z = held-key (a .h) m (a .i) (a .k) (q .named) (s .pre .1 .1 .0) (s .pre .1 .1 .1) in
+    let z = held-key (a .f) m (a .i) (a .k) (q .named) (s .pre .1 .1 .0) (s .pre .1 .1 .1) in
     let t = sessionAt m (a .i) in
     let p = g .progress .result in
-    let y = restarts-at t p (g .progress .ensures) (a .h) (r .restarts .result) (r .restarts .ensures) false (w .before .if1 .left) in
-    let i = awaited-at t p (g .progress .ensures) (a .h) (w .awaited .result) (w .awaited .ensures) true (k .before .before .if3 .taken) in
-    n .enter2 .ensures ∙ ap (λ (x : Out). lent m (a .out .now) (store (placesOf m) (a .i) (streamOf (a .h)) x)) (sym (reacts-take t (a .h) (a .p .now) y i))
+    let y = restarts-at t p (g .progress .ensures) (a .f) (r .restarts .result) (r .restarts .ensures) false (w .before .if1 .left) in
+    let i = awaited-at t p (g .progress .ensures) (a .f) (w .awaited .result) (w .awaited .ensures) true (k .before .before .if3 .taken) in
+    n .enter2 .ensures ∙ ap (λ (x : Out). lent m (a .out .now) (store (placesOf m) (a .i) (streamOf (a .f)) x)) (sym (reacts-take t (a .f) (a .p .now) y i))
 
 same-length-7 : tie.Need-same-length-7
 same-length-7 c = search needs
@@ -264,15 +264,15 @@ returns-5 c =
     let a = s .args in
     let m = a .state .now in
     let q = s .pre .0 in
-    let z = held-key (a .h) m (a .i) (a .k) (q .named) (s .pre .1 .1 .0) (s .pre .1 .1 .1) in
+    let z = held-key (a .f) m (a .i) (a .k) (q .named) (s .pre .1 .1 .0) (s .pre .1 .1 .1) in
     let t = sessionAt m (a .i) in
     let p = g .progress .result in
-    let y = restarts-at t p (g .progress .ensures) (a .h) (r .restarts .result) (r .restarts .ensures) false (w .before .if1 .left) in
-    let i = awaited-at t p (g .progress .ensures) (a .h) (w .awaited .result) (w .awaited .ensures) false (c .if3 .left) in
-    let o = react t (parsedOf (a .h) (a .p .now)) in
-    let x = reacts-pass t (a .h) (a .p .now) y i in
-    let e = ap streamOfKey (s .pre .1 .1 .1 ∙ s .pre .1 .1 .0) ∙ head-key (streamOf (a .h)) (q .transferType) (q .type) (q .source) (q .destination) in
-    kept m (q .sound) (octets-all m (λ i. omega (arith, b .slice-known .given i))) (a .i) (s .pre .1 .0) (a .out .now) (streamOf (a .h)) o (rw (x .1 .0) (held-few m (q .sound) (a .i) (s .pre .1 .0) z)) z e (x .1 .0) _ _
+    let y = restarts-at t p (g .progress .ensures) (a .f) (r .restarts .result) (r .restarts .ensures) false (w .before .if1 .left) in
+    let i = awaited-at t p (g .progress .ensures) (a .f) (w .awaited .result) (w .awaited .ensures) false (c .if3 .left) in
+    let o = react t (parsedOf (a .f) (a .p .now)) in
+    let x = reacts-pass t (a .f) (a .p .now) y i in
+    let e = ap streamOfKey (s .pre .1 .1 .1 ∙ s .pre .1 .1 .0) ∙ head-key (streamOf (a .f)) (q .transferType) (q .type) (q .source) (q .destination) in
+    kept m (q .sound) (octets-all m (λ i. omega (arith, b .slice-known .given i))) (a .i) (s .pre .1 .0) (a .out .now) (streamOf (a .f)) o (rw (x .1 .0) (held-few m (q .sound) (a .i) (s .pre .1 .0) z)) z e (x .1 .0) _ _
     (sym (x .0)) (sym (x .1 .1 (a .out .now)))
 
 pub known-spec : {M : Type 1} → statement M

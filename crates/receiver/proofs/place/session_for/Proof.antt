@@ -28,18 +28,18 @@ load-requires-2 : tie.Need-load-requires-2
 load-requires-2 c κs = ((omega arith, omega arith), c .before .before .before .pre .1 .1 (λ n. on-new (sym (c .enum-told3 .given .1) ∙ n)))
 
 returns : tie.Need-returns
-returns c = let a = c .before .before .before .before .args in enters-new (a .state .now) (a .i) (a .h) (a .way) (c .before .enum-told .given .1) (c .fresh .result) (c .fresh .ensures)
+returns c = let a = c .before .before .before .before .args in enters-new (a .state .now) (a .i) (a .f) (a .way) (c .before .enum-told .given .1) (c .fresh .result) (c .fresh .ensures)
 
 returns-2 : tie.Need-returns-2
 returns-2 c =
     let l = c .before in
     let a = l .before .before .before .before .args in
-    enters-again (a .state .now) (a .i) (a .h) (a .way) (l .load .result) (l .load .ensures .0) (l .before .enum-told2 .given .1) (c .restart .result) (c .restart .ensures)
+    enters-again (a .state .now) (a .i) (a .f) (a .way) (l .load .result) (l .load .ensures .0) (l .before .enum-told2 .given .1) (c .restart .result) (c .restart .ensures)
 
 returns-3 : tie.Need-returns-3
 returns-3 c =
     let a = c .before .before .before .before .args in
-    enters-on (a .state .now) (a .i) (a .h) (a .way) (c .load2 .result) (c .load2 .ensures .0) (c .before .enum-told3 .given .1) (c .load2 .ensures .1)
+    enters-on (a .state .now) (a .i) (a .f) (a .way) (c .load2 .result) (c .load2 .ensures .0) (c .before .enum-told3 .given .1) (c .load2 .ensures .1)
 
 pub session-for-spec : {M : Type 1} → statement M
 session-for-spec =

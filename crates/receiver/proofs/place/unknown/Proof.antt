@@ -12,7 +12,7 @@ use Rattle.receiver.specs.Receive.{lent}
 use Rattle.receiver.specs.declared.place.Way.the-variants.{New}
 use Rattle.session.specs.Session.{streamOf, parsedOf}
 use Rattle.session.proofs.Rules.{begins}
-use Rattle.session.specs.declared.Head.{Head}
+use Rattle.session.specs.declared.Incoming.{Incoming}
 use Rattle.state.specs.Layout.{placesOf}
 use Rattle.state.proofs.Faultless.{long}
 use Rattle.receiver.proofs.Lent.{untouched}
@@ -22,20 +22,20 @@ use Rattle.receiver.proofs.place.unknown.Statement.{statement}
 use Rattle.receiver.proofs.place.unknown.Tie as tie
 
 -- the step at the place that was found
-at-place : (m out p : List ℕ) (h : Head) {o q : Option ℕ} → o ≡ q → lent m out (stepNew q (placesOf m) (parsedOf h p)) ≡ lent m out (stepNew o (placesOf m) (parsedOf h p))
+at-place : (m out p : List ℕ) (h : Incoming) {o q : Option ℕ} → o ≡ q → lent m out (stepNew q (placesOf m) (parsedOf h p)) ≡ lent m out (stepNew o (placesOf m) (parsedOf h p))
 at-place m out p h e = ap (λ (x : Option ℕ). lent m out (stepNew x (placesOf m) (parsedOf h p))) (sym e)
 
 -- a new session has room for the frame
-new : (s : tie.Start) (i : ℕ) → Enters New (s .args .state .now) i (s .args .h) (s .args .p .now)
+new : (s : tie.Start) (i : ℕ) → Enters New (s .args .state .now) i (s .args .f) (s .args .p .now)
 new s i = record { stored = λ n. absurd (n refl); expected = s .pre .0 .transfer; few = omega (arith, s .pre .0 .payload); first = λ k. refl }
 
 begun : (s : tie.Start) (i : ℕ)
-    → lent (s .args .state .now) (s .args .out .now) (store (placesOf (s .args .state .now)) i (streamOf (s .args .h)) (takes (fresh (parsedOf (s .args .h) (s .args .p .now))) (parsedOf (s .args .h) (s .args .p .now))))
-    ≡ lent (s .args .state .now) (s .args .out .now) (store (placesOf (s .args .state .now)) i (streamOf (s .args .h)) (proceed (fresh (parsedOf (s .args .h) (s .args .p .now))) (parsedOf (s .args .h) (s .args .p .now))))
+    → lent (s .args .state .now) (s .args .out .now) (store (placesOf (s .args .state .now)) i (streamOf (s .args .f)) (takes (fresh (parsedOf (s .args .f) (s .args .p .now))) (parsedOf (s .args .f) (s .args .p .now))))
+    ≡ lent (s .args .state .now) (s .args .out .now) (store (placesOf (s .args .state .now)) i (streamOf (s .args .f)) (proceed (fresh (parsedOf (s .args .f) (s .args .p .now))) (parsedOf (s .args .f) (s .args .p .now))))
 begun s i =
     let a = s .args in
     let k = s .pre .1 .1 in
-    ap (λ (x : Out). lent (a .state .now) (a .out .now) (store (placesOf (a .state .now)) i (streamOf (a .h)) x)) (sym (begins (a .h) (a .p .now) k (s .pre .0 .start k)))
+    ap (λ (x : Out). lent (a .state .now) (a .out .now) (store (placesOf (a .state .now)) i (streamOf (a .f)) x)) (sym (begins (a .f) (a .p .now) k (s .pre .0 .start k)))
 
 scan-requires : tie.Need-scan-requires
 scan-requires c κs = let s = c .before .before .before .before in long (s .args .state .now) (s .pre .0 .sound)
@@ -62,7 +62,7 @@ returns c =
     let a = s .args in
     let m = a .state .now in
     let q = s .pre .0 in
-    b .enter .ensures ∙ begun s (n .scan .result) ∙ at-place m (a .out .now) (a .p .now) (a .h) (place-free m (a .h .time) (n .scan .result) (n .scan .ensures) (t .if1 .taken))
+    b .enter .ensures ∙ begun s (n .scan .result) ∙ at-place m (a .out .now) (a .p .now) (a .f) (place-free m (a .f .time) (n .scan .result) (n .scan .ensures) (t .if1 .taken))
 
 scan-requires-2 : tie.Need-scan-requires-2
 scan-requires-2 c κs = let s = c .before .before .before .before .before .before .before in long (s .args .state .now) (s .pre .0 .sound)
@@ -91,7 +91,7 @@ returns-2 c =
     let a = s .args in
     let m = a .state .now in
     let q = s .pre .0 in
-    b .enter2 .ensures ∙ begun s (y .scan2 .result) ∙ at-place m (a .out .now) (a .p .now) (a .h) (place-old m (a .h .time) (n .scan .result) (n .scan .ensures) (e .if1 .left) (y .scan2 .result) (y .scan2 .ensures) (t .if2 .taken))
+    b .enter2 .ensures ∙ begun s (y .scan2 .result) ∙ at-place m (a .out .now) (a .p .now) (a .f) (place-old m (a .f .time) (n .scan .result) (n .scan .ensures) (e .if1 .left) (y .scan2 .result) (y .scan2 .ensures) (t .if2 .taken))
 
 same-length-5 : tie.Need-same-length-5
 same-length-5 c = search needs
@@ -106,9 +106,9 @@ returns-3 c =
     let a = s .args in
     let m = a .state .now in
     let q = s .pre .0 in
-    let f = no-place m (a .h .time) (n .scan .result) (n .scan .ensures) (e .if1 .left) (y .scan2 .result) (y .scan2 .ensures) (c .if2 .left) in
-    untouched m (q .sound) (octets-all m (λ i. omega (arith, n .before .before .before .before .slice-known .given i))) (a .out .now) (stepNew none (placesOf m) (parsedOf (a .h) (a .p .now))) _ refl refl (a .out .now) refl
-    ∙ at-place m (a .out .now) (a .p .now) (a .h) f
+    let f = no-place m (a .f .time) (n .scan .result) (n .scan .ensures) (e .if1 .left) (y .scan2 .result) (y .scan2 .ensures) (c .if2 .left) in
+    untouched m (q .sound) (octets-all m (λ i. omega (arith, n .before .before .before .before .slice-known .given i))) (a .out .now) (stepNew none (placesOf m) (parsedOf (a .f) (a .p .now))) _ refl refl (a .out .now) refl
+    ∙ at-place m (a .out .now) (a .p .now) (a .f) f
 
 pub unknown-spec : {M : Type 1} → statement M
 unknown-spec =
