@@ -13,7 +13,7 @@ use borrow.Author.Tests.{eq-eqb, ne-eqb, lt-ltb, le-ltb, le-leb, lt-leb}
 use Rattle.rules.specs.Answer.{Answer, Reason}
 use Rattle.rules.specs.Answer as answer
 use Rattle.rules.specs.Check.{Reception, Parsed, parsed, badTail, isNone}
-use Rattle.rules.specs.Condition3.{ofStream, startOf, framesWith, answersTo, upTo, forward, roomy, Brings, done, next}
+use Rattle.rules.specs.Condition3.{ofStream, startOf, framesWith, answersTo, upTo, forward, roomy, Brings, done, next, rulesTable}
 use Rattle.rules.specs.Frame.{Frame, Stream, sameStream, isService, sourceOf, destinationOf, streamIf, streamOf, tailOf, isStart, isEnd, toggleOf}
 use Rattle.rules.specs.Reception.{stepNew, stepStart, sessionIn, stepSeek, stepAnonymous, stepChecked, step, run}
 use Rattle.rules.specs.Sending as sending
@@ -158,39 +158,39 @@ each id time space l = map (λ c. record { frame = frameAt id c time; room = spa
 abbrev pub framesAt : ℕ → ℕ → List (List ℕ) → List Frame
 framesAt id time l = map (λ c. frameAt id c time) l
 
-module _ (id time space : ℕ) (d : Stream) (small : id < 2 ^ 29) (stream : streamOf id ≡ d) where
+module _ (u : Setup) (id time space : ℕ) (d : Stream) (small : id < 2 ^ 29) (stream : streamOf id ≡ d) where
   pub of-it : (c : List ℕ) → ofStream d (frameAt id c time) ≡ true
   of-it c = and-intro (lt-ltb id (2 ^ 29) small) (ap (λ x. sameStream x d) stream ∙ same-refl d)
 
-  pub frames-each : (l : List (List ℕ)) → framesWith (ofStream d) (each id time space l) ≡ framesAt id time l
+  pub frames-each : (l : List (List ℕ)) → framesWith (rulesTable u) (ofStream d) (each id time space l) ≡ framesAt id time l
   unfolding framesWith
   frames-each [] = refl
   frames-each (c ∷ l) = rw (of-it c) (ap (λ fs. frameAt id c time ∷ fs) (frames-each l))
 
-  pub answers-each : (u : Setup) (ps : Places) (l : List (List ℕ)) → answersTo (ofStream d) u ps (each id time space l) ≡ run u ps (each id time space l)
+  pub answers-each : (ps : Places) (l : List (List ℕ)) → answersTo (rulesTable u) (ofStream d) ps (each id time space l) ≡ run u ps (each id time space l)
   unfolding answersTo run
-  answers-each u ps [] = refl
-  answers-each u ps (c ∷ l) =
+  answers-each ps [] = refl
+  answers-each ps (c ∷ l) =
       let r : Reception = record { frame = frameAt id c time; room = space } in
-      rw (of-it c) (ap (λ l. step u ps r .answer ∷ l) (answers-each u (step u ps r .places) l))
+      rw (of-it c) (ap (λ l. step u ps r .answer ∷ l) (answers-each (step u ps r .places) l))
 
-  pub upto-each : (l : List (List ℕ)) → upTo (ofStream d) (each id time space l) (length l) ≡ each id time space l
+  pub upto-each : (l : List (List ℕ)) → upTo (rulesTable u) (ofStream d) (each id time space l) (length l) ≡ each id time space l
   unfolding upTo
   upto-each [] = refl
   upto-each (c ∷ l) = rw (of-it c) (ap (λ rs. record { frame = frameAt id c time; room = space } ∷ rs) (upto-each l))
 
-  pub no-starts : (u : Setup) (ps : Places) (l : List (List ℕ)) → NoStart l → answersTo (startOf d) u ps (each id time space l) ≡ []
+  pub no-starts : (ps : Places) (l : List (List ℕ)) → NoStart l → answersTo (rulesTable u) (startOf d) ps (each id time space l) ≡ []
   unfolding answersTo
-  no-starts u ps [] h = refl
-  no-starts u ps (c ∷ l) h = rw (of-it c, h .0) (no-starts u (step u ps (record { frame = frameAt id c time; room = space }) .places) l (h .1))
+  no-starts ps [] h = refl
+  no-starts ps (c ∷ l) h = rw (of-it c, h .0) (no-starts (step u ps (record { frame = frameAt id c time; room = space }) .places) l (h .1))
 
-  pub roomy-each : 512 ≤ space → (l : List (List ℕ)) → roomy d (each id time space l) ≡ true
+  pub roomy-each : 512 ≤ space → (l : List (List ℕ)) → roomy (rulesTable u) d (each id time space l) ≡ true
   roomy-each h [] = refl
   roomy-each h (c ∷ l) = rw (of-it c, le-leb 512 space h) (roomy-each h l)
 
-pub forward-each : (id time space : ℕ) (l : List (List ℕ)) → forward time (each id time space l) ≡ true
-forward-each id time space [] = refl
-forward-each id time space (c ∷ l) = rw (le-leb time time (omega arith)) (forward-each id time space l)
+pub forward-each : (u : Setup) (id time space : ℕ) (l : List (List ℕ)) → forward (rulesTable u) time (each id time space l) ≡ true
+forward-each u id time space [] = refl
+forward-each u id time space (c ∷ l) = rw (le-leb time time (omega arith)) (forward-each u id time space l)
 
 pub brings-each : (id time : ℕ) (l : List (List ℕ)) → Brings id (time + 2000000) l (framesAt id time l)
 brings-each id time [] = done

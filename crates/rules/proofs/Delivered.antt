@@ -11,9 +11,9 @@ use borrow.Author.Tests.{ne-eqb, ltb-true}
 use Rattle.bits.specs.Tabulate.{tabulate}
 use Rattle.rules.specs.Answer.{handed}
 use Rattle.rules.specs.Check.{Reception}
-use Rattle.rules.specs.Condition3.{Past, ofStream, upTo, Receiver, started, frames, took, front, While, Brings, Transfer, handouts}
+use Rattle.rules.specs.Condition3.{ofStream, All, upTo, Receiver, frames, tookStart, front, While, Brings, Transfer, handouts, Past, rulesTable}
 use Rattle.rules.specs.Frame.{Frame, Stream, streamOf}
-use Rattle.rules.specs.Reception.{run}
+use Rattle.rules.specs.Reception.{step, run}
 use Rattle.rules.specs.Sending as sending
 use Rattle.rules.specs.Sending.{Call, framesOf, sendStep}
 use Rattle.rules.specs.SendingLaws.{Correct, Hears, frameIn, arriving, Arrives, Delivered}
@@ -23,6 +23,7 @@ use Rattle.rules.specs.Sound.{serviceFits, streamFits}
 use Rattle.rules.specs.Table.{Places}
 use Rattle.rules.proofs.Arrivals.{starts, Opening, opening, each, framesAt, of-it, frames-each, answers-each, upto-each, no-starts, roomy-each, forward-each, brings-each, signed, sorts-start}
 use Rattle.rules.proofs.Ids.{id-laws}
+use Rattle.rules.proofs.Lift.{free}
 use Rattle.rules.proofs.Records.{sent-short, length-records, back}
 use Rattle.rules.proofs.Sends.{record-laws, source-laws}
 use Rattle.rules.proofs.Theorem.{theorem}
@@ -61,26 +62,26 @@ module _ (u : Setup) (c : Call) (hears : Hears u c) (records : List ℕ) (ok : C
     abbrev f : Frame
     f = frameAt id start time
 
-    abbrev x : Receiver
-    x = record { places = ps; room = space; list = each id time space (o .rest) }
+    abbrev x : Receiver (rulesTable u)
+    x = record { state = ps; start = record { frame = f; room = space }; list = each id time space (o .rest) }
 
-    frames-x : frames d x ≡ framesAt id time (o .rest)
-    frames-x = frames-each id time space d small stream (o .rest)
+    frames-x : frames (rulesTable u) d x ≡ framesAt id time (o .rest)
+    frames-x = frames-each u id time space d small stream (o .rest)
 
-    front-x : front d (length (frames d x)) x ≡ each id time space (o .rest)
+    front-x : front (rulesTable u) d (length (frames (rulesTable u) d x)) x ≡ each id time space (o .rest)
     front-x =
-        ap (upTo (ofStream d) (each id time space (o .rest))) (ap length frames-x ∙ length-frames id time (o .rest))
-        ∙ upto-each id time space d small stream (o .rest)
+        ap (upTo (rulesTable u) (ofStream d) (each id time space (o .rest))) (ap length frames-x ∙ length-frames id time (o .rest))
+        ∙ upto-each u id time space d small stream (o .rest)
 
-    holds-on : While u d f (length (frames d x)) x
+    holds-on : While (rulesTable u) d (length (frames (rulesTable u) d x)) x
     holds-on =
         record {
-          time = rw front-x (forward-each id time space (o .rest));
-          room = rw front-x (roomy-each id time space d small stream wide (o .rest));
-          table = rw (front-x, no-starts id time space d small stream u (started u f x .places) (o .rest) (o .later));
+          time = rw front-x (forward-each u id time space (o .rest));
+          room = rw front-x (roomy-each u id time space d small stream wide (o .rest));
+          table = rw (front-x, no-starts u id time space d small stream (step u ps (x .start) .places) (o .rest) (o .later));
         }
 
-    transfer : Transfer u d f (frames d x) (c .priority) (ok .transfer) (c .payload)
+    transfer : Transfer u d f (frames (rulesTable u) d x) (c .priority) (ok .transfer) (c .payload)
     transfer =
         record {
           size = ok .payload;
@@ -91,20 +92,22 @@ module _ (u : Setup) (c : Call) (hears : Hears u c) (records : List ℕ) (ok : C
               (subst (λ l. Brings id (time + 2000000) l (framesAt id time (start ∷ o .rest))) (sym (o .is)) (brings-each id time (start ∷ o .rest)));
         }
 
-    hands-out : took (started u f x .answer) ≡ true → handouts (run u ps (each id time space (start ∷ o .rest))) ≡ handed (c .payload) d (c .priority) (ok .transfer) ∷ []
+    hands-out : tookStart (rulesTable u) x ≡ true → handouts (rulesTable u) (run u ps (each id time space (start ∷ o .rest))) ≡ handed (c .payload) d (c .priority) (ok .transfer) ∷ []
     hands-out tk =
-        ap handouts (sym (answers-each id time space d small stream u ps (start ∷ o .rest)))
-        ∙ theorem u d f x x
+        ap (handouts (rulesTable u)) (sym (answers-each u id time space d small stream ps (start ∷ o .rest)))
+        ∙ theorem u d x x
         (record {
           pasts = (past, past);
+          typed = (free u (x .start ∷ x .list), free u (x .start ∷ x .list));
           named = named;
-          start = and-intro (of-it id time space d small stream start) (starts (ok .transfer) (ok .small) (o .bytes) true (o .last) false);
+          start = and-intro (of-it u id time space d small stream start) (starts (ok .transfer) (ok .small) (o .bytes) true (o .last) false);
+          together = refl;
           take = (tk, tk);
           same = refl;
         })
         .delivered (c .priority) (ok .transfer) (c .payload) transfer holds-on holds-on .0
 
-    arrives : Arrives c (run u ps (each id time space (start ∷ o .rest)))
+    arrives : Arrives u c (run u ps (each id time space (start ∷ o .rest)))
     unfolding run
     arrives =
         record {
@@ -143,4 +146,4 @@ delivered c m room n h e named u hears ps past time space wide =
     (λ k b. let z : 0 + k ≡ k = omega arith in
     (λ i. record { frame = frameIn (ok .frames i) time (z i); room = space })
     ∙ (λ i. record { frame = back id small time l k (sent-short (c .signature) (ok .transfer) (c .payload)) b i; room = space })) in
-    subst (λ rs. Arrives c (run u ps rs)) (sym (heard ∙ ap (each id time space) (o .is))) (arrives u c hears records ok named ps past time space wide o)
+    subst (λ rs. Arrives u c (run u ps rs)) (sym (heard ∙ ap (each id time space) (o .is))) (arrives u c hears records ok named ps past time space wide o)

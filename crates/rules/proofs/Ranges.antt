@@ -159,29 +159,29 @@ module _ (v : Parsed) (h : Headed v) where
 
 -- ── the checks ──
 
-abbrev Small : Option ℕ → Type 0
+abbrev pub Small : Option ℕ → Type 0
 Small none = Unit {0}
-Small (some n) = n ≤ 8
+Small (some n) = (2 ≤ n) × (n ≤ 8)
 
-or-next : (b : Bool) (n : ℕ) (o : Option ℕ) → n ≤ 8 → Small o → Small (pick b (some n) o)
+or-next : (b : Bool) (n : ℕ) (o : Option ℕ) → (2 ≤ n) × (n ≤ 8) → Small o → Small (pick b (some n) o)
 or-next true n o h k = h
 or-next false n o h k = k
 
 frame-small : (u : Setup) (f : Frame) → Small (frameCheck u f)
 unfolding frameCheck
 frame-small u f =
-    or-next (largeId f) 2 _ (omega arith)
-    (or-next (badLength f) 3 _ (omega arith)
-    (or-next (unnamedService f) 4 _ (omega arith)
-    (or-next (badTailIn f) 5 _ (omega arith) (or-next (forAnother u f) 6 _ (omega arith) (or-next (notSubscribed u f) 7 none (omega arith) tt)))))
+    or-next (largeId f) 2 _ (omega arith, omega arith)
+    (or-next (badLength f) 3 _ (omega arith, omega arith)
+    (or-next (unnamedService f) 4 _ (omega arith, omega arith)
+    (or-next (badTailIn f) 5 _ (omega arith, omega arith) (or-next (forAnother u f) 6 _ (omega arith, omega arith) (or-next (notSubscribed u f) 7 none (omega arith, omega arith) tt)))))
 
-check-small : (u : Setup) (r : Reception) → Small (check u r)
+pub check-small : (u : Setup) (r : Reception) → Small (check u r)
 unfolding check
 check-small u r = go (frameCheck u (r .frame)) (ltb (r .room) 512) (frame-small u (r .frame))
   where
     go : (o : Option ℕ) (b : Bool) → Small o → Small (roomCheck o b)
     go (some n) b k = k
-    go none true k = omega arith
+    go none true k = (omega arith, omega arith)
     go none false k = tt
 
 pub ranges : RangeLaw

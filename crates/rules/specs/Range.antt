@@ -21,7 +21,7 @@ pub record HandedRange (p : List ℕ) (d : Stream) (prio t : ℕ) : Type 0 where
 abbrev pub Ranged : Answer → Type 0
 Ranged taken = Unit {0}
 Ranged (handed p d prio t) = HandedRange p d prio t
-Ranged (refused n) = n ≤ 8
+Ranged (refused n) = (2 ≤ n) × (n ≤ 8)
 Ranged full = Unit {0}
 Ranged (passed r) = Unit {0}
 Ranged long = Unit {0}

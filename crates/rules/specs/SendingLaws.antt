@@ -12,7 +12,7 @@ use Rattle.bits.specs.Tabulate.{tabulate}
 use Rattle.rules.specs.Answer.{Answer, handed, differs}
 use Rattle.rules.specs.Answer as answer
 use Rattle.rules.specs.Check.{Reception}
-use Rattle.rules.specs.Condition3.{Past, took, handouts}
+use Rattle.rules.specs.Condition3.{took, handouts, Past, rulesTable}
 use Rattle.rules.specs.Frame as frame
 use Rattle.rules.specs.Frame.{Frame, priorityOf}
 use Rattle.rules.specs.Map.{Map, blank, sound}
@@ -98,7 +98,7 @@ abbrev pub arriving : List ℕ → ℕ → ℕ → ℕ → List Reception
 arriving records n time room = tabulate (λ k. record { frame = frameIn records time k; room = room }) 0 n
 
 -- the answers to a call's records
-pub record Arrives (c : Call) (answers : List Answer) : Type 0 where
+pub record Arrives (u : Setup) (c : Call) (answers : List Answer) : Type 0 where
   pub transfer : ℕ
   -- the start is taken, refused for a full table or passed over
   pub start : any (eqb (answer.numberOf (getD answers 0 differs)) 0 ∷
@@ -106,9 +106,9 @@ pub record Arrives (c : Call) (answers : List Answer) : Type 0 where
       eqb (answer.numberOf (getD answers 0 differs)) 9 ∷
       eqb (answer.numberOf (getD answers 0 differs)) 10 ∷ []) ≡ true
   -- where it is taken, the payload is handed out exactly once
-  pub once : took (getD answers 0 differs) ≡ true → handouts answers ≡ handed (c .payload) (streamOf c) (c .priority) transfer ∷ []
+  pub once : took (answer.numberOf (getD answers 0 differs)) ≡ true → handouts (rulesTable u) answers ≡ handed (c .payload) (streamOf c) (c .priority) transfer ∷ []
 
 abbrev pub Delivered : Type 0
 Delivered =
     (c : Call) (m : Map) (room n : ℕ) → sound m ≡ true → sendStep c m room .answer ≡ done n → 0 < c .own → (u : Setup) → Hears u c → (ps : Places)
-    → Past u ps → (time space : ℕ) → 512 ≤ space → Arrives c (run u ps (arriving (sendStep c m room .records) n time space))
+    → Past u ps → (time space : ℕ) → 512 ≤ space → Arrives u c (run u ps (arriving (sendStep c m room .records) n time space))

@@ -1,7 +1,7 @@
 // The rules of 01 as definitions, in specs/. The functions here have no body: each one's contract is a theorem about the definitions.
 pub mod limits;
 
-ghost use Rattle.rules.specs.Condition3.{Condition3};
+ghost use Rattle.rules.specs.Condition3.{Condition3, rulesTable};
 ghost use Rattle.rules.specs.Example.{Example};
 ghost use Rattle.rules.specs.Range.{RangeLaw};
 ghost use Rattle.rules.specs.Samples.{Samples};
@@ -10,9 +10,9 @@ ghost use Rattle.rules.specs.SentLaws.{SentLaws, IdLaws};
 ghost use Rattle.rules.specs.Sound.{Lasting};
 ghost use Rattle.rules.specs.WhyPremises.{WhyPremises};
 
-// Condition 3 of 00.
+// Condition 3, of the rules' table.
 pub fn condition3()
-    ensures { λ _. ⌜ Condition3 ⌝ }
+    ensures { λ _. ⌜ Condition3 rulesTable ⌝ }
 {}
 
 // Its premises can be met together.

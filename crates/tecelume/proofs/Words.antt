@@ -28,7 +28,7 @@ told-fits (rules.handed p d prio t) r =
       priority = r .priority;
       transfer = r .transfer;
     }
-told-fits (rules.refused n) r = r
+told-fits (rules.refused n) r = r .1
 told-fits rules.full r = tt
 told-fits (rules.passed x) r = tt
 told-fits rules.long r = tt
