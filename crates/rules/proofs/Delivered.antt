@@ -1,43 +1,43 @@
--- Sending and then receiving: the records of a send, heard at one time by a receiver that they are for, hand the payload out if their start is taken.
+-- Sending and then receiving: the records of a send, heard by a receiver that they are for, hand the payload out if their start is taken.
 use mathlib.Core.Path.{_≡_, refl, sym, ap, ap₂, _∙_, subst}
 use mathlib.Core.Bool.{true, false, _&&_}
-use mathlib.Core.List.{List, [], _∷_}
+use mathlib.Core.List.{List, [], _∷_, map, tail-eq-of-cons-eq}
 use mathlib.Mathlib.Data.Bool.Basic.{and-elim-left, and-elim-right, and-intro}
 use Prim.Native.Nat.{ℕ, suc, _+_, _*_, _^_, _≤_, _<_}
 use native.Mathlib.Omega.{arith}
 use lib.Dec.{ltb}
 use lib.ListN.{length, getD}
+use lib.Seq.{take-length}
 use borrow.Author.Tests.{ne-eqb, ltb-true}
 use Rattle.bits.specs.Tabulate.{tabulate}
 use Rattle.rules.specs.Answer.{handed}
-use Rattle.rules.specs.Check.{Reception}
-use Rattle.rules.specs.Condition3.{ofStream, All, upTo, Receiver, frames, tookStart, front, While, Brings, Transfer, handouts, Past, rulesTable}
-use Rattle.rules.specs.Frame.{Frame, Stream, streamOf}
-use Rattle.rules.specs.Reception.{step, run}
+use Rattle.rules.specs.Condition3.{ofStream, startOf, All, framesWith, Receiver, frames, answers, tookStart, front, While, Transfer, handouts, rulesTable}
+use Rattle.rules.specs.Frame.{Frame, Stream, streamOf, isStart, tailOf}
+use Rattle.rules.specs.Reception.{step}
 use Rattle.rules.specs.Sending as sending
 use Rattle.rules.specs.Sending.{Call, framesOf, sendStep}
-use Rattle.rules.specs.SendingLaws.{Correct, Hears, frameIn, arriving, Arrives, Delivered}
+use Rattle.rules.specs.SendingLaws.{transferFor, Correct, Hears, frameIn, untimed, framesIn, Hearing, Arrives, Delivered}
+use Rattle.rules.specs.Map.{Map}
 use Rattle.rules.specs.Sent.{tailByte, framed, carried, sent, idOf, frameAt}
 use Rattle.rules.specs.Setup.{Setup}
 use Rattle.rules.specs.Sound.{serviceFits, streamFits}
-use Rattle.rules.specs.Table.{Places}
-use Rattle.rules.proofs.Arrivals.{starts, Opening, opening, each, framesAt, of-it, frames-each, answers-each, upto-each, no-starts, roomy-each, forward-each, brings-each, signed, sorts-start}
+use Rattle.rules.proofs.Arrivals.{starts, Opening, opening, Sorted, framesAt, of-it, first-timed, brings-timed, starts-timed, no-starts, signed, sorts-start}
+use Rattle.rules.proofs.Follow.{frames-upto}
 use Rattle.rules.proofs.Ids.{id-laws}
 use Rattle.rules.proofs.Lift.{free}
 use Rattle.rules.proofs.Records.{sent-short, length-records, back}
 use Rattle.rules.proofs.Sends.{record-laws, source-laws}
 use Rattle.rules.proofs.Theorem.{theorem}
 
-length-frames : (id time : ℕ) (l : List (List ℕ)) → length (framesAt id time l) ≡ length l
-length-frames id time [] = refl
-length-frames id time (c ∷ l) = ap suc (length-frames id time l)
-
-module _ (u : Setup) (c : Call) (hears : Hears u c) (records : List ℕ) (ok : Correct c records) (named : 0 < c .own) where
+module _ (u : Setup) (c : Call) (hears : Hears u c) (m : Map) (records : List ℕ) (ok : Correct c m records) (named : 0 < c .own) where
   abbrev d : Stream
   d = sending.streamOf c
 
   abbrev id : ℕ
   id = idOf d (c .priority)
+
+  abbrev t : ℕ
+  t = transferFor c m
 
   abbrev small : id < 2 ^ 29
   small = id-laws .small d (c .priority) (ok .stream) (ok .priority)
@@ -46,7 +46,7 @@ module _ (u : Setup) (c : Call) (hears : Hears u c) (records : List ℕ) (ok : C
   stream = id-laws .stream d (c .priority) (ok .stream)
 
   abbrev data' : List (List ℕ)
-  data' = sent (c .signature) (ok .transfer) (c .payload)
+  data' = sent (c .signature) t (c .payload)
 
   aimed : (c .transferType ≡ 0 → ⊥) → 0 < c .destination
   unfolding streamFits
@@ -55,95 +55,96 @@ module _ (u : Setup) (c : Call) (hears : Hears u c) (records : List ℕ) (ok : C
       let s : serviceFits d ≡ true = rw (ne-eqb (c .transferType) 0 n) at k in
       ltb-true 0 (c .destination) (and-elim-left _ _ (and-elim-right (ltb (c .type) 256) _ s))
 
-  module _ (ps : Places) (past : Past u ps) (time space : ℕ) (wide : 512 ≤ space) (o : Opening (ok .transfer) (ok .small) data') where
-    abbrev start : List ℕ
-    start = framed (o .bytes) (tailByte true (o .last) false (ok .transfer))
+  module _ (n : ℕ) (x : Receiver (rulesTable u)) (h : Hearing u d records n x) (o : Opening t (ok .transfer) data')
+      (heard : map untimed (x .start .frame ∷ frames (rulesTable u) d x) ≡ framesAt id 0 data') where
+    abbrev time : ℕ
+    time = x .start .frame .time
 
-    abbrev f : Frame
-    f = frameAt id start time
+    abbrev fs : List Frame
+    fs = frames (rulesTable u) d x
 
-    abbrev x : Receiver (rulesTable u)
-    x = record { state = ps; start = record { frame = f; room = space }; list = each id time space (o .rest) }
+    abbrev first : List ℕ
+    first = framed (o .bytes) (tailByte true (o .last) false t)
 
-    frames-x : frames (rulesTable u) d x ≡ framesAt id time (o .rest)
-    frames-x = frames-each u id time space d small stream (o .rest)
+    in-order : map untimed (x .start .frame ∷ fs) ≡ framesAt id 0 (first ∷ o .rest)
+    in-order = heard ∙ ap (framesAt id 0) (o .is)
 
-    front-x : front (rulesTable u) d (length (frames (rulesTable u) d x)) x ≡ each id time space (o .rest)
-    front-x =
-        ap (upTo (rulesTable u) (ofStream d) (each id time space (o .rest))) (ap length frames-x ∙ length-frames id time (o .rest))
-        ∙ upto-each u id time space d small stream (o .rest)
+    start-is : frameAt id first time ≡ x .start .frame
+    start-is = first-timed id (x .start .frame) fs first (o .rest) in-order
 
-    holds-on : While (rulesTable u) d (length (frames (rulesTable u) d x)) x
+    starting : startOf d (x .start .frame) ≡ true
+    starting =
+        subst (λ f. startOf d f ≡ true) start-is
+        (and-intro (of-it id d small stream first time) (starts t (ok .transfer) (o .bytes) true (o .last) false))
+
+    later : All (λ f. isStart (tailOf (f .bytes)) ≡ false) fs
+    later = starts-timed id (o .rest) fs (tail-eq-of-cons-eq in-order) (o .later)
+
+    holds-on : While (rulesTable u) d (length fs) x
     holds-on =
-        record {
-          time = rw front-x (forward-each u id time space (o .rest));
-          room = rw front-x (roomy-each u id time space d small stream wide (o .rest));
-          table = rw (front-x, no-starts u id time space d small stream (step u ps (x .start) .places) (o .rest) (o .later));
-        }
+        let e : framesWith (rulesTable u) (ofStream d) (front (rulesTable u) d (length fs) x) ≡ fs = frames-upto (ofStream d) u (x .list) (length fs) ∙ take-length fs in
+        let q = no-starts u d (step u (x .state) (x .start) .places) (front (rulesTable u) d (length fs) x)
+        (subst (All (λ f. isStart (tailOf (f .bytes)) ≡ false)) (sym e) later) in
+        record { time = h .time; room = h .rooms; table = rw q }
 
-    transfer : Transfer u d f (frames (rulesTable u) d x) (c .priority) (ok .transfer) (c .payload)
+    transfer : Transfer u d (x .start .frame) fs (c .priority) t (c .payload)
     transfer =
         record {
           size = ok .payload;
-          fields = (ok .priority, ok .small);
+          fields = (ok .priority, ok .transfer);
           signature = c .signature;
           subscribed = signed u c hears id small stream named aimed;
-          brings = subst (λ fs. Brings id (time + 2000000) data' (f ∷ fs)) (sym frames-x)
-              (subst (λ l. Brings id (time + 2000000) l (framesAt id time (start ∷ o .rest))) (sym (o .is)) (brings-each id time (start ∷ o .rest)));
+          brings = brings-timed id (time + 2000000) data' (x .start .frame ∷ fs) heard (omega arith, h .soon);
         }
 
-    hands-out : tookStart (rulesTable u) x ≡ true → handouts (rulesTable u) (run u ps (each id time space (start ∷ o .rest))) ≡ handed (c .payload) d (c .priority) (ok .transfer) ∷ []
+    hands-out : tookStart (rulesTable u) x ≡ true → handouts (rulesTable u) (answers (rulesTable u) d x) ≡ handed (c .payload) d (c .priority) t ∷ []
     hands-out tk =
-        ap (handouts (rulesTable u)) (sym (answers-each u id time space d small stream ps (start ∷ o .rest)))
-        ∙ theorem u d x x
+        theorem u d x x
         (record {
-          pasts = (past, past);
+          pasts = (h .past, h .past);
           typed = (free u (x .start ∷ x .list), free u (x .start ∷ x .list));
           named = named;
-          start = and-intro (of-it u id time space d small stream start) (starts (ok .transfer) (ok .small) (o .bytes) true (o .last) false);
+          start = starting;
           together = refl;
           take = (tk, tk);
           same = refl;
         })
-        .delivered (c .priority) (ok .transfer) (c .payload) transfer holds-on holds-on .0
+        .delivered (c .priority) t (c .payload) transfer holds-on holds-on .0
 
-    arrives : Arrives u c (run u ps (each id time space (start ∷ o .rest)))
-    unfolding run
-    arrives =
-        record {
-          transfer = ok .transfer;
-          start = sorts-start u c hears id small stream named aimed (ok .transfer) (ok .small) (o .bytes) (o .last) (o .most) (o .whole) time ps space wide;
-          once = hands-out;
-        }
+    sorted : Sorted (step u (x .state) (x .start) .answer)
+    sorted =
+        subst (λ f. Sorted (step u (x .state) (record { frame = f; room = x .start .room }) .answer)) start-is
+        (sorts-start u c hears id small stream named aimed t (ok .transfer) (o .bytes) (o .last) (o .most) (o .whole) time (x .state) (x .start .room) (h .room))
 
 -- what is read from the records is each frame in turn
-tab-each : (id time space : ℕ) (l : List (List ℕ)) (f : ℕ → Reception) (i : ℕ)
-    → ((k : ℕ) → k < length l → f (i + k) ≡ record { frame = frameAt id (getD l k []) time; room = space }) → tabulate f i (length l) ≡ each id time space l
+tab-each : (id : ℕ) (l : List (List ℕ)) (f : ℕ → Frame) (i : ℕ) → ((k : ℕ) → k < length l → f (i + k) ≡ frameAt id (getD l k []) 0) → tabulate f i (length l) ≡ framesAt id 0 l
 unfolding tabulate
-tab-each id time space [] f i h = refl
-tab-each id time space (c ∷ l) f i h =
+tab-each id [] f i h = refl
+tab-each id (c ∷ l) f i h =
     let z : i + 0 ≡ i = omega arith in
-    ap₂ (λ (r : Reception) (rs : List Reception). r ∷ rs) (ap f (sym z) ∙ h 0 (omega arith))
-    (tab-each id time space l f (suc i) (λ k b. let e : suc i + k ≡ i + suc k = omega arith in ap f e ∙ h (suc k) (omega arith)))
+    ap₂ (λ (r : Frame) (rs : List Frame). r ∷ rs) (ap f (sym z) ∙ h 0 (omega arith))
+    (tab-each id l f (suc i) (λ k b. let e : suc i + k ≡ i + suc k = omega arith in ap f e ∙ h (suc k) (omega arith)))
 
 pub delivered : Delivered
 unfolding sent
-delivered c m room n h e named u hears ps past time space wide =
+delivered c m room n h e named u hears x hearing =
     let ok = source-laws .named c m room n h e named in
     let records = sendStep c m room .records in
-    let l = sent (c .signature) (ok .transfer) (c .payload) in
+    let t = transferFor c m in
+    let l = sent (c .signature) t (c .payload) in
     let id = idOf (sending.streamOf c) (c .priority) in
-    let o = opening (ok .transfer) (ok .small) (carried (c .signature) (c .payload)) in
+    let short = sent-short (c .signature) t (c .payload) in
+    let o = opening t (ok .transfer) (carried (c .signature) (c .payload)) in
     let many : n ≡ length l = omega (
       arith,
       record-laws .size c m room ∙ ap (λ a. 13 * framesOf a) e,
-      ap length (ok .frames) ∙ length-records id l (sent-short (c .signature) (ok .transfer) (c .payload)),
+      ap length (ok .frames) ∙ length-records id l short,
     ) in
     let small : id < 2 ^ 32 = omega (arith, id-laws .small (sending.streamOf c) (c .priority) (ok .stream) (ok .priority)) in
-    let heard : arriving records n time space ≡ each id time space l =
-    ap (λ k. arriving records k time space) many
-    ∙ tab-each id time space l (λ k. record { frame = frameIn records time k; room = space }) 0
-    (λ k b. let z : 0 + k ≡ k = omega arith in
-    (λ i. record { frame = frameIn (ok .frames i) time (z i); room = space })
-    ∙ (λ i. record { frame = back id small time l k (sent-short (c .signature) (ok .transfer) (c .payload)) b i; room = space })) in
-    subst (λ rs. Arrives u c (run u ps rs)) (sym (heard ∙ ap (each id time space) (o .is))) (arrives u c hears records ok named ps past time space wide o)
+    let heard = hearing .heard ∙ ap (framesIn records) many
+    ∙ tab-each id l (frameIn records 0) 0
+    (λ k b. let z : 0 + k ≡ k = omega arith in (λ i. frameIn (ok .frames i) 0 (z i)) ∙ back id small 0 l k short b) in
+    record {
+      start = sorted u c hears m records ok named n x hearing o heard;
+      once = hands-out u c hears m records ok named n x hearing o heard;
+    }

@@ -97,7 +97,7 @@ brought : (l : List (List ℕ)) (c : List ℕ) (more : List (List ℕ)) → l �
 unfolding idOf streamOf sameStream
 brought l c more e =
     subst (λ k. Brings 0x103FF22A (10000000 + 2000000) k (hearing k .start .frame ∷ frames (rulesTable setup) stream (hearing k))) (sym e)
-    (subst (λ fs. Brings 0x103FF22A (10000000 + 2000000) (c ∷ more) (frame c 10000000 ∷ fs)) (sym (frames-each setup 0x103FF22A 10000000 512 stream (omega arith) refl more))
+    (subst (λ fs. Brings 0x103FF22A (10000000 + 2000000) (c ∷ more) (frame c 10000000 ∷ fs)) (sym (frames-each 0x103FF22A stream (omega arith) refl setup 10000000 512 more))
     (brings-each 0x103FF22A 10000000 (c ∷ more)))
 
 size-case : Sent (hearing (sent 0x0123456789ABCDEF 5 long)) 0x0123456789ABCDEF 5 long (false ∷ true ∷ true ∷ [])
