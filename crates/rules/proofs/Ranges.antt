@@ -9,10 +9,10 @@ use native.Mathlib.Omega.{arith}
 use lib.Dec.{ltb, eqb}
 use lib.ListN.{length, take, drop, getD, length-take, length-drop}
 use borrow.Author.Tests.{ltb-false, leb-false}
-use Rattle.rules.specs.Answer.{Reason}
+use Rattle.rules.specs.Answer.{Answer, taken, handed, refused, full, passed, long, differs, Reason, numberOf}
 use Rattle.rules.specs.Check.{Reception, Parsed, parsed, largeId, badLength, unnamedService, badTailIn, forAnother, notSubscribed, frameCheck, roomCheck, check}
 use Rattle.rules.specs.Frame.{Frame, isService, isAnonymous, sourceOf, streamIf, streamOf}
-use Rattle.rules.specs.Range.{HandedRange, Ranged, RangeLaw}
+use Rattle.rules.specs.Range.{HandedRange, Ranged, RangeLaw, out, HandOut, OneLaw}
 use Rattle.rules.specs.Reception.{sessionIn, stepNew, stepStart, stepSeek, stepAnonymous, stepChecked, step}
 use Rattle.rules.specs.Session.{Session, sumOk, closing, takeEnd, takeLong, takes, overIf, over, proceedIf, proceed, reactIf, react, restarts, restarted, fresh}
 use Rattle.rules.specs.Setup.{Setup}
@@ -192,3 +192,15 @@ ranges u ps r = go (check u r) refl (check-small u r)
     go (some n) e k = k
     go none e k =
         named-range (parsed u (r .frame)) (headed u (r .frame) (accepted u (r .frame) (checked u r e))) (isAnonymous (r .frame .id)) ps
+
+one : (a : Answer) → Ranged a → numberOf a ≡ 1 → HandOut a
+one taken h e = absurd (omega arith)
+one (handed p d prio t) h e = out p d prio t
+one (refused n) h e = absurd (omega arith)
+one full h e = absurd (omega arith)
+one (passed r) h e = absurd (omega arith)
+one long h e = absurd (omega arith)
+one differs h e = absurd (omega arith)
+
+pub one-law : OneLaw
+one-law u ps r = one (step u ps r .answer) (ranges u ps r)

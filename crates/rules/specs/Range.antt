@@ -1,8 +1,9 @@
 -- 01, Numbers answered: every number that a reception answers, and every value that 1 gives, is in its range, whatever the table was.
+use mathlib.Core.Path.{_≡_}
 use mathlib.Core.List.{List}
 use Prim.Native.Nat.{ℕ, _≤_, _<_}
 use lib.ListN.{length}
-use Rattle.rules.specs.Answer.{Answer, taken, handed, refused, full, passed, long, differs}
+use Rattle.rules.specs.Answer.{Answer, taken, handed, refused, full, passed, long, differs, numberOf}
 use Rattle.rules.specs.Check.{Reception}
 use Rattle.rules.specs.Frame.{Stream}
 use Rattle.rules.specs.Reception.{step}
@@ -29,3 +30,10 @@ Ranged differs = Unit {0}
 
 abbrev pub RangeLaw : Type 0
 RangeLaw = (u : Setup) (ps : Places) (r : Reception) → Ranged (step u ps r .answer)
+
+-- number 1 is a hand-out, and nothing else
+pub data HandOut : Answer → Type 0 where
+  out : (p : List ℕ) (d : Stream) (prio t : ℕ) → HandOut (handed p d prio t)
+
+abbrev pub OneLaw : Type 0
+OneLaw = (u : Setup) (ps : Places) (r : Reception) → numberOf (step u ps r .answer) ≡ 1 → HandOut (step u ps r .answer)
