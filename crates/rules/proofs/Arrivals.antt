@@ -9,11 +9,11 @@ use native.Mathlib.Omega.{arith}
 use lib.Dec.{ltb, eqb}
 use lib.ListN.{length, getD, take, drop}
 use lib.Seq.{length-take-le}
-use borrow.Author.Tests.{eq-eqb, ne-eqb, lt-ltb, le-ltb, lt-leb}
+use borrow.Author.Tests.{eq-eqb, ne-eqb, lt-ltb, le-ltb, le-leb, lt-leb}
 use Rattle.rules.specs.Answer.{Answer, Reason}
 use Rattle.rules.specs.Answer as answer
 use Rattle.rules.specs.Check.{Reception, Parsed, parsed, badTail, isNone}
-use Rattle.rules.specs.Condition3.{ofStream, startOf, keep, All, framesWith, answersTo, Brings, done, next, rulesTable}
+use Rattle.rules.specs.Condition3.{ofStream, startOf, keep, All, framesWith, answersTo, upTo, forward, roomy, Brings, done, next, rulesTable}
 use Rattle.rules.specs.Frame.{Frame, Stream, sameStream, isService, sourceOf, destinationOf, streamIf, streamOf, tailOf, isStart, isEnd, toggleOf}
 use Rattle.rules.specs.Reception.{stepNew, stepStart, sessionIn, stepSeek, stepAnonymous, stepChecked, step}
 use Rattle.rules.specs.Sending as sending
@@ -166,6 +166,31 @@ module _ (id : ℕ) (d : Stream) (small : id < 2 ^ 29) (stream : streamOf id ≡
   unfolding framesWith
   frames-each u time space [] = refl
   frames-each u time space (c ∷ l) = rw (of-it c time) (ap (λ fs. frameAt id c time ∷ fs) (frames-each u time space l))
+
+  pub upto-each : (u : Setup) (time space : ℕ) (l : List (List ℕ)) → upTo (rulesTable u) (ofStream d) (each id time space l) (length l) ≡ each id time space l
+  unfolding upTo
+  upto-each u time space [] = refl
+  upto-each u time space (c ∷ l) = rw (of-it c time) (ap (λ rs. record { frame = frameAt id c time; room = space } ∷ rs) (upto-each u time space l))
+
+  pub roomy-each : (u : Setup) (time space : ℕ) → 512 ≤ space → (l : List (List ℕ)) → roomy (rulesTable u) d (each id time space l) ≡ true
+  roomy-each u time space h [] = refl
+  roomy-each u time space h (c ∷ l) = rw (of-it c time, le-leb 512 space h) (roomy-each u time space h l)
+
+pub forward-each : (u : Setup) (id time space : ℕ) (l : List (List ℕ)) → forward (rulesTable u) time (each id time space l) ≡ true
+forward-each u id time space [] = refl
+forward-each u id time space (c ∷ l) = rw (le-leb time time (omega arith)) (forward-each u id time space l)
+
+pub untimed-each : (id time : ℕ) (l : List (List ℕ)) → map untimed (framesAt id time l) ≡ framesAt id 0 l
+untimed-each id time [] = refl
+untimed-each id time (c ∷ l) = ap (λ fs. frameAt id c 0 ∷ fs) (untimed-each id time l)
+
+pub soon-each : (id time : ℕ) (l : List (List ℕ)) → All (λ f. f .time ≤ time + 2000000) (framesAt id time l)
+soon-each id time [] = tt
+soon-each id time (c ∷ l) = (omega arith, soon-each id time l)
+
+pub length-each : (id time : ℕ) (l : List (List ℕ)) → length (framesAt id time l) ≡ length l
+length-each id time [] = refl
+length-each id time (c ∷ l) = ap suc (length-each id time l)
 
 pub brings-each : (id time : ℕ) (l : List (List ℕ)) → Brings id (time + 2000000) l (framesAt id time l)
 brings-each id time [] = done

@@ -3,7 +3,7 @@ use mathlib.Core.Path.{_≡_, refl, sym, ap, ap₂, _∙_, subst}
 use mathlib.Core.Bool.{true, false, _&&_}
 use mathlib.Core.List.{List, [], _∷_, map, tail-eq-of-cons-eq}
 use mathlib.Mathlib.Data.Bool.Basic.{and-elim-left, and-elim-right, and-intro}
-use Prim.Native.Nat.{ℕ, suc, _+_, _*_, _^_, _≤_, _<_}
+use Prim.Native.Nat.{ℕ, suc, _+_, _*_, _-_, _^_, _≤_, _<_}
 use native.Mathlib.Omega.{arith}
 use lib.Dec.{ltb}
 use lib.ListN.{length, getD}
@@ -11,21 +11,22 @@ use lib.Seq.{take-length}
 use borrow.Author.Tests.{ne-eqb, ltb-true}
 use Rattle.bits.specs.Tabulate.{tabulate}
 use Rattle.rules.specs.Answer.{handed}
-use Rattle.rules.specs.Condition3.{ofStream, startOf, All, framesWith, Receiver, frames, answers, tookStart, front, While, Transfer, handouts, rulesTable}
+use Rattle.rules.specs.Condition3.{ofStream, startOf, All, framesWith, upTo, Receiver, frames, answers, tookStart, front, While, Transfer, handouts, Past, rulesTable}
 use Rattle.rules.specs.Frame.{Frame, Stream, streamOf, isStart, tailOf}
 use Rattle.rules.specs.Reception.{step}
 use Rattle.rules.specs.Sending as sending
-use Rattle.rules.specs.Sending.{Call, framesOf, sendStep}
-use Rattle.rules.specs.SendingLaws.{transferFor, Correct, Hears, frameIn, untimed, framesIn, Hearing, Arrives, Delivered}
-use Rattle.rules.specs.Map.{Map}
+use Rattle.rules.specs.Sending.{Call, done, framesOf, sendStep}
+use Rattle.rules.specs.SendingLaws.{transferFor, Correct, Hears, frameIn, untimed, framesIn, Hearing, inTurn, atOnce, Delivered}
+use Rattle.rules.specs.Map.{Map, sound}
 use Rattle.rules.specs.Sent.{tailByte, framed, carried, sent, idOf, frameAt}
 use Rattle.rules.specs.Setup.{Setup}
 use Rattle.rules.specs.Sound.{serviceFits, streamFits}
-use Rattle.rules.proofs.Arrivals.{starts, Opening, opening, Sorted, framesAt, of-it, first-timed, brings-timed, starts-timed, no-starts, signed, sorts-start}
+use Rattle.rules.specs.Table.{Places}
+use Rattle.rules.proofs.Arrivals.{starts, Opening, opening, Sorted, each, framesAt, of-it, frames-each, upto-each, roomy-each, forward-each, untimed-each, soon-each, length-each, first-timed, brings-timed, starts-timed, no-starts, signed, sorts-start}
 use Rattle.rules.proofs.Follow.{frames-upto}
 use Rattle.rules.proofs.Ids.{id-laws}
 use Rattle.rules.proofs.Lift.{free}
-use Rattle.rules.proofs.Records.{sent-short, length-records, back}
+use Rattle.rules.proofs.Records.{Short, sent-short, length-records, back}
 use Rattle.rules.proofs.Sends.{record-laws, source-laws}
 use Rattle.rules.proofs.Theorem.{theorem}
 
@@ -117,34 +118,123 @@ module _ (u : Setup) (c : Call) (hears : Hears u c) (m : Map) (records : List �
         (sorts-start u c hears id small stream named aimed t (ok .transfer) (o .bytes) (o .last) (o .most) (o .whole) time (x .state) (x .start .room) (h .room))
 
 -- what is read from the records is each frame in turn
-tab-each : (id : ℕ) (l : List (List ℕ)) (f : ℕ → Frame) (i : ℕ) → ((k : ℕ) → k < length l → f (i + k) ≡ frameAt id (getD l k []) 0) → tabulate f i (length l) ≡ framesAt id 0 l
+tab-each : {A : Type 0} (g : List ℕ → A) (l : List (List ℕ)) (f : ℕ → A) (i : ℕ) → ((k : ℕ) → k < length l → f (i + k) ≡ g (getD l k [])) → tabulate f i (length l) ≡ map g l
 unfolding tabulate
-tab-each id [] f i h = refl
-tab-each id (c ∷ l) f i h =
+tab-each g [] f i h = refl
+tab-each {A} g (c ∷ l) f i h =
     let z : i + 0 ≡ i = omega arith in
-    ap₂ (λ (r : Frame) (rs : List Frame). r ∷ rs) (ap f (sym z) ∙ h 0 (omega arith))
-    (tab-each id l f (suc i) (λ k b. let e : suc i + k ≡ i + suc k = omega arith in ap f e ∙ h (suc k) (omega arith)))
+    ap₂ (λ (r : A) (rs : List A). r ∷ rs) (ap f (sym z) ∙ h 0 (omega arith))
+    (tab-each g l f (suc i) (λ k b. let e : suc i + k ≡ i + suc k = omega arith in ap f e ∙ h (suc k) (omega arith)))
+
+-- a successful send of a named source
+module _ (c : Call) (m : Map) (room n : ℕ) (h : sound m ≡ true) (e : sendStep c m room .answer ≡ done n) (named : 0 < c .own) where
+  abbrev out : List ℕ
+  out = sendStep c m room .records
+
+  abbrev correct : Correct c m out
+  correct = source-laws .named c m room n h e named
+
+  abbrev wire : ℕ
+  wire = idOf (sending.streamOf c) (c .priority)
+
+  abbrev all : List (List ℕ)
+  all = sent (c .signature) (transferFor c m) (c .payload)
+
+  short : Short all
+  short = sent-short (c .signature) (transferFor c m) (c .payload)
+
+  many : n ≡ length all
+  many =
+      omega (
+        arith,
+        record-laws .size c m room ∙ ap (λ a. 13 * framesOf a) e,
+        ap length (correct .frames) ∙ length-records wire all short,
+      )
+
+  below : wire < 2 ^ 29
+  below = id-laws .small (sending.streamOf c) (c .priority) (correct .stream) (correct .priority)
+
+  read : (time k : ℕ) → k < length all → frameIn out time k ≡ frameAt wire (getD all k []) time
+  read time k b = ap (λ r. frameIn r time k) (correct .frames) ∙ back wire (omega (arith, below)) time all k short b
+
+  frames-in : framesIn out n ≡ framesAt wire 0 all
+  frames-in =
+      ap (framesIn out) many
+      ∙ tab-each (λ b. frameAt wire b 0) all (frameIn out 0) 0 (λ k b. let z : 0 + k ≡ k = omega arith in ap (frameIn out 0) z ∙ read 0 k b)
+
+  opens : Opening (transferFor c m) (correct .transfer) all
+  unfolding sent
+  opens = opening (transferFor c m) (correct .transfer) (carried (c .signature) (c .payload))
+
+  -- ── heard at one time ──
+
+  module _ (u : Setup) (ps : Places) (past : Past u ps) (time space : ℕ) (wide : 512 ≤ space) where
+    abbrev one : List ℕ
+    one = framed (opens .bytes) (tailByte true (opens .last) false (transferFor c m))
+
+    abbrev rest : List (List ℕ)
+    rest = opens .rest
+
+    abbrev d' : Stream
+    d' = sending.streamOf c
+
+    abbrev plain : Receiver (rulesTable u)
+    plain = record { state = ps; start = record { frame = frameAt wire one time; room = space }; list = each wire time space rest }
+
+    stream-of : streamOf wire ≡ d'
+    stream-of = id-laws .stream d' (c .priority) (correct .stream)
+
+    plain-frames : frames (rulesTable u) d' plain ≡ framesAt wire time rest
+    plain-frames = frames-each wire d' below stream-of u time space rest
+
+    plain-front : front (rulesTable u) d' (length (frames (rulesTable u) d' plain)) plain ≡ each wire time space rest
+    plain-front =
+        ap (upTo (rulesTable u) (ofStream d') (each wire time space rest)) (ap length plain-frames ∙ length-each wire time rest)
+        ∙ upto-each wire d' below stream-of u time space rest
+
+    hears-plain : Hearing u d' out n plain
+    hears-plain =
+        record {
+          past = past;
+          heard = ap (λ fs. frameAt wire one 0 ∷ map untimed fs) plain-frames ∙ ap (λ fs. frameAt wire one 0 ∷ fs) (untimed-each wire time rest)
+              ∙ sym (frames-in ∙ ap (framesAt wire 0) (opens .is));
+          soon = subst (All (λ f. f .time ≤ time + 2000000)) (sym plain-frames) (soon-each wire time rest);
+          time = rw plain-front (forward-each u wire time space rest);
+          room = wide;
+          rooms = rw plain-front (roomy-each wire d' below stream-of u time space wide rest);
+        }
+
+    longer : length all ≡ suc (length rest)
+    longer = ap length (opens .is)
+
+    -- record k is frame k
+    turn : (k : ℕ) → k < length all → inTurn out time space k ≡ record { frame = frameAt wire (getD all k []) time; room = space }
+    turn k b = ap (λ f. record { frame = f; room = space }) (read time k b)
+
+    is-plain : atOnce u ps out n time space ≡ plain
+    is-plain =
+        let first : inTurn out time space 0 ≡ plain .start =
+        turn 0 (omega (arith, longer)) ∙ ap (λ l. record { frame = frameAt wire (getD l 0 []) time; room = space }) (opens .is) in
+        let others : tabulate (inTurn out time space) 1 (n - 1) ≡ plain .list =
+        ap (tabulate (inTurn out time space) 1) (omega (arith, many, longer))
+        ∙ tab-each (λ b. record { frame = frameAt wire b time; room = space }) rest (inTurn out time space) 1
+        (λ k b. let z : 1 + k ≡ suc k = omega arith in
+        ap (inTurn out time space) z ∙ turn (suc k) (omega (arith, longer)) ∙ ap (λ l. record { frame = frameAt wire (getD l (suc k) []) time; room = space }) (opens .is)) in
+        λ i. record { state = ps; start = first i; list = others i }
+
+    hears-at-once : Hearing u d' out n (atOnce u ps out n time space)
+    hears-at-once = subst (Hearing u d' out n) (sym is-plain) hears-plain
 
 pub delivered : Delivered
-unfolding sent
-delivered c m room n h e named u hears x hearing =
-    let ok = source-laws .named c m room n h e named in
-    let records = sendStep c m room .records in
-    let t = transferFor c m in
-    let l = sent (c .signature) t (c .payload) in
-    let id = idOf (sending.streamOf c) (c .priority) in
-    let short = sent-short (c .signature) t (c .payload) in
-    let o = opening t (ok .transfer) (carried (c .signature) (c .payload)) in
-    let many : n ≡ length l = omega (
-      arith,
-      record-laws .size c m room ∙ ap (λ a. 13 * framesOf a) e,
-      ap length (ok .frames) ∙ length-records id l short,
-    ) in
-    let small : id < 2 ^ 32 = omega (arith, id-laws .small (sending.streamOf c) (c .priority) (ok .stream) (ok .priority)) in
-    let heard = hearing .heard ∙ ap (framesIn records) many
-    ∙ tab-each id l (frameIn records 0) 0
-    (λ k b. let z : 0 + k ≡ k = omega arith in (λ i. frameIn (ok .frames i) 0 (z i)) ∙ back id small 0 l k short b) in
+delivered =
     record {
-      start = sorted u c hears m records ok named n x hearing o heard;
-      once = hands-out u c hears m records ok named n x hearing o heard;
+      arrives = λ c m room n h e named u hears x hearing.
+          let ok = correct c m room n h e named in
+          let o = opens c m room n h e named in
+          let heard = hearing .heard ∙ frames-in c m room n h e named in
+          record {
+            start = sorted u c hears m (sendStep c m room .records) ok named n x hearing o heard;
+            once = hands-out u c hears m (sendStep c m room .records) ok named n x hearing o heard;
+          };
+      met = λ c m room n h e named u ps past time space wide. hears-at-once c m room n h e named u ps past time space wide;
     }

@@ -3,7 +3,7 @@ use mathlib.Core.Path.{_≡_}
 use mathlib.Core.Bool.{true, false}
 use mathlib.Core.List.{List, [], _∷_, map}
 use mathlib.Core.Option.{some}
-use Prim.Native.Nat.{ℕ, _+_, _*_, _^_, _≤_, _<_}
+use Prim.Native.Nat.{ℕ, _+_, _*_, _-_, _^_, _≤_, _<_}
 use lib.Dec.{eqb}
 use lib.ListN.{length, getD}
 use Rattle.bits.specs.Little.{le}
@@ -11,6 +11,7 @@ use Rattle.bits.specs.Part.{span}
 use Rattle.bits.specs.Tabulate.{tabulate}
 use Rattle.rules.specs.Answer.{handed}
 use Rattle.rules.specs.Answer as answer
+use Rattle.rules.specs.Check.{Reception}
 use Rattle.rules.specs.Condition3.{All, Receiver, frames, answers, tookStart, forward, roomy, front, handouts, Past, rulesTable}
 use Rattle.rules.specs.Frame as frame
 use Rattle.rules.specs.Frame.{Frame, Stream, priorityOf}
@@ -22,6 +23,7 @@ use Rattle.rules.specs.Sent.{sent, idOf, frameAt}
 use Rattle.rules.specs.Session.{next}
 use Rattle.rules.specs.Setup.{Setup, subscribed}
 use Rattle.rules.specs.Sound.{streamFits}
+use Rattle.rules.specs.Table.{Places}
 use Rattle.rules.specs.Tests.{pick}
 
 -- a call that 14 lets through
@@ -135,7 +137,17 @@ pub record Arrives (u : Setup) (c : Call) (m : Map) (x : Receiver (rulesTable u)
   pub once : tookStart (rulesTable u) x ≡ true
       → handouts (rulesTable u) (answers (rulesTable u) (streamOf c) x) ≡ handed (c .payload) (streamOf c) (c .priority) (transferFor c m) ∷ []
 
-abbrev pub Delivered : Type 0
-Delivered =
-    (c : Call) (m : Map) (room n : ℕ) → sound m ≡ true → sendStep c m room .answer ≡ done n → 0 < c .own → (u : Setup) → Hears u c
-    → (x : Receiver (rulesTable u)) → Hearing u (streamOf c) (sendStep c m room .records) n x → Arrives u c m x
+-- n records heard at one time, with nothing between
+abbrev pub inTurn : List ℕ → ℕ → ℕ → ℕ → Reception
+inTurn records time space k = record { frame = frameIn records time k; room = space }
+
+abbrev pub atOnce : (u : Setup) → Places → List ℕ → ℕ → ℕ → ℕ → Receiver (rulesTable u)
+atOnce u ps records n time space =
+    record { state = ps; start = inTurn records time space 0; list = tabulate (inTurn records time space) 1 (n - 1) }
+
+pub record Delivered : Type 0 where
+  pub arrives : (c : Call) (m : Map) (room n : ℕ) → sound m ≡ true → sendStep c m room .answer ≡ done n → 0 < c .own → (u : Setup) → Hears u c
+      → (x : Receiver (rulesTable u)) → Hearing u (streamOf c) (sendStep c m room .records) n x → Arrives u c m x
+  -- its premises can be met
+  pub met : (c : Call) (m : Map) (room n : ℕ) → sound m ≡ true → sendStep c m room .answer ≡ done n → 0 < c .own → (u : Setup) (ps : Places) → Past u ps
+      → (time space : ℕ) → payloadMax ≤ space → Hearing u (streamOf c) (sendStep c m room .records) n (atOnce u ps (sendStep c m room .records) n time space)
