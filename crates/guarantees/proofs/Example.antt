@@ -17,6 +17,7 @@ use Rattle.guarantees.specs.Received.{Typed}
 use Rattle.guarantees.specs.Run.{receptions, AllTyped}
 use Rattle.guarantees.specs.Written.{AllWritable, Stands}
 use Rattle.guarantees.proofs.Condition3.{view, lent-theorem}
+use Rattle.guarantees.proofs.FromSetup.{octets-state}
 use Rattle.guarantees.proofs.Received.{table-law}
 use Rattle.rules.proofs.Examples.{example}
 use Rattle.rules.proofs.Lift.{viewOf, frames-are, while-back, premises-back}
@@ -118,39 +119,6 @@ module _ (m : List ℕ) (x : Receiver (rulesTable setup)) (h : Lendable m x) whe
       while-back setup (lentBytes setup) (view setup) stream (lentOf m x) lends (h .typed) k (subst (While (rulesTable setup) stream k) (sym view-back) w)
 
 -- ── the state that was set up ──
-
-octets-zeros : (n : ℕ) → Octets (replicate n 0)
-octets-zeros zero = tt
-octets-zeros (suc n) = (omega arith, octets-zeros n)
-
-octets-signatures : (l : List Subscription) → Octets (signatures l)
-unfolding signatures
-octets-signatures [] = tt
-octets-signatures (a ∷ l) = octets-append (leBytes 8 (a .signature)) (signatures l) (octets-leBytes 8 (a .signature)) (octets-signatures l)
-
-octets-keys : (l : List Subscription) → Octets (keys l)
-unfolding keys
-octets-keys [] = tt
-octets-keys (a ∷ l) = octets-append (leBytes 4 _) (keys l) (octets-leBytes 4 _) (octets-keys l)
-
-octets-filled : (n : ℕ) (xs rest : List ℕ) → Octets xs → Octets rest → Octets (filled n xs ++ rest)
-octets-filled n xs rest h k = octets-append (filled n xs) rest (octets-append xs (replicate (n - length xs) 0) h (octets-zeros (n - length xs))) k
-
-octets-state : (u : Setup) → u .own < 256 → length (u .subscriptions) < 256 → Octets (stateOf u)
-unfolding stateOf
-octets-state u a b =
-    let s = u .subscriptions in
-    let ks : List ℕ = filled 256 (keys s) ++ replicate 16704 0 in
-    let gap : List ℕ = replicate 256 0 ++ ks in
-    let ss : List ℕ = filled 512 (signatures s) ++ gap in (
-      a,
-      (
-        b,
-        octets-append (replicate 6 0) ss (octets-zeros 6)
-            (octets-filled 512 (signatures s) gap (octets-signatures s)
-            (octets-append (replicate 256 0) ks (octets-zeros 256) (octets-filled 256 (keys s) (replicate 16704 0) (octets-keys s) (octets-zeros 16704)))),
-      ),
-    )
 
 -- the example's subscriptions as records
 records : List ℕ

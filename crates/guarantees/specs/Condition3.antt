@@ -19,8 +19,9 @@ pub record Lent (u : Setup) (m : List ℕ) : Type 0 where
   -- it is a slice of u8
   pub bytes : Octets m
 
-abbrev pub lentBytes : Setup → Machine
-lentBytes u =
+-- calls of `receive` on lent states that have some past
+abbrev pub receiving : (List ℕ → Type 0) → Machine
+receiving past =
     record {
       State = List ℕ;
       Call = Call;
@@ -30,6 +31,9 @@ lentBytes u =
       after = λ m c. resultOf m c .state;
       number = λ r. numberOf (r .answer);
       shows = readingOf;
-      Past = Lent u;
+      Past = past;
       Typed = λ c. Typed (c .frame);
     }
+
+abbrev pub lentBytes : Setup → Machine
+lentBytes u = receiving (Lent u)

@@ -3,3 +3,4 @@ pub mod Received
 pub mod Run
 pub mod Condition3
 pub mod Example
+pub mod FromSetup

@@ -1,6 +1,7 @@
 // What `receiver::receive` makes of a lent state, as theorems about its contract. The functions here have no body: each one's contract is a theorem.
 ghost use Rattle.guarantees.specs.Condition3.{lentBytes};
 ghost use Rattle.guarantees.specs.Example.{LentExample};
+ghost use Rattle.guarantees.specs.FromSetup.{FromSetup};
 ghost use Rattle.guarantees.specs.Received.{ViewLaw, SoundLaw};
 ghost use Rattle.guarantees.specs.Run.{RunLaw};
 ghost use Rattle.guarantees.specs.Written.{TableLaw};
@@ -34,4 +35,9 @@ pub fn condition3_lent()
 // A case that meets its premises, with the theorem applied.
 pub fn condition3_lent_example()
     ensures { λ _. ⌜ LentExample ⌝ }
+{}
+
+// From a call of setup to lists of calls: condition 3 among what holds of them.
+pub fn setup_then_calls()
+    ensures { λ _. ⌜ FromSetup ⌝ }
 {}
