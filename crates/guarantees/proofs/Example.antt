@@ -12,12 +12,12 @@ use Rattle.bits.specs.Little.{le, leBytes}
 use Rattle.bits.specs.Order.{Octets}
 use Rattle.bits.specs.Tabulate.{tabulate}
 use Rattle.guarantees.specs.Condition3.{Lent, lentBytes}
-use Rattle.guarantees.specs.Example.{callOf, lentOf, lentSpacious, lentCrowded, LentExample}
+use Rattle.guarantees.specs.Example.{records, callOf, lentOf, lentSpacious, lentCrowded, LentExample}
 use Rattle.guarantees.specs.Received.{Typed}
 use Rattle.guarantees.specs.Run.{receptions, AllTyped}
 use Rattle.guarantees.specs.Written.{AllWritable, Stands}
 use Rattle.guarantees.proofs.Condition3.{view, lent-theorem}
-use Rattle.guarantees.proofs.FromSetup.{octets-state}
+use Rattle.guarantees.proofs.FromSetup.{octets-zeros, octets-state}
 use Rattle.guarantees.proofs.Received.{table-law}
 use Rattle.rules.proofs.Examples.{example}
 use Rattle.rules.proofs.Lift.{viewOf, frames-are, while-back, premises-back}
@@ -32,7 +32,9 @@ use Rattle.rules.specs.Sound.{streamFits, sessionFits, sound}
 use Rattle.rules.specs.Table.{empty, held, Places, seek, placeFor}
 use Rattle.setup.proofs.Fresh.{fresh}
 use Rattle.setup.specs.Laws.{Fresh}
-use Rattle.setup.specs.Setup.{recordAt, given, accepted, signatures, keys, filled, stateOf}
+use Rattle.setup.specs.Setup.{recordAt, given, accepted, signatures, keys, filled, stateOf, afterSetup}
+use Rattle.setup.specs.declared.Outcome.the-variants.{Done}
+use Rattle.state.specs.Layout.{size}
 use Rattle.state.proofs.Bools.{and-left, and-right}
 use Rattle.state.specs.Place.{written}
 
@@ -120,13 +122,6 @@ module _ (m : List ℕ) (x : Receiver (rulesTable setup)) (h : Lendable m x) whe
 
 -- ── the state that was set up ──
 
--- the example's subscriptions as records
-records : List ℕ
-records =
-    0 ∷ 1 ∷ 0 ∷ 0 ∷ 0 ∷ 7 ∷ 0 ∷ 0 ∷ 0 ∷ 0 ∷ 0 ∷ 0 ∷ 0 ∷
-    0 ∷ 0x55 ∷ 0x01 ∷ 0 ∷ 0 ∷ 0 ∷ 0 ∷ 0 ∷ 0 ∷ 0 ∷ 0 ∷ 0 ∷ 0x80 ∷
-    0 ∷ 0xF2 ∷ 0x3F ∷ 0 ∷ 0 ∷ 0xEF ∷ 0xCD ∷ 0xAB ∷ 0x89 ∷ 0x67 ∷ 0x45 ∷ 0x23 ∷ 0x01 ∷ []
-
 given-is : given 1 records ≡ setup
 unfolding given recordAt records le tabulate
 given-is = refl
@@ -138,6 +133,10 @@ accepted-is = refl
 records-bytes : bytesTest records ≡ true
 unfolding bytesTest records
 records-bytes = refl
+
+done-is : afterSetup (replicate size 0) 1 records .answer ≡ Done
+unfolding afterSetup
+done-is = rw accepted-is
 
 begun-state : Fresh setup (stateOf setup)
 begun-state =
@@ -186,4 +185,5 @@ lent-example =
       whiles = (while-lent m spacious a 5 (example .whiles .0), while-lent m crowded b 5 (example .whiles .1));
       transfer = subst (λ fs. Transfer setup stream start fs 16 5 payload) (sym (frames-back m spacious a)) (example .transfer);
       claim = lent-theorem setup stream lentSpacious lentCrowded premises;
+      setUp = (record { bytes = octets-zeros size; records = tested-bytes records records-bytes; done = done-is }, given-is);
     }

@@ -28,7 +28,7 @@ use Rattle.state.specs.Layout.{size, placesOf}
 
 -- ── bytes ──
 
-octets-zeros : (n : ℕ) → Octets (replicate n 0)
+pub octets-zeros : (n : ℕ) → Octets (replicate n 0)
 octets-zeros zero = tt
 octets-zeros (suc n) = (omega arith, octets-zeros n)
 
