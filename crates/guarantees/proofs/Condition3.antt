@@ -4,7 +4,7 @@ use mathlib.Core.List.{List}
 use Prim.Native.Nat.{ℕ}
 use Rattle.guarantees.specs.Condition3.{Lent, lentBytes}
 use Rattle.guarantees.specs.Received.{Typed}
-use Rattle.guarantees.specs.Run.{Call, receptionOf, resultOf, reading, readingOf}
+use Rattle.guarantees.specs.Run.{Call, receptionOf, resultOf, readingOf}
 use Rattle.guarantees.proofs.Received.{view-law, sound-law}
 use Rattle.guarantees.proofs.Run.{reading-is}
 use Rattle.rules.proofs.Lift.{View, lifted}

@@ -1,14 +1,13 @@
 -- The example: its tables stand in lent bytes, and its premises come over from those of the rules.
 use mathlib.Core.Path.{_≡_, refl, sym, ap, ap₂, subst, _∙_}
 use mathlib.Core.Bool.{Bool, true, _&&_}
-use mathlib.Core.List.{List, [], _∷_, _++_, append-nil, map}
-use Prim.Native.Nat.{ℕ, zero, suc, _-_, _^_, _<_}
+use mathlib.Core.List.{List, [], _∷_, append-nil, map}
+use Prim.Native.Nat.{ℕ, _^_}
 use native.Mathlib.Omega.{arith}
 use borrow.Author.Tests.{ltb-true}
 use lib.Dec.{ltb}
-use lib.ListN.{length, replicate, length-replicate}
-use Rattle.bits.proofs.Octets.{octets-append, octets-leBytes}
-use Rattle.bits.specs.Little.{le, leBytes}
+use lib.ListN.{replicate, length-replicate}
+use Rattle.bits.specs.Little.{le}
 use Rattle.bits.specs.Order.{Octets}
 use Rattle.bits.specs.Tabulate.{tabulate}
 use Rattle.guarantees.specs.Condition3.{Lent, lentBytes}
@@ -27,12 +26,12 @@ use Rattle.rules.specs.Example.{setup, stream, payload, start, crowd, spacious,
 use Rattle.rules.specs.Frame.{Frame, sameStream, streamOf}
 use Rattle.rules.specs.Reception.{stepNew, stepStart, stepSeek, stepAnonymous, stepChecked, step, after}
 use Rattle.rules.specs.Session.{restarts, over, closing, takeEnd, takeLong, takes, proceedIf, proceed, reactIf, react}
-use Rattle.rules.specs.Setup.{Subscription, Setup, subscribed, acceptable}
+use Rattle.rules.specs.Setup.{subscribed, acceptable}
 use Rattle.rules.specs.Sound.{streamFits, sessionFits, sound}
 use Rattle.rules.specs.Table.{empty, held, Places, seek, placeFor}
 use Rattle.setup.proofs.Fresh.{fresh}
 use Rattle.setup.specs.Laws.{Fresh}
-use Rattle.setup.specs.Setup.{recordAt, given, accepted, signatures, keys, filled, stateOf, afterSetup}
+use Rattle.setup.specs.Setup.{recordAt, given, accepted, stateOf, afterSetup}
 use Rattle.setup.specs.declared.Outcome.the-variants.{Done}
 use Rattle.state.specs.Layout.{size}
 use Rattle.state.proofs.Bools.{and-left, and-right}

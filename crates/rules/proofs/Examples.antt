@@ -20,7 +20,7 @@ use Rattle.rules.specs.Session.{restarts, over, closing, takeEnd, takeLo
 use Rattle.rules.specs.Setup.{subscribed, signatureFor}
 use Rattle.rules.specs.Sound.{streamFits, sessionFits, sound}
 use Rattle.rules.specs.Table.{seek, placeFor}
-use Rattle.rules.specs.WhyPremises.{tests, all, Sent, Tests, unnamed, twice, hearing, long, handed-out, WhyPremises}
+use Rattle.rules.specs.WhyPremises.{tests, all, agreed, Sent, Tests, unnamed, twice, hearing, long, handedOut, WhyPremises}
 use Rattle.rules.proofs.Arrivals.{opening, frames-each, brings-each}
 use Rattle.rules.proofs.Lift.{free}
 use Rattle.rules.proofs.Theorem.{theorem}
@@ -64,7 +64,7 @@ example =
 test : (n : ℕ) (l : List Bool) → l ≡ all → getD l n false ≡ getD all n false
 test n l e = ap (λ k. getD k n false) e
 
-subscribed-as : (signature : ℕ) → signature ≡ 0x0123456789ABCDEF → signatureFor setup (idOf stream 16) ≡ some signature
+subscribed-as : (signature : ℕ) → signature ≡ agreed → signatureFor setup (idOf stream 16) ≡ some signature
 unfolding subscribed idOf streamOf
 subscribed-as signature e = ap some (sym e)
 
@@ -86,7 +86,7 @@ complete =
             size = leb-true (length p) 512 (ap (λ k. getD k 0 false) (h .fits));
             fields = (omega arith, ltb-true t 32 (ap (λ k. getD k 1 false) (h .fits)));
             signature = signature;
-            subscribed = subscribed-as signature (eqb-true signature 0x0123456789ABCDEF (ap (λ k. getD k 2 false) (h .fits)));
+            subscribed = subscribed-as signature (eqb-true signature agreed (ap (λ k. getD k 2 false) (h .fits)));
             brings = h .brings;
           };
     }
@@ -100,12 +100,12 @@ brought l c more e =
     (subst (λ fs. Brings 0x103FF22A (10000000 + 2000000) (c ∷ more) (frame c 10000000 ∷ fs)) (sym (frames-each 0x103FF22A stream (omega arith) refl setup 10000000 512 more))
     (brings-each 0x103FF22A 10000000 (c ∷ more)))
 
-size-case : Sent (hearing (sent 0x0123456789ABCDEF 5 long)) 0x0123456789ABCDEF 5 long (false ∷ true ∷ true ∷ [])
-    × (handed-out (hearing (sent 0x0123456789ABCDEF 5 long)) ≡ [])
+size-case : Sent (hearing (sent agreed 5 long)) agreed 5 long (false ∷ true ∷ true ∷ [])
+    × (handedOut (hearing (sent agreed 5 long)) ≡ [])
 unfolding framesWith answersTo upTo step stepChecked stepAnonymous stepSeek stepStart stepNew seek placeFor check frameCheck parsed streamOf sameStream subscribed react reactIf restarts proceed proceedIf over takes takeLong takeEnd closing sound streamFits sessionFits idOf sent carrying carried pieces checksum crcOver crcByte shifts shift leBytes
 size-case =
-    let o = opening 5 (omega arith) (carried 0x0123456789ABCDEF long) in
-    (record { premises = refl; fits = refl; brings = brought (sent 0x0123456789ABCDEF 5 long) (framed (o .bytes) (tailByte true (o .last) false 5)) (o .rest) (o .is) }, refl)
+    let o = opening 5 (omega arith) (carried agreed long) in
+    (record { premises = refl; fits = refl; brings = brought (sent agreed 5 long) (framed (o .bytes) (tailByte true (o .last) false 5)) (o .rest) (o .is) }, refl)
 
 pub why-premises : WhyPremises
 unfolding crowd sound streamFits sessionFits framesWith answersTo upTo step stepChecked stepAnonymous stepSeek stepStart stepNew seek placeFor check frameCheck parsed streamOf sameStream subscribed react reactIf restarts proceed proceedIf over takes takeLong takeEnd closing idOf sent carrying carried pieces checksum crcOver crcByte shifts shift leBytes
@@ -122,7 +122,7 @@ why-premises =
       same = (refl, refl, refl, refl, refl);
       named = (refl, named, refl);
       size = size-case;
-      fields = (record { premises = refl; fits = refl; brings = brought (sent 0x0123456789ABCDEF 69 payload) _ _ refl }, refl, refl);
+      fields = (record { premises = refl; fits = refl; brings = brought (sent agreed 69 payload) _ _ refl }, refl, refl);
       subscribed = (record { premises = refl; fits = refl; brings = brought (sent 7 5 payload) _ _ refl }, refl);
       seconds = (refl, next 10000000 (omega arith) (next 10100000 (omega arith) (next 12000001 (omega arith) done)), refl);
       order = (refl, refl, refl, refl);

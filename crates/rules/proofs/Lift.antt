@@ -122,19 +122,21 @@ module _ (u : Setup) (M : Machine) where
         room-is : roomy M d (front M d k x) ≡ roomy (rulesTable u) d seen
         room-is = roomy-is d (front M d k x) ∙ ap (roomy (rulesTable u) d) front-is
 
-        table-is : never M 9 (answersTo M (startOf d) (M .after (x .state) (x .start)) (front M d k x))
-            ≡ never (rulesTable u) 9 (answersTo (rulesTable u) (startOf d) (step u (v .places (x .state)) (M .reception (x .start)) .places) seen)
-        table-is =
+        -- of the answers to the frames after the start that pass a test
+        never-is : (n : ℕ) (t : Frame → Bool) → never M n (answersTo M t (M .after (x .state) (x .start)) (front M d k x))
+            ≡ never (rulesTable u) n (answersTo (rulesTable u) t (step u (v .places (x .state)) (M .reception (x .start)) .places) seen)
+        never-is n t =
             let s = M .after (x .state) (x .start) in
-            ap (never M 9) (answers-are (startOf d) s (front M d k x) (v .stays (x .state) (x .start) p (h .0)) (typed-upto (ofStream d) (x .list) k (h .1)))
-            ∙ never-map 9 (answersTo (rulesTable u) (startOf d) (v .places s) (map (M .reception) (front M d k x)))
-            ∙ ap₂ (λ (ps : Places) (l : List Reception). never (rulesTable u) 9 (answersTo (rulesTable u) (startOf d) ps l)) (v .moves (x .state) (x .start) p (h .0)) front-is
+            ap (never M n) (answers-are t s (front M d k x) (v .stays (x .state) (x .start) p (h .0)) (typed-upto (ofStream d) (x .list) k (h .1)))
+            ∙ never-map n (answersTo (rulesTable u) t (v .places s) (map (M .reception) (front M d k x)))
+            ∙ ap₂ (λ (ps : Places) (l : List Reception). never (rulesTable u) n (answersTo (rulesTable u) t ps l))
+            (v .moves (x .state) (x .start) p (h .0)) front-is
 
         while-is : While M d k x → While (rulesTable u) d k (viewOf x)
-        while-is w = record { time = sym time-is ∙ w .time; room = sym room-is ∙ w .room; table = sym table-is ∙ w .table }
+        while-is w = record { time = sym time-is ∙ w .time; room = sym room-is ∙ w .room; table = sym (never-is 9 (startOf d)) ∙ w .table }
 
         pub while-back : While (rulesTable u) d k (viewOf x) → While M d k x
-        while-back w = record { time = time-is ∙ w .time; room = room-is ∙ w .room; table = table-is ∙ w .table }
+        while-back w = record { time = time-is ∙ w .time; room = room-is ∙ w .room; table = never-is 9 (startOf d) ∙ w .table }
 
     -- ── two ──
 

@@ -1,5 +1,5 @@
--- Condition 3, stated once over any receiver that takes calls and answers: damage on a stream ends at its next start. The rules' table is a receiver by
--- definition (below), the bytes lent to `receive` are another (crate guarantees).
+-- Condition 3, stated once over any machine that takes calls and answers: damage on a stream ends at its next start. The rules' table is such a machine
+-- (at the end), and so are the bytes lent to `receive` (crate guarantees).
 use mathlib.Core.Path.{_≡_}
 use mathlib.Core.Bool.{Bool, true, false, not, _&&_}
 use mathlib.Core.List.{List, [], _∷_}

@@ -2,13 +2,13 @@
 -- stream's frames, the start's first, or by what is handed out.
 use mathlib.Core.Path.{_≡_}
 use mathlib.Core.Bool.{Bool, true, false}
-use mathlib.Core.List.{List, [], _∷_, _++_, map}
+use mathlib.Core.List.{List, [], _∷_, map}
 use Prim.Native.Nat.{ℕ, _+_}
 use lib.Dec.{ltb, leb, eqb}
 use lib.ListN.{length, getD, take, drop, set, replicate}
 use Rattle.rules.specs.Answer.{Answer, handed, numberOf}
 use Rattle.rules.specs.Check.{Reception}
-use Rattle.rules.specs.Condition3.{startOf, answersTo, Receiver, startFrame, frames, answers, tookStart, Premises, forward, roomy, never, front, While, Brings, Transfer, handouts, rulesTable}
+use Rattle.rules.specs.Condition3.{startOf, answersTo, Receiver, frames, answers, tookStart, Premises, forward, roomy, never, front, While, Brings, Transfer, handouts, rulesTable}
 use Rattle.rules.specs.Example.{setup, stream, payload, one, two, three, frame, received, other, start, crowd}
 use Rattle.rules.specs.Frame.{Frame, Stream}
 use Rattle.rules.specs.Limits.{payloadMax, oldAge}
@@ -34,8 +34,8 @@ oneFree since = empty ∷ crowd since 31
 abbrev pub numbers : Stream → Heard → List ℕ
 numbers d x = map numberOf (answers (rulesTable setup) d x)
 
-abbrev pub handed-out : Heard → List Answer
-handed-out x = handouts (rulesTable setup) (answers (rulesTable setup) stream x)
+abbrev pub handedOut : Heard → List Answer
+handedOut x = handouts (rulesTable setup) (answers (rulesTable setup) stream x)
 
 -- ── the premises, as tests ──
 
@@ -67,10 +67,14 @@ Together x y = x .start .frame ≡ y .start .frame
 abbrev pub Same : Stream → Heard → Heard → Type 0
 Same d x y = frames (rulesTable setup) d x ≡ frames (rulesTable setup) d y
 
+-- the signature that the setup has for the stream
+abbrev pub agreed : ℕ
+agreed = 0x0123456789ABCDEF
+
 -- what is asked of a transfer, with priority 16: its size, its transfer ID, the subscribed signature, and that the stream brings it
 pub record Sent (x : Heard) (signature t : ℕ) (p : List ℕ) (found : List Bool) : Type 0 where
   pub premises : tests stream x ≡ all
-  pub fits : leb (length p) payloadMax ∷ ltb t 32 ∷ eqb signature 0x0123456789ABCDEF ∷ [] ≡ found
+  pub fits : leb (length p) payloadMax ∷ ltb t 32 ∷ eqb signature agreed ∷ [] ≡ found
   pub brings : Brings (idOf stream 16) (x .start .frame .time + oldAge) (sent signature t p) (x .start .frame ∷ frames (rulesTable setup) stream x)
 
 -- these tests are all of the premises
@@ -164,7 +168,7 @@ long = replicate 513 0
 
 -- The transfer ID 69 does not fit the tail byte: its bit 64 says that the start is the end too.
 abbrev pub wide : Heard
-wide = hearing (sent 0x0123456789ABCDEF 69 payload)
+wide = hearing (sent agreed 69 payload)
 
 -- the checksum is made under another signature
 abbrev pub strange : Heard
@@ -192,10 +196,10 @@ outOfOrder = four (received two 10100000 ∷ received third 10200000 ∷ receive
 
 -- ── the facts ──
 
--- two receivers that meet all but the premise n of the second, which then answers otherwise
-pub record Alone (x y : Heard) (expected found : List Bool) (a b : List ℕ) : Type 0 where
-  pub first : tests stream x ≡ expected
-  pub second : tests stream y ≡ found
+-- two receivers with the same frames: what each meets, and the numbers they answer
+pub record Differ (x y : Heard) (meets meets' : List Bool) (a b : List ℕ) : Type 0 where
+  pub first : tests stream x ≡ meets
+  pub second : tests stream y ≡ meets'
   pub together : Together x y
   pub same : Same stream x y
   pub answers : (numbers stream x ≡ a) × (numbers stream y ≡ b)
@@ -203,12 +207,12 @@ pub record Alone (x y : Heard) (expected found : List Bool) (a b : List ℕ) : T
 pub record WhyPremises : Type 0 where
   pub complete : Tests
   -- alike
-  pub pasts : Alone single double all (but 0) (0 ∷ 10 ∷ []) (0 ∷ 0 ∷ [])
-  pub start : Alone intact damaged (but 2) (but 2) (0 ∷ 1 ∷ []) (0 ∷ 12 ∷ [])
-  pub take : Alone steady ahead all (but 3) (0 ∷ 0 ∷ 1 ∷ []) (10 ∷ 10 ∷ 10 ∷ [])
-  pub time : Alone steady back all (but 4) (0 ∷ 0 ∷ 1 ∷ []) (0 ∷ 10 ∷ 10 ∷ [])
-  pub room : Alone steady short all (but 5) (0 ∷ 0 ∷ 1 ∷ []) (0 ∷ 8 ∷ 10 ∷ [])
-  pub table : Alone roomLeft noneLeft all (but 6) (0 ∷ 0 ∷ []) (0 ∷ 9 ∷ [])
+  pub pasts : Differ single double all (but 0) (0 ∷ 10 ∷ []) (0 ∷ 0 ∷ [])
+  pub start : Differ intact damaged (but 2) (but 2) (0 ∷ 1 ∷ []) (0 ∷ 12 ∷ [])
+  pub take : Differ steady ahead all (but 3) (0 ∷ 0 ∷ 1 ∷ []) (10 ∷ 10 ∷ 10 ∷ [])
+  pub time : Differ steady back all (but 4) (0 ∷ 0 ∷ 1 ∷ []) (0 ∷ 10 ∷ 10 ∷ [])
+  pub room : Differ steady short all (but 5) (0 ∷ 0 ∷ 1 ∷ []) (0 ∷ 8 ∷ 10 ∷ [])
+  pub table : Differ roomLeft noneLeft all (but 6) (0 ∷ 0 ∷ []) (0 ∷ 9 ∷ [])
   pub together : (tests stream late ≡ all) × (tests stream later ≡ all) × Same stream late later
       × (numbers stream late ≡ 0 ∷ 0 ∷ 1 ∷ []) × (numbers stream later ≡ 0 ∷ 0 ∷ 10 ∷ [])
   pub same : (tests stream steady ≡ all) × (tests stream lacking ≡ all) × Together steady lacking
@@ -216,15 +220,15 @@ pub record WhyPremises : Type 0 where
   -- delivered
   pub named : (tests unnamed twice ≡ but 1) × Transfer setup unnamed (twice .start .frame) (frames (rulesTable setup) unnamed twice) 16 0 (1 ∷ [])
       × (numbers unnamed twice ≡ 1 ∷ 1 ∷ [])
-  pub size : Sent (hearing (sent 0x0123456789ABCDEF 5 long)) 0x0123456789ABCDEF 5 long (false ∷ true ∷ true ∷ [])
-      × (handed-out (hearing (sent 0x0123456789ABCDEF 5 long)) ≡ [])
+  pub size : Sent (hearing (sent agreed 5 long)) agreed 5 long (false ∷ true ∷ true ∷ [])
+      × (handedOut (hearing (sent agreed 5 long)) ≡ [])
   -- A priority of 32 or more breaks the premise on the start as well: its ID is none of the stream.
-  pub fields : Sent wide 0x0123456789ABCDEF 69 payload (true ∷ false ∷ true ∷ []) × (handed-out wide ≡ handed seven stream 16 5 ∷ [])
+  pub fields : Sent wide agreed 69 payload (true ∷ false ∷ true ∷ []) × (handedOut wide ≡ handed seven stream 16 5 ∷ [])
       × (startOf stream (frameAt (idOf stream 32) one 10000000) ≡ false)
   pub subscribed : Sent strange 7 5 payload (true ∷ true ∷ false ∷ []) × (numbers stream strange ≡ 0 ∷ 0 ∷ 12 ∷ [])
   -- in time with a microsecond more
   pub seconds : (tests stream tooLate ≡ all)
-      × Brings (idOf stream 16) (10000000 + oldAge + 1) (sent 0x0123456789ABCDEF 5 payload) (tooLate .start .frame ∷ frames (rulesTable setup) stream tooLate)
+      × Brings (idOf stream 16) (10000000 + oldAge + 1) (sent agreed 5 payload) (tooLate .start .frame ∷ frames (rulesTable setup) stream tooLate)
       × (numbers stream tooLate ≡ 0 ∷ 0 ∷ 10 ∷ [])
   pub order : (tests stream inOrder ≡ all) × (tests stream outOfOrder ≡ all)
       × (numbers stream inOrder ≡ 0 ∷ 0 ∷ 10 ∷ 0 ∷ 1 ∷ []) × (numbers stream outOfOrder ≡ 0 ∷ 0 ∷ 0 ∷ 0 ∷ 10 ∷ [])
