@@ -20,7 +20,7 @@ use Rattle.rules.specs.Session.{restarts, over, closing, takeEnd, takeLo
 use Rattle.rules.specs.Setup.{subscribed, signatureFor}
 use Rattle.rules.specs.Sound.{streamFits, sessionFits, sound}
 use Rattle.rules.specs.Table.{seek, placeFor}
-use Rattle.rules.specs.WhyPremises.{tests, all, agreed, Sent, Tests, unnamed, twice, hearing, long, handedOut, WhyPremises}
+use Rattle.rules.specs.WhyPremises.{tests, all, agreed, Sent, Tests, unnamed, twice, hearing, long, degrees, inOrder, handedOut, WhyPremises}
 use Rattle.rules.proofs.Arrivals.{opening, frames-each, brings-each}
 use Rattle.rules.proofs.Lift.{free}
 use Rattle.rules.proofs.Theorem.{theorem}
@@ -125,9 +125,14 @@ why-premises =
       fields = (record { premises = refl; fits = refl; brings = brought (sent agreed 69 payload) _ _ refl }, refl, refl);
       subscribed = (record { premises = refl; fits = refl; brings = brought (sent 7 5 payload) _ _ refl }, refl);
       seconds = (refl, next 10000000 (omega arith) (next 10100000 (omega arith) (next 12000001 (omega arith) done)), refl);
-      order = (refl, refl, refl, refl);
+      order = (record { premises = refl; fits = refl; brings = in-order }, refl, refl, refl);
     }
   where
+    in-order : Brings (idOf stream 16) (10000000 + 2000000) (sent agreed 5 degrees) (inOrder .start .frame ∷ frames (rulesTable setup) stream inOrder)
+    in-order =
+        next 10000000 (omega arith)
+        (again 10100000 (omega arith) (next 10200000 (omega arith) (next 10300000 (omega arith) (next 10400000 (omega arith) done))))
+
     named : Transfer setup unnamed (twice .start .frame) (frames (rulesTable setup) unnamed twice) 16 0 (1 ∷ [])
     named =
         record {

@@ -2,7 +2,7 @@
 -- stream's frames, the start's first, or by what is handed out.
 use mathlib.Core.Path.{_≡_}
 use mathlib.Core.Bool.{Bool, true, false}
-use mathlib.Core.List.{List, [], _∷_, map}
+use mathlib.Core.List.{List, [], _∷_, _++_, map}
 use Prim.Native.Nat.{ℕ, _+_}
 use lib.Dec.{ltb, leb, eqb}
 use lib.ListN.{length, getD, take, drop, set, replicate}
@@ -182,6 +182,9 @@ tooLate = receiver begun (received two 10100000 ∷ received three 12000001 ∷ 
 abbrev pub four : List Reception → Heard
 four = opened (frame (0x3F ∷ 0x13 ∷ 0x00 ∷ 0x00 ∷ 0x34 ∷ 0x42 ∷ 0x70 ∷ 0x85 ∷ []) 10000000) begun
 
+abbrev pub degrees : List ℕ
+degrees = payload ++ (0x5F ∷ 0x64 ∷ 0x65 ∷ 0x67 ∷ 0x72 ∷ 0x65 ∷ 0x65 ∷ [])
+
 abbrev pub third : List ℕ
 third = 0x65 ∷ 0x5F ∷ 0x64 ∷ 0x65 ∷ 0x67 ∷ 0x72 ∷ 0x65 ∷ 0x05 ∷ []
 
@@ -230,5 +233,5 @@ pub record WhyPremises : Type 0 where
   pub seconds : (tests stream tooLate ≡ all)
       × Brings (idOf stream 16) (10000000 + oldAge + 1) (sent agreed 5 payload) (tooLate .start .frame ∷ frames (rulesTable setup) stream tooLate)
       × (numbers stream tooLate ≡ 0 ∷ 0 ∷ 10 ∷ [])
-  pub order : (tests stream inOrder ≡ all) × (tests stream outOfOrder ≡ all)
+  pub order : Sent inOrder agreed 5 degrees (true ∷ true ∷ true ∷ []) × (tests stream outOfOrder ≡ all)
       × (numbers stream inOrder ≡ 0 ∷ 0 ∷ 10 ∷ 0 ∷ 1 ∷ []) × (numbers stream outOfOrder ≡ 0 ∷ 0 ∷ 0 ∷ 0 ∷ 10 ∷ [])
