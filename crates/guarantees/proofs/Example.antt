@@ -1,39 +1,41 @@
 -- The example: its tables stand in lent bytes, and its premises come over from those of the rules.
 use mathlib.Core.Path.{_≡_, refl, sym, ap, ap₂, subst, _∙_}
 use mathlib.Core.Bool.{Bool, true, _&&_}
-use mathlib.Core.List.{List, [], _∷_, _++_, append-nil}
-use Prim.Native.Nat.{ℕ, zero, suc, _-_, _^_, _<_}
+use mathlib.Core.List.{List, [], _∷_, append-nil, map}
+use Prim.Native.Nat.{ℕ, _^_}
 use native.Mathlib.Omega.{arith}
 use borrow.Author.Tests.{ltb-true}
 use lib.Dec.{ltb}
-use lib.ListN.{length, replicate, length-replicate}
-use Rattle.bits.proofs.Octets.{octets-append, octets-leBytes}
-use Rattle.bits.specs.Little.{le, leBytes}
+use lib.ListN.{replicate, length-replicate}
+use Rattle.bits.specs.Little.{le}
 use Rattle.bits.specs.Order.{Octets}
 use Rattle.bits.specs.Tabulate.{tabulate}
-use Rattle.guarantees.specs.Condition3.{took, startResult, framesOf, LentPremises, LentWhile}
-use Rattle.guarantees.specs.Example.{callsOf, lentOf, lentSpacious, lentCrowded, LentExample}
+use Rattle.guarantees.specs.Condition3.{Lent, lentBytes}
+use Rattle.guarantees.specs.Example.{records, callOf, lentOf, lentSpacious, lentCrowded, LentExample}
 use Rattle.guarantees.specs.Received.{Typed}
 use Rattle.guarantees.specs.Run.{receptions, AllTyped}
 use Rattle.guarantees.specs.Written.{AllWritable, Stands}
-use Rattle.guarantees.proofs.Condition3.{viewOf, Lends, start-took, front-is, table-is, lent-theorem}
+use Rattle.guarantees.proofs.Condition3.{view, lent-theorem}
+use Rattle.guarantees.proofs.FromSetup.{octets-zeros, octets-state}
 use Rattle.guarantees.proofs.Received.{table-law}
 use Rattle.rules.proofs.Examples.{example}
+use Rattle.rules.proofs.Lift.{viewOf, frames-are, while-back, premises-back}
 use Rattle.rules.specs.Check.{Reception, parsed, frameCheck, check}
-use Rattle.rules.specs.Condition3 as ruled
+use Rattle.rules.specs.Condition3.{ofStream, Receiver, frames, Premises, While, Transfer, rulesTable}
 use Rattle.rules.specs.Example.{setup, stream, payload, start, crowd, spacious, crowded}
-use Rattle.rules.specs.Frame.{Frame, Stream, sameStream, streamOf}
+use Rattle.rules.specs.Frame.{Frame, sameStream, streamOf}
 use Rattle.rules.specs.Reception.{stepNew, stepStart, stepSeek, stepAnonymous, stepChecked, step, after}
 use Rattle.rules.specs.Session.{restarts, over, closing, takeEnd, takeLong, takes, proceedIf, proceed, reactIf, react}
-use Rattle.rules.specs.Setup.{Subscription, Setup, subscribed, acceptable}
+use Rattle.rules.specs.Setup.{subscribed, acceptable}
 use Rattle.rules.specs.Sound.{streamFits, sessionFits, sound}
 use Rattle.rules.specs.Table.{empty, held, Places, seek, placeFor}
 use Rattle.setup.proofs.Fresh.{fresh}
 use Rattle.setup.specs.Laws.{Fresh}
-use Rattle.setup.specs.Setup.{recordAt, given, accepted, signatures, keys, filled, stateOf}
+use Rattle.setup.specs.Setup.{recordAt, given, accepted, stateOf, afterSetup}
+use Rattle.setup.specs.declared.Outcome.the-variants.{Done}
+use Rattle.state.specs.Layout.{size}
 use Rattle.state.proofs.Bools.{and-left, and-right}
-use Rattle.state.specs.Layout.{setupOf}
-use Rattle.state.specs.Sound.{soundState}
+use Rattle.state.specs.Place.{written}
 
 -- ── ranges, by tests that compute ──
 
@@ -61,7 +63,7 @@ listTest : List Reception → Bool
 listTest [] = true
 listTest (r ∷ rs) = frameTest (r .frame) && listTest rs
 
-tested-list : (rs : List Reception) → listTest rs ≡ true → AllTyped (callsOf rs)
+tested-list : (rs : List Reception) → listTest rs ≡ true → AllTyped (map callOf rs)
 unfolding listTest
 tested-list [] e = tt
 tested-list (r ∷ rs) e = (tested-frame (r .frame) (and-left (frameTest (r .frame)) (listTest rs) e), tested-list rs (and-right (frameTest (r .frame)) (listTest rs) e))
@@ -83,92 +85,41 @@ tested-table (held d s ∷ ps) e =
 
 -- ── a receiver of the rules, lent ──
 
-receptions-back : (rs : List Reception) → receptions (callsOf rs) ≡ rs
+receptions-back : (rs : List Reception) → receptions (map callOf rs) ≡ rs
 receptions-back [] = refl
 receptions-back (r ∷ rs) =
     let n = length-replicate {A = ℕ} (r .room) 0 in
     ap₂ (λ (k : ℕ) (l : List Reception). record { frame = r .frame; room = k } ∷ l) n (receptions-back rs)
 
-record Lendable (u : Setup) (m : List ℕ) (f : Frame) (x : ruled.Receiver) : Type 0 where
-  setup : setupOf m ≡ u
-  state : soundState m ≡ true
-  bytes : Octets m
-  start : Typed f
-  table : sound (x .places) ≡ true
-  writable : AllWritable (x .places)
-  typed : AllTyped (callsOf (x .list))
+record Lendable (m : List ℕ) (x : Receiver (rulesTable setup)) : Type 0 where
+  state : Lent setup m
+  table : sound (x .state) ≡ true
+  writable : AllWritable (x .state)
+  typed : AllTyped (callOf (x .start) ∷ map callOf (x .list))
 
-module _ (u : Setup) (m : List ℕ) (d : Stream) (f : Frame) (x : ruled.Receiver) (h : Lendable u m f x) where
-  stands : Stands m (x .places)
-  stands = table-law m (x .places) (h .state) (h .bytes) (h .table) (h .writable)
+module _ (m : List ℕ) (x : Receiver (rulesTable setup)) (h : Lendable m x) where
+  stands : Stands m (x .state)
+  stands = table-law m (x .state) (h .state .sound) (h .state .bytes) (h .table) (h .writable)
 
-  lends : Lends u f (lentOf m x)
-  lends = record { setup = stands .setup ∙ h .setup; sound = stands .sound; bytes = stands .bytes; start = h .start; calls = h .typed }
+  lends : Lent setup (written m 0 (x .state))
+  lends = record { setup = stands .setup ∙ h .state .setup; sound = stands .sound; bytes = stands .bytes }
 
-  view-back : viewOf (lentOf m x) ≡ x
+  view-back : viewOf setup (lentBytes setup) (view setup) (lentOf m x) ≡ x
+  unfolding view
   view-back =
       let p = stands .places in
-      let n = length-replicate {A = ℕ} (x .room) 0 in
+      let n = length-replicate {A = ℕ} (x .start .room) 0 in
       let l = receptions-back (x .list) in
-      λ i. record { places = p i; room = n i; list = l i }
+      λ i. record { state = p i; start = record { frame = x .start .frame; room = n i }; list = l i }
 
-  frames-back : framesOf d (lentOf m x) ≡ ruled.frames d x
-  frames-back = ap (ruled.frames d) view-back
+  frames-back : frames (lentBytes setup) stream (lentOf m x) ≡ frames (rulesTable setup) stream x
+  frames-back = frames-are setup (lentBytes setup) (ofStream stream) (map callOf (x .list)) ∙ ap (frames (rulesTable setup) stream) view-back
 
-  took-back : ruled.took (ruled.started u f x .answer) ≡ true → took (startResult f (lentOf m x) .answer) ≡ true
-  took-back t = start-took u d f (lentOf m x) lends ∙ ap (λ y. ruled.took (ruled.started u f y .answer)) view-back ∙ t
-
-  while-back : (k : ℕ) → ruled.While u d f k x → LentWhile d f k (lentOf m x)
-  while-back k w =
-      let v : ruled.While u d f k (viewOf (lentOf m x)) = subst (ruled.While u d f k) (sym view-back) w in
-      let e = front-is u d f (lentOf m x) lends k in
-      record {
-        time = ap (ruled.forward (f .time)) e ∙ v .time;
-        room = ap (ruled.roomy d) e ∙ v .room;
-        table = table-is u d f (lentOf m x) lends k ∙ v .table;
-      }
+  while-lent : (k : ℕ) → While (rulesTable setup) stream k x → While (lentBytes setup) stream k (lentOf m x)
+  while-lent k w =
+      while-back setup (lentBytes setup) (view setup) stream (lentOf m x) lends (h .typed) k (subst (While (rulesTable setup) stream k) (sym view-back) w)
 
 -- ── the state that was set up ──
-
-octets-zeros : (n : ℕ) → Octets (replicate n 0)
-octets-zeros zero = tt
-octets-zeros (suc n) = (omega arith, octets-zeros n)
-
-octets-signatures : (l : List Subscription) → Octets (signatures l)
-unfolding signatures
-octets-signatures [] = tt
-octets-signatures (a ∷ l) = octets-append (leBytes 8 (a .signature)) (signatures l) (octets-leBytes 8 (a .signature)) (octets-signatures l)
-
-octets-keys : (l : List Subscription) → Octets (keys l)
-unfolding keys
-octets-keys [] = tt
-octets-keys (a ∷ l) = octets-append (leBytes 4 _) (keys l) (octets-leBytes 4 _) (octets-keys l)
-
-octets-filled : (n : ℕ) (xs rest : List ℕ) → Octets xs → Octets rest → Octets (filled n xs ++ rest)
-octets-filled n xs rest h k = octets-append (filled n xs) rest (octets-append xs (replicate (n - length xs) 0) h (octets-zeros (n - length xs))) k
-
-octets-state : (u : Setup) → u .own < 256 → length (u .subscriptions) < 256 → Octets (stateOf u)
-unfolding stateOf
-octets-state u a b =
-    let s = u .subscriptions in
-    let ks : List ℕ = filled 256 (keys s) ++ replicate 16704 0 in
-    let gap : List ℕ = replicate 256 0 ++ ks in
-    let ss : List ℕ = filled 512 (signatures s) ++ gap in (
-      a,
-      (
-        b,
-        octets-append (replicate 6 0) ss (octets-zeros 6)
-            (octets-filled 512 (signatures s) gap (octets-signatures s)
-            (octets-append (replicate 256 0) ks (octets-zeros 256) (octets-filled 256 (keys s) (replicate 16704 0) (octets-keys s) (octets-zeros 16704)))),
-      ),
-    )
-
--- the example's subscriptions as records
-records : List ℕ
-records =
-    0 ∷ 1 ∷ 0 ∷ 0 ∷ 0 ∷ 7 ∷ 0 ∷ 0 ∷ 0 ∷ 0 ∷ 0 ∷ 0 ∷ 0 ∷
-    0 ∷ 0x55 ∷ 0x01 ∷ 0 ∷ 0 ∷ 0 ∷ 0 ∷ 0 ∷ 0 ∷ 0 ∷ 0 ∷ 0 ∷ 0x80 ∷
-    0 ∷ 0xF2 ∷ 0x3F ∷ 0 ∷ 0 ∷ 0xEF ∷ 0xCD ∷ 0xAB ∷ 0x89 ∷ 0x67 ∷ 0x45 ∷ 0x23 ∷ 0x01 ∷ []
 
 given-is : given 1 records ≡ setup
 unfolding given recordAt records le tabulate
@@ -182,6 +133,10 @@ records-bytes : bytesTest records ≡ true
 unfolding bytesTest records
 records-bytes = refl
 
+done-is : afterSetup (replicate size 0) 1 records .answer ≡ Done
+unfolding afterSetup
+done-is = rw accepted-is
+
 begun-state : Fresh setup (stateOf setup)
 begun-state =
     subst (λ u. Fresh u (stateOf u)) given-is
@@ -193,51 +148,41 @@ start-test : frameTest start ≡ true
 unfolding frameTest inRange bytesTest
 start-test = refl
 
-spacious-tests : (sound (spacious .places) ≡ true) × ((tableTest (spacious .places) ≡ true) × (listTest (spacious .list) ≡ true))
+spacious-tests : (sound (spacious .state) ≡ true) × ((tableTest (spacious .state) ≡ true) × (listTest (spacious .list) ≡ true))
 unfolding sound streamFits sessionFits after step stepChecked stepAnonymous stepSeek stepStart stepNew seek placeFor check frameCheck parsed streamOf sameStream subscribed react reactIf restarts proceed proceedIf over takes takeLong takeEnd closing tableTest listTest frameTest inRange bytesTest
 spacious-tests = (refl, (refl, refl))
 
-crowded-tests : (sound (crowded .places) ≡ true) × ((tableTest (crowded .places) ≡ true) × (listTest (crowded .list) ≡ true))
+crowded-tests : (sound (crowded .state) ≡ true) × ((tableTest (crowded .state) ≡ true) × (listTest (crowded .list) ≡ true))
 unfolding crowd sound streamFits sessionFits sameStream tableTest listTest frameTest inRange bytesTest
 crowded-tests = (refl, (refl, refl))
 
-lendable : (x : ruled.Receiver) → (sound (x .places) ≡ true) × ((tableTest (x .places) ≡ true) × (listTest (x .list) ≡ true)) → Lendable setup (stateOf setup) start x
-lendable x t =
+lendable : (x : Receiver (rulesTable setup)) → x .start .frame ≡ start → (sound (x .state) ≡ true) × ((tableTest (x .state) ≡ true) × (listTest (x .list) ≡ true))
+    → Lendable (stateOf setup) x
+lendable x e t =
     record {
-      setup = begun-state .setup;
-      state = begun-state .sound;
-      bytes = octets-state setup (omega arith) (omega arith);
-      start = tested-frame start start-test;
+      state = record { setup = begun-state .setup; sound = begun-state .sound; bytes = octets-state setup (omega arith) (omega arith) };
       table = t .0;
-      writable = tested-table (x .places) (t .1 .0);
-      typed = tested-list (x .list) (t .1 .1);
+      writable = tested-table (x .state) (t .1 .0);
+      typed = (subst Typed (sym e) (tested-frame start start-test), tested-list (x .list) (t .1 .1));
     }
 
-module _ (m : List ℕ) (x y : ruled.Receiver) (a : Lendable setup m start x) (b : Lendable setup m start y) where
-  lent-premises : ruled.Premises setup stream start x y → LentPremises stream start (lentOf m x) (lentOf m y)
+module _ (m : List ℕ) (x y : Receiver (rulesTable setup)) (a : Lendable m x) (b : Lendable m y) where
+  lent-premises : Premises (rulesTable setup) stream x y → Premises (lentBytes setup) stream (lentOf m x) (lentOf m y)
   lent-premises p =
-      let s = stands setup m stream start x a in
-      let t = stands setup m stream start y b in
-      record {
-        setup = s .setup ∙ sym (t .setup);
-        sound = (s .sound, t .sound);
-        bytes = (s .bytes, t .bytes);
-        typed = (a .start, (a .typed, b .typed));
-        named = p .named;
-        start = p .start;
-        take = (took-back setup m stream start x a (p .take .0), took-back setup m stream start y b (p .take .1));
-        same = frames-back setup m stream start x a ∙ p .same ∙ sym (frames-back setup m stream start y b);
-      }
+      premises-back setup (lentBytes setup) (view setup) stream (lentOf m x) (lentOf m y) (lends m x a, lends m y b) (a .typed, b .typed)
+      (subst (λ z. Premises (rulesTable setup) stream z (viewOf setup (lentBytes setup) (view setup) (lentOf m y))) (sym (view-back m x a))
+      (subst (Premises (rulesTable setup) stream x) (sym (view-back m y b)) p))
 
 pub lent-example : LentExample
 lent-example =
     let m = stateOf setup in
-    let a = lendable spacious spacious-tests in
-    let b = lendable crowded crowded-tests in
+    let a = lendable spacious refl spacious-tests in
+    let b = lendable crowded refl crowded-tests in
     let premises = lent-premises m spacious crowded a b (example .premises) in
     record {
       premises = premises;
-      whiles = (while-back setup m stream start spacious a 5 (example .whiles .0), while-back setup m stream start crowded b 5 (example .whiles .1));
-      transfer = subst (λ fs. ruled.Transfer setup stream start fs 16 5 payload) (sym (frames-back setup m stream start spacious a)) (example .transfer);
-      claim = lent-theorem stream start lentSpacious lentCrowded premises;
+      whiles = (while-lent m spacious a 5 (example .whiles .0), while-lent m crowded b 5 (example .whiles .1));
+      transfer = subst (λ fs. Transfer setup stream start fs 16 5 payload) (sym (frames-back m spacious a)) (example .transfer);
+      claim = lent-theorem setup stream lentSpacious lentCrowded premises;
+      setUp = (record { bytes = octets-zeros size; records = tested-bytes records records-bytes; done = done-is }, given-is);
     }

@@ -3,3 +3,4 @@ mod Received
 mod Run
 mod Condition3
 mod Example
+mod FromSetup

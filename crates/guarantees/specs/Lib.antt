@@ -2,4 +2,5 @@ pub mod Written
 pub mod Received
 pub mod Run
 pub mod Condition3
+pub mod FromSetup
 pub mod Example

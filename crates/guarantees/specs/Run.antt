@@ -8,6 +8,7 @@ use Rattle.bits.specs.Order.{Octets}
 use Rattle.guarantees.specs.Received.{Typed}
 use Rattle.rules.specs.Answer as rules
 use Rattle.rules.specs.Check.{Reception}
+use Rattle.rules.specs.Condition3.{All}
 use Rattle.rules.specs.Frame.{Frame}
 use Rattle.rules.specs.Reception.{run, after}
 use Rattle.receiver.specs.Receive.{Result, arriving, received}
@@ -33,13 +34,14 @@ left m [] = m
 left m (c ∷ cs) = left (resultOf m c .state) cs
 
 -- the same calls to the rules
+abbrev pub receptionOf : Call → Reception
+receptionOf c = arriving (c .frame) (c .out)
+
 abbrev pub receptions : List Call → List Reception
-receptions [] = []
-receptions (c ∷ cs) = arriving (c .frame) (c .out) ∷ receptions cs
+receptions = map receptionOf
 
 abbrev pub AllTyped : List Call → Type 0
-AllTyped [] = Unit {0}
-AllTyped (c ∷ cs) = Typed (c .frame) × AllTyped cs
+AllTyped = All (λ c. Typed (c .frame))
 
 -- ── what the caller reads ──
 

@@ -1,9 +1,11 @@
 // What `receiver::receive` makes of a lent state, as theorems about its contract. The functions here have no body: each one's contract is a theorem.
-ghost use Rattle.guarantees.specs.Condition3.{Condition3Lent};
+ghost use Rattle.guarantees.specs.Condition3.{lentBytes};
 ghost use Rattle.guarantees.specs.Example.{LentExample};
+ghost use Rattle.guarantees.specs.FromSetup.{FromSetup};
 ghost use Rattle.guarantees.specs.Received.{ViewLaw, SoundLaw};
 ghost use Rattle.guarantees.specs.Run.{RunLaw};
 ghost use Rattle.guarantees.specs.Written.{TableLaw};
+ghost use Rattle.rules.specs.Condition3.{Condition3};
 
 // Every table without a fault, with times and data in range, is that of a lent state.
 pub fn tables_held()
@@ -25,12 +27,17 @@ pub fn run_by_view()
     ensures { λ _. ⌜ RunLaw ⌝ }
 {}
 
-// Condition 3 of 00, over lent states.
+// Condition 3, of lent bytes.
 pub fn condition3_lent()
-    ensures { λ _. ⌜ Condition3Lent ⌝ }
+    ensures { λ _. ⌜ Condition3 lentBytes ⌝ }
 {}
 
 // A case that meets its premises, with the theorem applied.
 pub fn condition3_lent_example()
     ensures { λ _. ⌜ LentExample ⌝ }
+{}
+
+// From a call of setup to lists of calls: condition 3 among what holds of them.
+pub fn setup_then_calls()
+    ensures { λ _. ⌜ FromSetup ⌝ }
 {}

@@ -1,7 +1,7 @@
--- The frames of a payload at a receiver that they are for: the start passes the checks and is sorted, and at one time they are all that the stream brings.
-use mathlib.Core.Path.{_≡_, refl, sym, ap, _∙_}
+-- The frames of a payload at a receiver that they are for: the start passes the checks and is sorted, and no other is a start.
+use mathlib.Core.Path.{_≡_, refl, sym, ap, _∙_, subst}
 use mathlib.Core.Bool.{Bool, true, false, true≢false, not, _&&_, _||_}
-use mathlib.Core.List.{List, [], _∷_, _++_, map}
+use mathlib.Core.List.{List, [], _∷_, _++_, map, nil≢cons, cons≢nil, head-eq-of-cons-eq, tail-eq-of-cons-eq}
 use mathlib.Core.Option.{Option, none, some}
 use mathlib.Mathlib.Data.Bool.Basic.{and-intro}
 use Prim.Native.Nat.{ℕ, zero, suc, _+_, _^_, _≤_, _<_}
@@ -13,12 +13,12 @@ use borrow.Author.Tests.{eq-eqb, ne-eqb, lt-ltb, le-ltb, le-leb, lt-leb, eqb-fal
 use Rattle.rules.specs.Answer.{Answer, Reason}
 use Rattle.rules.specs.Answer as answer
 use Rattle.rules.specs.Check.{Reception, Parsed, parsed, badTail, isNone}
-use Rattle.rules.specs.Condition3.{ofStream, startOf, framesWith, answersTo, upTo, forward, roomy, Brings, done, next}
+use Rattle.rules.specs.Condition3.{ofStream, startOf, keep, All, framesWith, answersTo, upTo, forward, roomy, Brings, done, next, rulesTable}
 use Rattle.rules.specs.Frame.{Frame, Stream, sameStream, streamOf, tailOf, isStart, isEnd, toggleOf}
-use Rattle.rules.specs.Reception.{stepNew, stepStart, sessionIn, stepSeek, stepAnonymous, stepChecked, step, run}
+use Rattle.rules.specs.Reception.{stepNew, stepStart, sessionIn, stepSeek, stepAnonymous, stepChecked, step}
 use Rattle.rules.specs.Sending as sending
 use Rattle.rules.specs.Sending.{Call, any}
-use Rattle.rules.specs.SendingLaws.{Hears}
+use Rattle.rules.specs.SendingLaws.{Hears, untimed}
 use Rattle.rules.specs.Sent.{tailByte, framed, pieces, carrying, frameAt}
 use Rattle.rules.specs.Session.{Session, overIf, over, sumOk, closing, takeEnd, takeLong, takes, proceedIf, proceed, reactIf, react, restarts, restarted, fresh}
 use Rattle.rules.specs.Setup.{kindOf, Setup, subscribed, signatureFor}
@@ -81,7 +81,7 @@ module _ (t : ℕ) (small : t < 32) where
 -- ── a start that passed the checks: taken, refused by 9 or passed over ──
 
 abbrev pub Sorted : Answer → Type 0
-Sorted a = any (eqb (answer.numberOf a) 0 ∷ eqb (answer.numberOf a) 1 ∷ eqb (answer.numberOf a) 9 ∷ eqb (answer.numberOf a) 10 ∷ []) ≡ true
+Sorted a = any (map (eqb (answer.numberOf a)) (0 ∷ 1 ∷ 9 ∷ 10 ∷ [])) ≡ true
 
 over-empty : (a b c : Bool) → overIf true a b c ≡ none → b ≡ true
 over-empty true true c e = refl
@@ -149,52 +149,90 @@ module _ (v : Parsed) (st : v .start ≡ true) (few : length (v .payload) ≤ 7)
       go true e = sorts-new ps (placeFor (v .time) ps)
       go false e = absurd (true≢false (sym e))
 
--- ── receptions of one stream's frames, at one time ──
+-- ── a stream's frames ──
 
--- one reception of each
+-- one reception of each, at one time
 abbrev pub each : ℕ → ℕ → ℕ → List (List ℕ) → List Reception
 each id time space l = map (λ c. record { frame = frameAt id c time; room = space }) l
 
 abbrev pub framesAt : ℕ → ℕ → List (List ℕ) → List Frame
 framesAt id time l = map (λ c. frameAt id c time) l
 
-module _ (id time space : ℕ) (d : Stream) (small : id < 2 ^ 29) (stream : streamOf id ≡ d) where
-  pub of-it : (c : List ℕ) → ofStream d (frameAt id c time) ≡ true
-  of-it c = and-intro (lt-ltb id (2 ^ 29) small) (ap (λ x. sameStream x d) stream ∙ same-refl d)
+module _ (id : ℕ) (d : Stream) (small : id < 2 ^ 29) (stream : streamOf id ≡ d) where
+  pub of-it : (c : List ℕ) (time : ℕ) → ofStream d (frameAt id c time) ≡ true
+  of-it c time = and-intro (lt-ltb id (2 ^ 29) small) (ap (λ x. sameStream x d) stream ∙ same-refl d)
 
-  pub frames-each : (l : List (List ℕ)) → framesWith (ofStream d) (each id time space l) ≡ framesAt id time l
+  pub frames-each : (u : Setup) (time space : ℕ) (l : List (List ℕ)) → framesWith (rulesTable u) (ofStream d) (each id time space l) ≡ framesAt id time l
   unfolding framesWith
-  frames-each [] = refl
-  frames-each (c ∷ l) = rw (of-it c) (ap (λ fs. frameAt id c time ∷ fs) (frames-each l))
+  frames-each u time space [] = refl
+  frames-each u time space (c ∷ l) = rw (of-it c time) (ap (λ fs. frameAt id c time ∷ fs) (frames-each u time space l))
 
-  pub answers-each : (u : Setup) (ps : Places) (l : List (List ℕ)) → answersTo (ofStream d) u ps (each id time space l) ≡ run u ps (each id time space l)
-  unfolding answersTo run
-  answers-each u ps [] = refl
-  answers-each u ps (c ∷ l) =
-      let r : Reception = record { frame = frameAt id c time; room = space } in
-      rw (of-it c) (ap (λ l. step u ps r .answer ∷ l) (answers-each u (step u ps r .places) l))
-
-  pub upto-each : (l : List (List ℕ)) → upTo (ofStream d) (each id time space l) (length l) ≡ each id time space l
+  pub upto-each : (u : Setup) (time space : ℕ) (l : List (List ℕ)) → upTo (rulesTable u) (ofStream d) (each id time space l) (length l) ≡ each id time space l
   unfolding upTo
-  upto-each [] = refl
-  upto-each (c ∷ l) = rw (of-it c) (ap (λ rs. record { frame = frameAt id c time; room = space } ∷ rs) (upto-each l))
+  upto-each u time space [] = refl
+  upto-each u time space (c ∷ l) = rw (of-it c time) (ap (λ rs. record { frame = frameAt id c time; room = space } ∷ rs) (upto-each u time space l))
 
-  pub no-starts : (u : Setup) (ps : Places) (l : List (List ℕ)) → NoStart l → answersTo (startOf d) u ps (each id time space l) ≡ []
-  unfolding answersTo
-  no-starts u ps [] h = refl
-  no-starts u ps (c ∷ l) h = rw (of-it c, h .0) (no-starts u (step u ps (record { frame = frameAt id c time; room = space }) .places) l (h .1))
+  pub roomy-each : (u : Setup) (time space : ℕ) → 512 ≤ space → (l : List (List ℕ)) → roomy (rulesTable u) d (each id time space l) ≡ true
+  roomy-each u time space h [] = refl
+  roomy-each u time space h (c ∷ l) = rw (of-it c time, le-leb 512 space h) (roomy-each u time space h l)
 
-  pub roomy-each : 512 ≤ space → (l : List (List ℕ)) → roomy d (each id time space l) ≡ true
-  roomy-each h [] = refl
-  roomy-each h (c ∷ l) = rw (of-it c, le-leb 512 space h) (roomy-each h l)
+pub forward-each : (u : Setup) (id time space : ℕ) (l : List (List ℕ)) → forward (rulesTable u) time (each id time space l) ≡ true
+forward-each u id time space [] = refl
+forward-each u id time space (c ∷ l) = rw (le-leb time time (omega arith)) (forward-each u id time space l)
 
-pub forward-each : (id time space : ℕ) (l : List (List ℕ)) → forward time (each id time space l) ≡ true
-forward-each id time space [] = refl
-forward-each id time space (c ∷ l) = rw (le-leb time time (omega arith)) (forward-each id time space l)
+pub untimed-each : (id time : ℕ) (l : List (List ℕ)) → map untimed (framesAt id time l) ≡ framesAt id 0 l
+untimed-each id time [] = refl
+untimed-each id time (c ∷ l) = ap (λ fs. frameAt id c 0 ∷ fs) (untimed-each id time l)
+
+pub soon-each : (id time : ℕ) (l : List (List ℕ)) → All (λ f. f .time ≤ time + 2000000) (framesAt id time l)
+soon-each id time [] = tt
+soon-each id time (c ∷ l) = (omega arith, soon-each id time l)
+
+pub length-each : (id time : ℕ) (l : List (List ℕ)) → length (framesAt id time l) ≡ length l
+length-each id time [] = refl
+length-each id time (c ∷ l) = ap suc (length-each id time l)
 
 pub brings-each : (id time : ℕ) (l : List (List ℕ)) → Brings id (time + 2000000) l (framesAt id time l)
 brings-each id time [] = done
 brings-each id time (c ∷ l) = next time (omega arith) (brings-each id time l)
+
+-- frames that are the sent ones but for their times
+module _ (id : ℕ) where
+  timed : (f : Frame) (c : List ℕ) → untimed f ≡ frameAt id c 0 → frameAt id c (f .time) ≡ f
+  timed f c e = λ i. frameAt (sym e i .id) (sym e i .bytes) (f .time)
+
+  pub first-timed : (f : Frame) (fs : List Frame) (c : List ℕ) (l : List (List ℕ)) → map untimed (f ∷ fs) ≡ framesAt id 0 (c ∷ l) → frameAt id c (f .time) ≡ f
+  first-timed f fs c l e = timed f c (head-eq-of-cons-eq e)
+
+  pub brings-timed : (till : ℕ) (l : List (List ℕ)) (fs : List Frame) → map untimed fs ≡ framesAt id 0 l → All (λ f. f .time ≤ till) fs → Brings id till l fs
+  brings-timed till [] [] e h = done
+  brings-timed till [] (f ∷ fs) e h = absurd (cons≢nil e)
+  brings-timed till (c ∷ l) [] e h = absurd (nil≢cons e)
+  brings-timed till (c ∷ l) (f ∷ fs) e h =
+      subst (λ g. Brings id till (c ∷ l) (g ∷ fs)) (timed f c (head-eq-of-cons-eq e)) (next (f .time) (h .0) (brings-timed till l fs (tail-eq-of-cons-eq e) (h .1)))
+
+  pub starts-timed : (l : List (List ℕ)) (fs : List Frame) → map untimed fs ≡ framesAt id 0 l → NoStart l → All (λ f. isStart (tailOf (f .bytes)) ≡ false) fs
+  starts-timed [] [] e h = tt
+  starts-timed [] (f ∷ fs) e h = absurd (cons≢nil e)
+  starts-timed (c ∷ l) [] e h = absurd (nil≢cons e)
+  starts-timed (c ∷ l) (f ∷ fs) e h =
+      (ap (λ g. isStart (tailOf (g .bytes))) (head-eq-of-cons-eq e) ∙ h .0, starts-timed l fs (tail-eq-of-cons-eq e) (h .1))
+
+-- where the stream brings no start, none is answered
+pub no-starts : (u : Setup) (d : Stream) (ps : Places) (l : List Reception)
+    → All (λ f. isStart (tailOf (f .bytes)) ≡ false) (framesWith (rulesTable u) (ofStream d) l) → answersTo (rulesTable u) (startOf d) ps l ≡ []
+unfolding framesWith answersTo
+no-starts u d ps [] h = refl
+no-starts u d ps (r ∷ rs) h = go (ofStream d (r .frame)) h (no-starts u d (step u ps r .places) rs)
+  where
+    rest : List Answer
+    rest = answersTo (rulesTable u) (startOf d) (step u ps r .places) rs
+
+    go : (b : Bool) → All (λ f. isStart (tailOf (f .bytes)) ≡ false) (keep b (r .frame) (framesWith (rulesTable u) (ofStream d) rs))
+        → (All (λ f. isStart (tailOf (f .bytes)) ≡ false) (framesWith (rulesTable u) (ofStream d) rs) → rest ≡ [])
+        → keep (b && isStart (tailOf (r .frame .bytes))) (step u ps r .answer) rest ≡ []
+    go true k ih = rw (k .0) (ih (k .1))
+    go false k ih = ih k
 
 -- ── the receiver that a call is for ──
 

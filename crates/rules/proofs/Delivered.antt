@@ -1,42 +1,44 @@
--- Sending and then receiving: the records of a send, heard at one time by a receiver that they are for, hand the payload out if their start is taken.
+-- Sending and then receiving: the records of a send, heard by a receiver that they are for, hand the payload out if their start is taken.
 use mathlib.Core.Path.{_≡_, refl, sym, ap, ap₂, _∙_, subst}
 use mathlib.Core.Bool.{true, false, _&&_}
-use mathlib.Core.List.{List, [], _∷_}
+use mathlib.Core.List.{List, [], _∷_, map, tail-eq-of-cons-eq}
 use mathlib.Mathlib.Data.Bool.Basic.{and-elim-left, and-elim-right, and-intro}
-use Prim.Native.Nat.{ℕ, suc, _+_, _*_, _^_, _≤_, _<_}
+use Prim.Native.Nat.{ℕ, suc, _+_, _*_, _-_, _^_, _≤_, _<_}
 use native.Mathlib.Omega.{arith}
 use lib.Dec.{ltb}
 use lib.ListN.{length, getD}
+use lib.Seq.{take-length}
 use borrow.Author.Tests.{ne-eqb, ltb-true}
 use Rattle.bits.specs.Tabulate.{tabulate}
 use Rattle.rules.specs.Answer.{handed}
-use Rattle.rules.specs.Check.{Reception}
-use Rattle.rules.specs.Condition3.{Past, ofStream, upTo, Receiver, started, frames, took, front, While, Brings, Transfer, handouts}
-use Rattle.rules.specs.Frame.{Frame, Stream, streamOf}
-use Rattle.rules.specs.Reception.{run}
+use Rattle.rules.specs.Condition3.{ofStream, startOf, All, framesWith, upTo, Receiver, frames, answers, tookStart, front, While, Transfer, handouts, Past, rulesTable}
+use Rattle.rules.specs.Frame.{Frame, Stream, streamOf, isStart, tailOf}
+use Rattle.rules.specs.Reception.{step}
 use Rattle.rules.specs.Sending as sending
-use Rattle.rules.specs.Sending.{Call, framesOf, sendStep}
-use Rattle.rules.specs.SendingLaws.{Correct, Hears, frameIn, arriving, Arrives, Delivered}
+use Rattle.rules.specs.Sending.{Call, done, framesOf, sendStep}
+use Rattle.rules.specs.SendingLaws.{transferFor, Correct, Hears, frameIn, untimed, framesIn, Hearing, inTurn, atOnce, Delivered}
+use Rattle.rules.specs.Map.{Map, sound}
 use Rattle.rules.specs.Sent.{tailByte, framed, carried, sent, idOf, frameAt}
 use Rattle.rules.specs.Setup.{Setup}
 use Rattle.rules.specs.Sound.{serviceFits, streamFits}
 use Rattle.rules.specs.Table.{Places}
-use Rattle.rules.proofs.Arrivals.{starts, Opening, opening, each, framesAt, of-it, frames-each, answers-each, upto-each, no-starts, roomy-each, forward-each, brings-each, signed, sorts-start}
+use Rattle.rules.proofs.Arrivals.{starts, Opening, opening, Sorted, each, framesAt, of-it, frames-each, upto-each, roomy-each, forward-each, untimed-each, soon-each, length-each, first-timed, brings-timed, starts-timed, no-starts, signed, sorts-start}
+use Rattle.rules.proofs.Follow.{frames-upto}
 use Rattle.rules.proofs.Ids.{id-laws}
-use Rattle.rules.proofs.Records.{sent-short, length-records, back}
+use Rattle.rules.proofs.Lift.{free}
+use Rattle.rules.proofs.Records.{Short, sent-short, length-records, back}
 use Rattle.rules.proofs.Sends.{record-laws, source-laws}
 use Rattle.rules.proofs.Theorem.{theorem}
 
-length-frames : (id time : ℕ) (l : List (List ℕ)) → length (framesAt id time l) ≡ length l
-length-frames id time [] = refl
-length-frames id time (c ∷ l) = ap suc (length-frames id time l)
-
-module _ (u : Setup) (c : Call) (hears : Hears u c) (records : List ℕ) (ok : Correct c records) (named : 0 < c .own) where
+module _ (u : Setup) (c : Call) (hears : Hears u c) (m : Map) (records : List ℕ) (ok : Correct c m records) (named : 0 < c .own) where
   abbrev d : Stream
   d = sending.streamOf c
 
   abbrev id : ℕ
   id = idOf d (c .priority)
+
+  abbrev t : ℕ
+  t = transferFor c m
 
   abbrev small : id < 2 ^ 29
   small = id-laws .small d (c .priority) (ok .stream) (ok .priority)
@@ -45,7 +47,7 @@ module _ (u : Setup) (c : Call) (hears : Hears u c) (records : List ℕ) (ok : C
   stream = id-laws .stream d (c .priority) (ok .stream)
 
   abbrev data' : List (List ℕ)
-  data' = sent (c .signature) (ok .transfer) (c .payload)
+  data' = sent (c .signature) t (c .payload)
 
   aimed : (c .transferType ≡ 0 → ⊥) → 0 < c .destination
   unfolding streamFits
@@ -54,93 +56,185 @@ module _ (u : Setup) (c : Call) (hears : Hears u c) (records : List ℕ) (ok : C
       let s : serviceFits d ≡ true = rw (ne-eqb (c .transferType) 0 n) at k in
       ltb-true 0 (c .destination) (and-elim-left _ _ (and-elim-right (ltb (c .type) 256) _ s))
 
-  module _ (ps : Places) (past : Past u ps) (time space : ℕ) (wide : 512 ≤ space) (o : Opening (ok .transfer) (ok .small) data') where
-    abbrev start : List ℕ
-    start = framed (o .bytes) (tailByte true (o .last) false (ok .transfer))
+  module _ (n : ℕ) (x : Receiver (rulesTable u)) (h : Hearing u d records n x) (o : Opening t (ok .transfer) data')
+      (heard : map untimed (x .start .frame ∷ frames (rulesTable u) d x) ≡ framesAt id 0 data') where
+    abbrev time : ℕ
+    time = x .start .frame .time
 
-    abbrev f : Frame
-    f = frameAt id start time
+    abbrev fs : List Frame
+    fs = frames (rulesTable u) d x
 
-    abbrev x : Receiver
-    x = record { places = ps; room = space; list = each id time space (o .rest) }
+    abbrev first : List ℕ
+    first = framed (o .bytes) (tailByte true (o .last) false t)
 
-    frames-x : frames d x ≡ framesAt id time (o .rest)
-    frames-x = frames-each id time space d small stream (o .rest)
+    in-order : map untimed (x .start .frame ∷ fs) ≡ framesAt id 0 (first ∷ o .rest)
+    in-order = heard ∙ ap (framesAt id 0) (o .is)
 
-    front-x : front d (length (frames d x)) x ≡ each id time space (o .rest)
-    front-x =
-        ap (upTo (ofStream d) (each id time space (o .rest))) (ap length frames-x ∙ length-frames id time (o .rest))
-        ∙ upto-each id time space d small stream (o .rest)
+    start-is : frameAt id first time ≡ x .start .frame
+    start-is = first-timed id (x .start .frame) fs first (o .rest) in-order
 
-    holds-on : While u d f (length (frames d x)) x
+    starting : startOf d (x .start .frame) ≡ true
+    starting =
+        subst (λ f. startOf d f ≡ true) start-is
+        (and-intro (of-it id d small stream first time) (starts t (ok .transfer) (o .bytes) true (o .last) false))
+
+    later : All (λ f. isStart (tailOf (f .bytes)) ≡ false) fs
+    later = starts-timed id (o .rest) fs (tail-eq-of-cons-eq in-order) (o .later)
+
+    holds-on : While (rulesTable u) d (length fs) x
     holds-on =
-        record {
-          time = rw front-x (forward-each id time space (o .rest));
-          room = rw front-x (roomy-each id time space d small stream wide (o .rest));
-          table = rw (front-x, no-starts id time space d small stream u (started u f x .places) (o .rest) (o .later));
-        }
+        let e : framesWith (rulesTable u) (ofStream d) (front (rulesTable u) d (length fs) x) ≡ fs = frames-upto (ofStream d) u (x .list) (length fs) ∙ take-length fs in
+        let q = no-starts u d (step u (x .state) (x .start) .places) (front (rulesTable u) d (length fs) x)
+        (subst (All (λ f. isStart (tailOf (f .bytes)) ≡ false)) (sym e) later) in
+        record { time = h .time; room = h .rooms; table = rw q }
 
-    transfer : Transfer u d f (frames d x) (c .priority) (ok .transfer) (c .payload)
+    transfer : Transfer u d (x .start .frame) fs (c .priority) t (c .payload)
     transfer =
         record {
           size = ok .payload;
-          fields = (ok .priority, ok .small);
+          fields = (ok .priority, ok .transfer);
           signature = c .signature;
           subscribed = signed u c hears id small stream named aimed;
-          brings = subst (λ fs. Brings id (time + 2000000) data' (f ∷ fs)) (sym frames-x)
-              (subst (λ l. Brings id (time + 2000000) l (framesAt id time (start ∷ o .rest))) (sym (o .is)) (brings-each id time (start ∷ o .rest)));
+          brings = brings-timed id (time + 2000000) data' (x .start .frame ∷ fs) heard (omega arith, h .soon);
         }
 
-    hands-out : took (started u f x .answer) ≡ true → handouts (run u ps (each id time space (start ∷ o .rest))) ≡ handed (c .payload) d (c .priority) (ok .transfer) ∷ []
+    hands-out : tookStart (rulesTable u) x ≡ true → handouts (rulesTable u) (answers (rulesTable u) d x) ≡ handed (c .payload) d (c .priority) t ∷ []
     hands-out tk =
-        ap handouts (sym (answers-each id time space d small stream u ps (start ∷ o .rest)))
-        ∙ theorem u d f x x
+        theorem u d x x
         (record {
-          pasts = (past, past);
+          pasts = (h .past, h .past);
+          typed = (free u (x .start ∷ x .list), free u (x .start ∷ x .list));
           named = named;
-          start = and-intro (of-it id time space d small stream start) (starts (ok .transfer) (ok .small) (o .bytes) true (o .last) false);
+          start = starting;
+          together = refl;
           take = (tk, tk);
           same = refl;
         })
-        .delivered (c .priority) (ok .transfer) (c .payload) transfer holds-on holds-on .0
+        .delivered (c .priority) t (c .payload) transfer holds-on holds-on .0
 
-    arrives : Arrives c (run u ps (each id time space (start ∷ o .rest)))
-    unfolding run
-    arrives =
-        record {
-          transfer = ok .transfer;
-          start = sorts-start u c hears id small stream named aimed (ok .transfer) (ok .small) (o .bytes) (o .last) (o .most) (o .whole) time ps space wide;
-          once = hands-out;
-        }
+    sorted : Sorted (step u (x .state) (x .start) .answer)
+    sorted =
+        subst (λ f. Sorted (step u (x .state) (record { frame = f; room = x .start .room }) .answer)) start-is
+        (sorts-start u c hears id small stream named aimed t (ok .transfer) (o .bytes) (o .last) (o .most) (o .whole) time (x .state) (x .start .room) (h .room))
 
 -- what is read from the records is each frame in turn
-tab-each : (id time space : ℕ) (l : List (List ℕ)) (f : ℕ → Reception) (i : ℕ)
-    → ((k : ℕ) → k < length l → f (i + k) ≡ record { frame = frameAt id (getD l k []) time; room = space }) → tabulate f i (length l) ≡ each id time space l
+tab-each : {A : Type 0} (g : List ℕ → A) (l : List (List ℕ)) (f : ℕ → A) (i : ℕ) → ((k : ℕ) → k < length l → f (i + k) ≡ g (getD l k [])) → tabulate f i (length l) ≡ map g l
 unfolding tabulate
-tab-each id time space [] f i h = refl
-tab-each id time space (c ∷ l) f i h =
+tab-each g [] f i h = refl
+tab-each {A} g (c ∷ l) f i h =
     let z : i + 0 ≡ i = omega arith in
-    ap₂ (λ (r : Reception) (rs : List Reception). r ∷ rs) (ap f (sym z) ∙ h 0 (omega arith))
-    (tab-each id time space l f (suc i) (λ k b. let e : suc i + k ≡ i + suc k = omega arith in ap f e ∙ h (suc k) (omega arith)))
+    ap₂ (λ (r : A) (rs : List A). r ∷ rs) (ap f (sym z) ∙ h 0 (omega arith))
+    (tab-each g l f (suc i) (λ k b. let e : suc i + k ≡ i + suc k = omega arith in ap f e ∙ h (suc k) (omega arith)))
+
+-- a successful send of a named source
+module _ (c : Call) (m : Map) (room n : ℕ) (h : sound m ≡ true) (e : sendStep c m room .answer ≡ done n) (named : 0 < c .own) where
+  abbrev out : List ℕ
+  out = sendStep c m room .records
+
+  abbrev correct : Correct c m out
+  correct = source-laws .named c m room n h e named
+
+  abbrev wire : ℕ
+  wire = idOf (sending.streamOf c) (c .priority)
+
+  abbrev all : List (List ℕ)
+  all = sent (c .signature) (transferFor c m) (c .payload)
+
+  short : Short all
+  short = sent-short (c .signature) (transferFor c m) (c .payload)
+
+  many : n ≡ length all
+  many =
+      omega (
+        arith,
+        record-laws .size c m room ∙ ap (λ a. 13 * framesOf a) e,
+        ap length (correct .frames) ∙ length-records wire all short,
+      )
+
+  below : wire < 2 ^ 29
+  below = id-laws .small (sending.streamOf c) (c .priority) (correct .stream) (correct .priority)
+
+  read : (time k : ℕ) → k < length all → frameIn out time k ≡ frameAt wire (getD all k []) time
+  read time k b = ap (λ r. frameIn r time k) (correct .frames) ∙ back wire (omega (arith, below)) time all k short b
+
+  frames-in : framesIn out n ≡ framesAt wire 0 all
+  frames-in =
+      ap (framesIn out) many
+      ∙ tab-each (λ b. frameAt wire b 0) all (frameIn out 0) 0 (λ k b. let z : 0 + k ≡ k = omega arith in ap (frameIn out 0) z ∙ read 0 k b)
+
+  opens : Opening (transferFor c m) (correct .transfer) all
+  unfolding sent
+  opens = opening (transferFor c m) (correct .transfer) (carried (c .signature) (c .payload))
+
+  -- ── heard at one time ──
+
+  module _ (u : Setup) (ps : Places) (past : Past u ps) (time space : ℕ) (wide : 512 ≤ space) where
+    abbrev one : List ℕ
+    one = framed (opens .bytes) (tailByte true (opens .last) false (transferFor c m))
+
+    abbrev rest : List (List ℕ)
+    rest = opens .rest
+
+    abbrev d' : Stream
+    d' = sending.streamOf c
+
+    abbrev plain : Receiver (rulesTable u)
+    plain = record { state = ps; start = record { frame = frameAt wire one time; room = space }; list = each wire time space rest }
+
+    stream-of : streamOf wire ≡ d'
+    stream-of = id-laws .stream d' (c .priority) (correct .stream)
+
+    plain-frames : frames (rulesTable u) d' plain ≡ framesAt wire time rest
+    plain-frames = frames-each wire d' below stream-of u time space rest
+
+    plain-front : front (rulesTable u) d' (length (frames (rulesTable u) d' plain)) plain ≡ each wire time space rest
+    plain-front =
+        ap (upTo (rulesTable u) (ofStream d') (each wire time space rest)) (ap length plain-frames ∙ length-each wire time rest)
+        ∙ upto-each wire d' below stream-of u time space rest
+
+    hears-plain : Hearing u d' out n plain
+    hears-plain =
+        record {
+          past = past;
+          heard = ap (λ fs. frameAt wire one 0 ∷ map untimed fs) plain-frames ∙ ap (λ fs. frameAt wire one 0 ∷ fs) (untimed-each wire time rest)
+              ∙ sym (frames-in ∙ ap (framesAt wire 0) (opens .is));
+          soon = subst (All (λ f. f .time ≤ time + 2000000)) (sym plain-frames) (soon-each wire time rest);
+          time = rw plain-front (forward-each u wire time space rest);
+          room = wide;
+          rooms = rw plain-front (roomy-each wire d' below stream-of u time space wide rest);
+        }
+
+    longer : length all ≡ suc (length rest)
+    longer = ap length (opens .is)
+
+    -- record k is frame k
+    turn : (k : ℕ) → k < length all → inTurn out time space k ≡ record { frame = frameAt wire (getD all k []) time; room = space }
+    turn k b = ap (λ f. record { frame = f; room = space }) (read time k b)
+
+    is-plain : atOnce u ps out n time space ≡ plain
+    is-plain =
+        let first : inTurn out time space 0 ≡ plain .start =
+        turn 0 (omega (arith, longer)) ∙ ap (λ l. record { frame = frameAt wire (getD l 0 []) time; room = space }) (opens .is) in
+        let others : tabulate (inTurn out time space) 1 (n - 1) ≡ plain .list =
+        ap (tabulate (inTurn out time space) 1) (omega (arith, many, longer))
+        ∙ tab-each (λ b. record { frame = frameAt wire b time; room = space }) rest (inTurn out time space) 1
+        (λ k b. let z : 1 + k ≡ suc k = omega arith in
+        ap (inTurn out time space) z ∙ turn (suc k) (omega (arith, longer)) ∙ ap (λ l. record { frame = frameAt wire (getD l (suc k) []) time; room = space }) (opens .is)) in
+        λ i. record { state = ps; start = first i; list = others i }
+
+    hears-at-once : Hearing u d' out n (atOnce u ps out n time space)
+    hears-at-once = subst (Hearing u d' out n) (sym is-plain) hears-plain
 
 pub delivered : Delivered
-unfolding sent
-delivered c m room n h e named u hears ps past time space wide =
-    let ok = source-laws .named c m room n h e named in
-    let records = sendStep c m room .records in
-    let l = sent (c .signature) (ok .transfer) (c .payload) in
-    let id = idOf (sending.streamOf c) (c .priority) in
-    let o = opening (ok .transfer) (ok .small) (carried (c .signature) (c .payload)) in
-    let many : n ≡ length l = omega (
-      arith,
-      record-laws .size c m room ∙ ap (λ a. 13 * framesOf a) e,
-      ap length (ok .frames) ∙ length-records id l (sent-short (c .signature) (ok .transfer) (c .payload)),
-    ) in
-    let small : id < 2 ^ 32 = omega (arith, id-laws .small (sending.streamOf c) (c .priority) (ok .stream) (ok .priority)) in
-    let heard : arriving records n time space ≡ each id time space l =
-    ap (λ k. arriving records k time space) many
-    ∙ tab-each id time space l (λ k. record { frame = frameIn records time k; room = space }) 0
-    (λ k b. let z : 0 + k ≡ k = omega arith in
-    (λ i. record { frame = frameIn (ok .frames i) time (z i); room = space })
-    ∙ (λ i. record { frame = back id small time l k (sent-short (c .signature) (ok .transfer) (c .payload)) b i; room = space })) in
-    subst (λ rs. Arrives c (run u ps rs)) (sym (heard ∙ ap (each id time space) (o .is))) (arrives u c hears records ok named ps past time space wide o)
+delivered =
+    record {
+      arrives = λ c m room n h e named u hears x hearing.
+          let ok = correct c m room n h e named in
+          let o = opens c m room n h e named in
+          let heard = hearing .heard ∙ frames-in c m room n h e named in
+          record {
+            start = sorted u c hears m (sendStep c m room .records) ok named n x hearing o heard;
+            once = hands-out u c hears m (sendStep c m room .records) ok named n x hearing o heard;
+          };
+      met = λ c m room n h e named u ps past time space wide. hears-at-once c m room n h e named u ps past time space wide;
+    }

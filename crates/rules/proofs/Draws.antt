@@ -11,6 +11,7 @@ use lib.ListN.{length, getD, set}
 use lib.Seq.{getD-set-same, getD-set-other}
 use borrow.Author.Tests.{eqb-true, eqb-false, eq-eqb, lt-ltb, ltb-true}
 use Rattle.rules.specs.Map.{Topic, Slot, free, used, Map, sameTopic, isOf, isFree, isUnused, slotFor, drawn, topicFits, times, slotFits, slotsFit, sound}
+use Rattle.rules.specs.SendingLaws.{offered}
 use Rattle.rules.specs.Sent.{flag}
 use Rattle.rules.specs.Table.{plus1, seek, orElse}
 use Rattle.rules.specs.Tests.{pick}
@@ -80,6 +81,64 @@ given k now m = go (seek (isOf k) m) (seek-topic k m) (seek isFree m) (seek-belo
     go none h (some i) hb c hc = fresh hb h
     go none h none hb (some i) hc = fresh hc h
     go none h none hb none hc = nowhere
+
+-- ── the transfer ID ──
+
+-- what a place gives is what the map gives, and what is stored there is what it gives then
+abbrev pub Gives : Topic → Map → Option ℕ → Type 0
+Gives k m none = Unit {0}
+Gives k m (some i) = (drawn k (getD m i free) ≡ offered k m) × ((t since : ℕ) → offered k (set m i (used k t since)) ≡ t)
+
+-- the topic's own place does; if it has none, every place does
+abbrev Offers : Topic → Map → Option ℕ → Type 0
+Offers k m none = (offered k m ≡ 0) × ((i : ℕ) → i < length m → Gives k m (some i))
+Offers k m (some i) = Gives k m (some i)
+
+-- a place that is not the topic's is passed by
+record Passes (k : Topic) (s : Slot) : Type 0 where
+  pub nothing : drawn k s ≡ 0
+  pub onward : (m : Map) → offered k (s ∷ m) ≡ offered k m
+
+passes : (k : Topic) (s : Slot) → isOf k s ≡ false → Passes k s
+unfolding offered
+passes k free e = record { nothing = refl; onward = λ m. refl }
+passes k (used x t since) e = record { nothing = ap (λ b. pick b t 0) e; onward = λ m. ap (λ b. pick b t (offered k m)) e }
+
+stored-first : (k : Topic) (m : Map) (t since : ℕ) → offered k (used k t since ∷ m) ≡ t
+unfolding offered
+stored-first k m t since = ap (λ b. pick b t (offered k m)) (same-refl k)
+
+gives-first : (k : Topic) (s : Slot) (m : Map) → isOf k s ≡ true → Gives k (s ∷ m) (some 0)
+unfolding offered
+gives-first k free m e = absurd (false≢true e)
+gives-first k (used x t since) m e = (ap (λ b. pick b t 0) e ∙ sym (ap (λ b. pick b t (offered k m)) e), stored-first k m)
+
+gives-behind : (k : Topic) (s : Slot) (m : Map) (i : ℕ) → Passes k s → Gives k m (some i) → Gives k (s ∷ m) (some (suc i))
+gives-behind k s m i p h = (h .0 ∙ sym (p .onward m), λ t since. p .onward (set m i (used k t since)) ∙ h .1 t since)
+
+gives-any : (k : Topic) (s : Slot) (m : Map) → Passes k s → Offers k m none → (i : ℕ) → i < length (s ∷ m) → Gives k (s ∷ m) (some i)
+gives-any k s m p h zero l = (p .nothing ∙ sym (p .onward m ∙ h .0), stored-first k m)
+gives-any k s m p h (suc i) l = gives-behind k s m i p (h .1 i (omega arith))
+
+offers : (k : Topic) (m : Map) → Offers k m (seek (isOf k) m)
+unfolding seek offered
+offers k [] = (refl, λ i h. absurd (omega arith))
+offers k (s ∷ m) = go (isOf k s) refl (seek (isOf k) m) (offers k m)
+  where
+    go : (b : Bool) → isOf k s ≡ b → (o : Option ℕ) → Offers k m o → Offers k (s ∷ m) (pick b (some 0) (plus1 o))
+    go true e o h = gives-first k s m e
+    go false e none h = (passes k s e .onward m ∙ h .0, gives-any k s m (passes k s e) h)
+    go false e (some i) h = gives-behind k s m i (passes k s e) h
+
+pub gives : (k : Topic) (now : ℕ) (m : Map) → Gives k m (slotFor k now m)
+unfolding slotFor
+gives k now m = go (seek (isOf k) m) (offers k m) (seek isFree m) (seek-below isFree m) (seek (isUnused now) m) (seek-below (isUnused now) m)
+  where
+    go : (a : Option ℕ) → Offers k m a → (b : Option ℕ) → Below (length m) b → (c : Option ℕ) → Below (length m) c → Gives k m (orElse a (orElse b c))
+    go (some i) h b hb c hc = h
+    go none h (some i) hb c hc = h .1 i hb
+    go none h none hb (some i) hc = h .1 i hc
+    go none h none hb none hc = tt
 
 -- ── counting ──
 

@@ -1,20 +1,28 @@
 -- The cases of specs/Example.antt and specs/WhyPremises.antt, by computing; the example's claim follows by condition 3.
-use mathlib.Core.Path.{refl}
+use mathlib.Core.Path.{_≡_, refl, sym, ap, subst}
+use mathlib.Core.Bool.{Bool, true, false}
+use mathlib.Core.List.{List, [], _∷_}
+use mathlib.Core.Option.{some}
+use Prim.Native.Nat.{ℕ, _+_}
 use native.Mathlib.Omega.{arith}
+use borrow.Author.Tests.{ltb-true, leb-true, eqb-true}
+use lib.ListN.{length, getD}
 use Rattle.bits.specs.Little.{leBytes}
 use Rattle.checksum.specs.Crc.{shift, shifts, crcByte, crcOver}
 use Rattle.checksum.specs.Crc16.{checksum}
 use Rattle.rules.specs.Check.{parsed, frameCheck, check}
-use Rattle.rules.specs.Condition3.{fromSetup, lent, heard, framesWith, answersTo, upTo, frames, Premises, While, done, next, again, Transfer}
-use Rattle.rules.specs.Example.{setup, stream, payload, start, crowd, earlier, spacious, crowded, Example}
+use Rattle.rules.specs.Condition3.{framesWith, answersTo, upTo, frames, Premises, While, Brings, done, next, again, Transfer, fromSetup, lent, heard, rulesTable}
+use Rattle.rules.specs.Example.{setup, stream, payload, frame, start, crowd, earlier, spacious, crowded, Example}
 use Rattle.rules.specs.Frame.{sameStream, streamOf}
 use Rattle.rules.specs.Reception.{stepNew, stepStart, stepSeek, stepAnonymous, stepChecked, step, after}
-use Rattle.rules.specs.Sent.{pieces, carrying, carried, sent, idOf}
+use Rattle.rules.specs.Sent.{tailByte, framed, pieces, carrying, carried, sent, idOf}
 use Rattle.rules.specs.Session.{restarts, over, closing, takeEnd, takeLong, takes, proceedIf, proceed, reactIf, react}
-use Rattle.rules.specs.Setup.{subscribed}
+use Rattle.rules.specs.Setup.{subscribed, signatureFor}
 use Rattle.rules.specs.Sound.{streamFits, sessionFits, sound}
 use Rattle.rules.specs.Table.{seek, placeFor}
-use Rattle.rules.specs.WhyPremises.{steady, back, roomLeft, noneLeft, short, WhyPremises}
+use Rattle.rules.specs.WhyPremises.{tests, all, agreed, Sent, Tests, unnamed, twice, hearing, long, degrees, inOrder, handedOut, WhyPremises}
+use Rattle.rules.proofs.Arrivals.{opening, frames-each, brings-each}
+use Rattle.rules.proofs.Lift.{free}
 use Rattle.rules.proofs.Theorem.{theorem}
 
 pub example : Example
@@ -24,20 +32,20 @@ example =
       premises = premises;
       whiles = (spacious-while, crowded-while);
       transfer = transfer;
-      alike = theorem setup stream start spacious crowded premises .alike 5 spacious-while crowded-while;
-      delivered = theorem setup stream start spacious crowded premises .delivered 16 5 payload transfer spacious-while crowded-while;
+      alike = theorem setup stream spacious crowded premises .alike 5 spacious-while crowded-while;
+      delivered = theorem setup stream spacious crowded premises .delivered 16 5 payload transfer spacious-while crowded-while;
     }
   where
-    premises : Premises setup stream start spacious crowded
-    premises = record { pasts = (heard fromSetup earlier, lent refl); named = omega arith; start = refl; take = (refl, refl); same = refl }
+    premises : Premises (rulesTable setup) stream spacious crowded
+    premises = record { pasts = (heard fromSetup earlier, lent refl); typed = (free setup (spacious .start ∷ spacious .list), free setup (crowded .start ∷ crowded .list)); named = omega arith; start = refl; together = refl; take = (refl, refl); same = refl }
 
-    spacious-while : While setup stream start 5 spacious
+    spacious-while : While (rulesTable setup) stream 5 spacious
     spacious-while = record { time = refl; room = refl; table = refl }
 
-    crowded-while : While setup stream start 5 crowded
+    crowded-while : While (rulesTable setup) stream 5 crowded
     crowded-while = record { time = refl; room = refl; table = refl }
 
-    transfer : Transfer setup stream start (frames stream spacious) 16 5 payload
+    transfer : Transfer setup stream start (frames (rulesTable setup) stream spacious) 16 5 payload
     transfer =
         record {
           size = omega arith;
@@ -51,25 +59,86 @@ example =
               (next 10002000 (omega arith) (again 11999999 (omega arith) (next 12000000 (omega arith) done)))));
         }
 
+-- ── why the premises ──
+
+test : (n : ℕ) (l : List Bool) → l ≡ all → getD l n false ≡ getD all n false
+test n l e = ap (λ k. getD k n false) e
+
+subscribed-as : (signature : ℕ) → signature ≡ agreed → signatureFor setup (idOf stream 16) ≡ some signature
+unfolding subscribed idOf streamOf
+subscribed-as signature e = ap some (sym e)
+
+complete : Tests
+complete =
+    record {
+      premises = λ d x y a b t e. record {
+        pasts = (lent (test 0 (tests d x) a), lent (test 0 (tests d y) b));
+        typed = (free setup (x .start ∷ x .list), free setup (y .start ∷ y .list));
+        named = ltb-true 0 (d .source) (test 1 (tests d x) a);
+        start = test 2 (tests d x) a;
+        together = t;
+        take = (test 3 (tests d x) a, test 3 (tests d y) b);
+        same = e;
+      };
+      whiles = λ d x a. record { time = test 4 (tests d x) a; room = test 5 (tests d x) a; table = test 6 (tests d x) a };
+      transfer = λ x signature t p h.
+          record {
+            size = leb-true (length p) 512 (ap (λ k. getD k 0 false) (h .fits));
+            fields = (omega arith, ltb-true t 32 (ap (λ k. getD k 1 false) (h .fits)));
+            signature = signature;
+            subscribed = subscribed-as signature (eqb-true signature agreed (ap (λ k. getD k 2 false) (h .fits)));
+            brings = h .brings;
+          };
+    }
+
+-- frames at one time are brought in order
+brought : (l : List (List ℕ)) (c : List ℕ) (more : List (List ℕ)) → l ≡ c ∷ more
+    → Brings (idOf stream 16) (10000000 + 2000000) l (hearing l .start .frame ∷ frames (rulesTable setup) stream (hearing l))
+unfolding idOf streamOf sameStream
+brought l c more e =
+    subst (λ k. Brings 0x103FF22A (10000000 + 2000000) k (hearing k .start .frame ∷ frames (rulesTable setup) stream (hearing k))) (sym e)
+    (subst (λ fs. Brings 0x103FF22A (10000000 + 2000000) (c ∷ more) (frame c 10000000 ∷ fs)) (sym (frames-each 0x103FF22A stream (omega arith) refl setup 10000000 512 more))
+    (brings-each 0x103FF22A 10000000 (c ∷ more)))
+
+size-case : Sent (hearing (sent agreed 5 long)) agreed 5 long (false ∷ true ∷ true ∷ [])
+    × (handedOut (hearing (sent agreed 5 long)) ≡ [])
+unfolding framesWith answersTo upTo step stepChecked stepAnonymous stepSeek stepStart stepNew seek placeFor check frameCheck parsed streamOf sameStream subscribed react reactIf restarts proceed proceedIf over takes takeLong takeEnd closing sound streamFits sessionFits idOf sent carrying carried pieces checksum crcOver crcByte shifts shift leBytes
+size-case =
+    let o = opening 5 (omega arith) (carried agreed long) in
+    (record { premises = refl; fits = refl; brings = brought (sent agreed 5 long) (framed (o .bytes) (tailByte true (o .last) false 5)) (o .rest) (o .is) }, refl)
+
 pub why-premises : WhyPremises
-unfolding crowd sound streamFits sessionFits framesWith answersTo step stepChecked stepAnonymous stepSeek stepStart stepNew seek placeFor check frameCheck parsed streamOf sameStream subscribed react reactIf restarts proceed proceedIf over takes takeLong takeEnd closing checksum crcOver crcByte shifts shift leBytes
+unfolding crowd sound streamFits sessionFits framesWith answersTo upTo step stepChecked stepAnonymous stepSeek stepStart stepNew seek placeFor check frameCheck parsed streamOf sameStream subscribed react reactIf restarts proceed proceedIf over takes takeLong takeEnd closing idOf sent carrying carried pieces checksum crcOver crcByte shifts shift leBytes
 why-premises =
     record {
-      time = (time, refl, refl);
-      table = (table, refl, refl);
-      room = (room, refl, refl);
-      take = (refl, refl);
-      pasts = (refl, refl, refl);
-      seconds = refl;
-      order = (refl, refl);
-      named = refl;
+      complete = complete;
+      pasts = record { first = refl; second = refl; together = refl; same = refl; answers = (refl, refl) };
+      start = record { first = refl; second = refl; together = refl; same = refl; answers = (refl, refl) };
+      take = record { first = refl; second = refl; together = refl; same = refl; answers = (refl, refl) };
+      time = record { first = refl; second = refl; together = refl; same = refl; answers = (refl, refl) };
+      room = record { first = refl; second = refl; together = refl; same = refl; answers = (refl, refl) };
+      table = record { first = refl; second = refl; together = refl; same = refl; answers = (refl, refl) };
+      together = (refl, refl, refl, refl, refl);
+      same = (refl, refl, refl, refl, refl);
+      named = (refl, named, refl);
+      size = size-case;
+      fields = (record { premises = refl; fits = refl; brings = brought (sent agreed 69 payload) _ _ refl }, refl, refl);
+      subscribed = (record { premises = refl; fits = refl; brings = brought (sent 7 5 payload) _ _ refl }, refl);
+      seconds = (refl, next 10000000 (omega arith) (next 10100000 (omega arith) (next 12000001 (omega arith) done)), refl);
+      order = (record { premises = refl; fits = refl; brings = in-order }, refl, refl, refl);
     }
   where
-    time : Premises setup stream start steady back
-    time = record { pasts = (lent refl, lent refl); named = omega arith; start = refl; take = (refl, refl); same = refl }
+    in-order : Brings (idOf stream 16) (10000000 + 2000000) (sent agreed 5 degrees) (inOrder .start .frame ∷ frames (rulesTable setup) stream inOrder)
+    in-order =
+        next 10000000 (omega arith)
+        (again 10100000 (omega arith) (next 10200000 (omega arith) (next 10300000 (omega arith) (next 10400000 (omega arith) done))))
 
-    table : Premises setup stream start roomLeft noneLeft
-    table = record { pasts = (fromSetup, lent refl); named = omega arith; start = refl; take = (refl, refl); same = refl }
-
-    room : Premises setup stream start steady short
-    room = record { pasts = (lent refl, fromSetup); named = omega arith; start = refl; take = (refl, refl); same = refl }
+    named : Transfer setup unnamed (twice .start .frame) (frames (rulesTable setup) unnamed twice) 16 0 (1 ∷ [])
+    named =
+        record {
+          size = omega arith;
+          fields = (omega arith, omega arith);
+          signature = 7;
+          subscribed = refl;
+          brings = again 10000000 (omega arith) (next 10000001 (omega arith) done);
+        }

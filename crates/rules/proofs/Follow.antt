@@ -9,7 +9,7 @@ use lib.ListN.{length, take}
 use borrow.Author.Tests.{leb-true}
 use Rattle.rules.specs.Answer.{Answer, full, numberOf}
 use Rattle.rules.specs.Check.{Reception, parsed}
-use Rattle.rules.specs.Condition3.{ofStream, startOf, keep, framesWith, answersTo, upTo, forward, roomy, never}
+use Rattle.rules.specs.Condition3.{ofStream, startOf, keep, framesWith, answersTo, upTo, forward, roomy, never, rulesTable}
 use Rattle.rules.specs.Frame.{Frame, Stream}
 use Rattle.rules.specs.Reception.{step}
 use Rattle.rules.specs.Session.{Session}
@@ -22,75 +22,75 @@ use Rattle.rules.proofs.Table.{Sole}
 
 -- ── the front of a list ──
 
-module _ (t : Frame → Bool) where
-  pub frames-upto : (l : List Reception) (k : ℕ) → framesWith t (upTo t l k) ≡ take k (framesWith t l)
+module _ (t : Frame → Bool) (u : Setup) where
+  pub frames-upto : (l : List Reception) (k : ℕ) → framesWith (rulesTable u) t (upTo (rulesTable u) t l k) ≡ take k (framesWith (rulesTable u) t l)
   unfolding framesWith upTo
   frames-upto [] zero = refl
   frames-upto [] (suc k) = refl
   frames-upto (r ∷ rs) zero = refl
   frames-upto (r ∷ rs) (suc k) = go (t (r .frame)) (λ n. frames-upto rs n)
     where
-      go : (b : Bool) → ((n : ℕ) → framesWith t (upTo t rs n) ≡ take n (framesWith t rs))
-          → keep b (r .frame) (framesWith t (upTo t rs (pick b k (suc k)))) ≡ take (suc k) (keep b (r .frame) (framesWith t rs))
+      go : (b : Bool) → ((n : ℕ) → framesWith (rulesTable u) t (upTo (rulesTable u) t rs n) ≡ take n (framesWith (rulesTable u) t rs))
+          → keep b (r .frame) (framesWith (rulesTable u) t (upTo (rulesTable u) t rs (pick b k (suc k)))) ≡ take (suc k) (keep b (r .frame) (framesWith (rulesTable u) t rs))
       go true ih = ap (λ fs. r .frame ∷ fs) (ih k)
       go false ih = ih (suc k)
 
-  pub answers-upto : (u : Setup) (ps : Places) (l : List Reception) (k : ℕ) → answersTo t u ps (upTo t l k) ≡ take k (answersTo t u ps l)
+  pub answers-upto : (ps : Places) (l : List Reception) (k : ℕ) → answersTo (rulesTable u) t ps (upTo (rulesTable u) t l k) ≡ take k (answersTo (rulesTable u) t ps l)
   unfolding answersTo upTo
-  answers-upto u ps [] zero = refl
-  answers-upto u ps [] (suc k) = refl
-  answers-upto u ps (r ∷ rs) zero = refl
-  answers-upto u ps (r ∷ rs) (suc k) = go (t (r .frame)) (λ n. answers-upto u (step u ps r .places) rs n)
+  answers-upto ps [] zero = refl
+  answers-upto ps [] (suc k) = refl
+  answers-upto ps (r ∷ rs) zero = refl
+  answers-upto ps (r ∷ rs) (suc k) = go (t (r .frame)) (λ n. answers-upto (step u ps r .places) rs n)
     where
-      go : (b : Bool) → ((n : ℕ) → answersTo t u (step u ps r .places) (upTo t rs n) ≡ take n (answersTo t u (step u ps r .places) rs))
-          → keep b (step u ps r .answer) (answersTo t u (step u ps r .places) (upTo t rs (pick b k (suc k))))
-          ≡ take (suc k) (keep b (step u ps r .answer) (answersTo t u (step u ps r .places) rs))
+      go : (b : Bool) → ((n : ℕ) → answersTo (rulesTable u) t (step u ps r .places) (upTo (rulesTable u) t rs n) ≡ take n (answersTo (rulesTable u) t (step u ps r .places) rs))
+          → keep b (step u ps r .answer) (answersTo (rulesTable u) t (step u ps r .places) (upTo (rulesTable u) t rs (pick b k (suc k))))
+          ≡ take (suc k) (keep b (step u ps r .answer) (answersTo (rulesTable u) t (step u ps r .places) rs))
       go true ih = ap (λ l. step u ps r .answer ∷ l) (ih k)
       go false ih = ih (suc k)
 
   -- as many answers as frames
-  pub answers-length : (u : Setup) (ps : Places) (l : List Reception) → length (answersTo t u ps l) ≡ length (framesWith t l)
+  pub answers-length : (ps : Places) (l : List Reception) → length (answersTo (rulesTable u) t ps l) ≡ length (framesWith (rulesTable u) t l)
   unfolding answersTo framesWith
-  answers-length u ps [] = refl
-  answers-length u ps (r ∷ rs) = go (t (r .frame)) (answers-length u (step u ps r .places) rs)
+  answers-length ps [] = refl
+  answers-length ps (r ∷ rs) = go (t (r .frame)) (answers-length (step u ps r .places) rs)
     where
-      go : (b : Bool) → length (answersTo t u (step u ps r .places) rs) ≡ length (framesWith t rs)
-          → length (keep b (step u ps r .answer) (answersTo t u (step u ps r .places) rs)) ≡ length (keep b (r .frame) (framesWith t rs))
+      go : (b : Bool) → length (answersTo (rulesTable u) t (step u ps r .places) rs) ≡ length (framesWith (rulesTable u) t rs)
+          → length (keep b (step u ps r .answer) (answersTo (rulesTable u) t (step u ps r .places) rs)) ≡ length (keep b (r .frame) (framesWith (rulesTable u) t rs))
       go true ih = ap suc ih
       go false ih = ih
 
 -- ── all of a list ──
 
-not-full : (b : Bool) (a : Answer) (l : List Answer) → never 9 (keep b a l) ≡ true → b ≡ true → a ≡ full → ⊥
-not-full true a l h e q = false≢true (rw q at (and-elim-left (not (eqb (numberOf a) 9)) (never 9 l) h))
-not-full false a l h e q = false≢true e
+not-full : (u : Setup) (b : Bool) (a : Answer) (l : List Answer) → never (rulesTable u) 9 (keep b a l) ≡ true → b ≡ true → a ≡ full → ⊥
+not-full u true a l h e q = false≢true (rw q at (and-elim-left (not (eqb (numberOf a) 9)) (never (rulesTable u) 9 l) h))
+not-full u false a l h e q = false≢true e
 
-rest-never : (b : Bool) (n : ℕ) (a : Answer) (l : List Answer) → never n (keep b a l) ≡ true → never n l ≡ true
-rest-never true n a l h = and-elim-right (not (eqb (numberOf a) n)) (never n l) h
-rest-never false n a l h = h
+rest-never : (u : Setup) (b : Bool) (n : ℕ) (a : Answer) (l : List Answer) → never (rulesTable u) n (keep b a l) ≡ true → never (rulesTable u) n l ≡ true
+rest-never u true n a l h = and-elim-right (not (eqb (numberOf a) n)) (never (rulesTable u) n l) h
+rest-never u false n a l h = h
 
 module _ (u : Setup) (d : Stream) (named : 0 < d .source) where
-  pub follow : (t : ℕ) (ps : Places) (s : Session) (l : List Reception) → forward t l ≡ true → roomy d l ≡ true
-      → never 9 (answersTo (startOf d) u ps l) ≡ true → Sole ps → Beside d t ps s
-      → answersTo (ofStream d) u ps l ≡ refRun u s (framesWith (ofStream d) l)
+  pub follow : (t : ℕ) (ps : Places) (s : Session) (l : List Reception) → forward (rulesTable u) t l ≡ true → roomy (rulesTable u) d l ≡ true
+      → never (rulesTable u) 9 (answersTo (rulesTable u) (startOf d) ps l) ≡ true → Sole ps → Beside d t ps s
+      → answersTo (rulesTable u) (ofStream d) ps l ≡ refRun u s (framesWith (rulesTable u) (ofStream d) l)
   unfolding answersTo framesWith refRun parsed Sole
   follow t ps s [] fw ro nf sole beside = refl
   follow t ps s (r ∷ rs) fw ro nf sole beside =
       go (ofStream d (r .frame)) refl
       (λ x b. follow (r .frame .time) (step u ps r .places) x rs (and-elim-right (leb t (r .frame .time)) _ fw)
       (and-elim-right (pick (ofStream d (r .frame)) (leb 512 (r .room)) true) _ ro)
-      (rest-never (startOf d (r .frame)) 9 (step u ps r .answer) _ nf) (sole-step u ps r sole) b)
+      (rest-never u (startOf d (r .frame)) 9 (step u ps r .answer) _ nf) (sole-step u ps r sole) b)
     where
       onward : t ≤ r .frame .time
       onward = leb-true t (r .frame .time) (and-elim-left _ _ fw)
 
       go : (b : Bool) → ofStream d (r .frame) ≡ b
-          → ((x : Session) → Beside d (r .frame .time) (step u ps r .places) x → answersTo (ofStream d) u (step u ps r .places) rs ≡ refRun u x (framesWith (ofStream d) rs))
-          → keep b (step u ps r .answer) (answersTo (ofStream d) u (step u ps r .places) rs) ≡ refRun u s (keep b (r .frame) (framesWith (ofStream d) rs))
+          → ((x : Session) → Beside d (r .frame .time) (step u ps r .places) x → answersTo (rulesTable u) (ofStream d) (step u ps r .places) rs ≡ refRun u x (framesWith (rulesTable u) (ofStream d) rs))
+          → keep b (step u ps r .answer) (answersTo (rulesTable u) (ofStream d) (step u ps r .places) rs) ≡ refRun u s (keep b (r .frame) (framesWith (rulesTable u) (ofStream d) rs))
       go true e ih =
           let room : pick (ofStream d (r .frame)) (leb 512 (r .room)) true ≡ true = and-elim-left _ _ ro in
           let a = own u d t ps s r sole named e onward (leb-true 512 (r .room) (rw e at room)) beside
-          (λ st. not-full (startOf d (r .frame)) (step u ps r .answer) _ nf (and-intro e st)) in
-          ap (λ k. k ∷ answersTo (ofStream d) u (step u ps r .places) rs) (a .answer)
+          (λ st. not-full u (startOf d (r .frame)) (step u ps r .answer) _ nf (and-intro e st)) in
+          ap (λ k. k ∷ answersTo (rulesTable u) (ofStream d) (step u ps r .places) rs) (a .answer)
           ∙ ap (λ k. ref u s (r .frame) .answer ∷ k) (ih (ref u s (r .frame) .session) (a .beside))
       go false e ih = ih s (beside-kept (others-kept u d ps r (sole d) e) (later (r .frame .time) onward beside))

@@ -9,10 +9,10 @@ use native.Mathlib.Omega.{arith}
 use lib.Dec.{ltb, eqb}
 use lib.ListN.{length, take, drop, getD, length-take, length-drop}
 use borrow.Author.Tests.{ltb-false, leb-false}
-use Rattle.rules.specs.Answer.{Reason}
+use Rattle.rules.specs.Answer.{Answer, taken, handed, refused, full, passed, long, differs, Reason, numberOf}
 use Rattle.rules.specs.Check.{Reception, Parsed, parsed, largeId, badLength, unnamedService, forAnother, notSubscribed, frameCheck, roomCheck, check}
 use Rattle.rules.specs.Frame.{Frame, isService, isAnonymous, sourceOf, streamIf, streamOf}
-use Rattle.rules.specs.Range.{HandedRange, Ranged, RangeLaw}
+use Rattle.rules.specs.Range.{HandedRange, Ranged, RangeLaw, out, HandOut, OneLaw}
 use Rattle.rules.specs.Reception.{sessionIn, stepNew, stepStart, stepSeek, stepAnonymous, stepChecked, step}
 use Rattle.rules.specs.Session.{Session, sumOk, closing, takeEnd, takeLong, takes, overIf, over, proceedIf, proceed, reactIf, react, restarts, restarted, fresh}
 use Rattle.rules.specs.Setup.{Setup}
@@ -159,29 +159,29 @@ module _ (v : Parsed) (h : Headed v) where
 
 -- ── the checks ──
 
-abbrev Small : Option ℕ → Type 0
+abbrev pub Small : Option ℕ → Type 0
 Small none = Unit {0}
-Small (some n) = n ≤ 8
+Small (some n) = (2 ≤ n) × (n ≤ 8)
 
-or-next : (b : Bool) (n : ℕ) (o : Option ℕ) → n ≤ 8 → Small o → Small (pick b (some n) o)
+or-next : (b : Bool) (n : ℕ) (o : Option ℕ) → (2 ≤ n) × (n ≤ 8) → Small o → Small (pick b (some n) o)
 or-next true n o h k = h
 or-next false n o h k = k
 
 frame-small : (u : Setup) (f : Frame) → Small (frameCheck u f)
 unfolding frameCheck
 frame-small u f =
-    or-next (largeId (f .id)) 2 _ (omega arith)
-    (or-next (badLength (length (f .bytes))) 3 _ (omega arith)
-    (or-next (unnamedService (streamOf (f .id))) 4 _ (omega arith)
-    (or-next (badTailIn f) 5 _ (omega arith) (or-next (forAnother (u .own) (streamOf (f .id))) 6 _ (omega arith) (or-next (notSubscribed u f) 7 none (omega arith) tt)))))
+    or-next (largeId (f .id)) 2 _ (omega arith, omega arith)
+    (or-next (badLength (length (f .bytes))) 3 _ (omega arith, omega arith)
+    (or-next (unnamedService (streamOf (f .id))) 4 _ (omega arith, omega arith)
+    (or-next (badTailIn f) 5 _ (omega arith, omega arith) (or-next (forAnother (u .own) (streamOf (f .id))) 6 _ (omega arith, omega arith) (or-next (notSubscribed u f) 7 none (omega arith, omega arith) tt)))))
 
-check-small : (u : Setup) (r : Reception) → Small (check u r)
+pub check-small : (u : Setup) (r : Reception) → Small (check u r)
 unfolding check
 check-small u r = go (frameCheck u (r .frame)) (ltb (r .room) 512) (frame-small u (r .frame))
   where
     go : (o : Option ℕ) (b : Bool) → Small o → Small (roomCheck o b)
     go (some n) b k = k
-    go none true k = omega arith
+    go none true k = (omega arith, omega arith)
     go none false k = tt
 
 pub ranges : RangeLaw
@@ -192,3 +192,15 @@ ranges u ps r = go (check u r) refl (check-small u r)
     go (some n) e k = k
     go none e k =
         named-range (parsed u (r .frame)) (headed u (r .frame) (accepted u (r .frame) (checked u r e))) (isAnonymous (r .frame .id)) ps
+
+one : (a : Answer) → Ranged a → numberOf a ≡ 1 → HandOut a
+one taken h e = absurd (omega arith)
+one (handed p d prio t) h e = out p d prio t
+one (refused n) h e = absurd (omega arith)
+one full h e = absurd (omega arith)
+one (passed r) h e = absurd (omega arith)
+one long h e = absurd (omega arith)
+one differs h e = absurd (omega arith)
+
+pub one-law : OneLaw
+one-law u ps r = one (step u ps r .answer) (ranges u ps r)

@@ -1,6 +1,6 @@
 -- A successful send: its transfer ID, its records and the map that it leaves.
-use mathlib.Core.Path.{_≡_, refl, ap, _∙_}
-use mathlib.Core.Bool.{Bool, true, false, _&&_}
+use mathlib.Core.Path.{_≡_, refl, sym, ap, _∙_, subst}
+use mathlib.Core.Bool.{Bool, true, false, true≢false, _&&_}
 use mathlib.Core.List.{[]}
 use mathlib.Core.Option.{Option, none, some}
 use mathlib.Mathlib.Data.Bool.Basic.{and-elim-left, and-intro}
@@ -10,21 +10,27 @@ use lib.Dec.{ltb, leb, eqb}
 use lib.ListN.{length, getD, set, length-set}
 use borrow.Author.Tests.{eqb-true, eqb-false, eq-eqb, ne-eqb, ltb-false, lt-ltb}
 use Rattle.rules.specs.Map.{Slot, free, used, Map, times, slotFor, drawn, topicFits, slotsFit, sound}
-use Rattle.rules.specs.Sending.{Call, topicOf, isResponse, notSendable, frameCount, Outcome, done, unsendable, long, small, full, numberOf, framesOf, idFor, Step, refuse, transmit, sendAt, sendIn, sendAs, sendStep}
-use Rattle.rules.specs.SendingLaws.{InRange, RecordLaws, Correct, SourceLaws, MapLasts}
-use Rattle.rules.specs.Sent.{sent}
+use Rattle.rules.specs.Sending.{Call, topicOf, streamOf, isResponse, notSendable, frameCount, Outcome, done, unsendable, long, small, full, numberOf, framesOf, idFor, recordsOf, Step, refuse, transmit, sendAt, sendIn, sendAs, sendStep}
+use Rattle.rules.specs.SendingLaws.{InRange, RecordLaws, offered, transferFor, Correct, SourceLaws, MapLasts}
+use Rattle.rules.specs.Sent.{sent, idOf}
 use Rattle.rules.specs.Session.{next}
 use Rattle.rules.specs.Tests.{pick}
 use Rattle.rules.proofs.Calls.{in-range, stream-in, anonymous-id}
-use Rattle.rules.proofs.Draws.{Sought, Given, nowhere, found, fresh, given, all-fit, drawn-small, kept-found, kept-fresh}
+use Rattle.rules.proofs.Draws.{Sought, Given, nowhere, found, fresh, given, Gives, gives, all-fit, drawn-small, kept-found, kept-fresh}
 use Rattle.rules.proofs.Records.{sent-length, sent-short, length-records, back}
 
 -- ── refused, or sent under a transfer ID with a map after ──
 
+-- the transfer ID is the one that the map gives, and the map after gives the next
+record Drew (c : Call) (m : Map) (t : ℕ) (after : Map) : Type 0 where
+  pub is : t ≡ transferFor c m
+  pub raised : isResponse c ≡ false → offered (topicOf c) after ≡ next t
+  pub unused : isResponse c ≡ true → after ≡ m
+
 data Sends (c : Call) (m : Map) (room : ℕ) : Step → Type 0 where
   refused : (o : Outcome) → framesOf o ≡ 0 → ((n : ℕ) → o ≡ done n → ⊥) → Sends c m room (refuse o m)
   went : (t : ℕ) (after : Map) → InRange c → length (c .payload) ≤ 512 → 13 * frameCount (length (c .payload)) ≤ room
-      → (sound m ≡ true → (t < 32) × (sound after ≡ true)) → Sends c m room (transmit c t after)
+      → (sound m ≡ true → (t < 32) × (sound after ≡ true)) → Drew c m t after → Sends c m room (transmit c t after)
 
 topic-in : (c : Call) → InRange c → (c .transferType ≡ 2 → ⊥) → topicFits (topicOf c) ≡ true
 unfolding topicFits
@@ -52,6 +58,15 @@ module _ (c : Call) (m : Map) (room : ℕ) (ok : InRange c) (size : length (c .p
     abbrev t : ℕ
     t = drawn (topicOf c) (getD m i free)
 
+    drew : Gives (topicOf c) m (some i) → Drew c m t (set m i (used (topicOf c) (next t) (c .time)))
+    drew g =
+        let e : isResponse c ≡ false = ne-eqb (c .transferType) 2 n in
+        record {
+          is = g .0 ∙ sym (ap (λ b. pick b (c .transfer) (offered (topicOf c) m)) e);
+          raised = λ k. g .1 (next t) (c .time);
+          unused = λ k. absurd (true≢false (sym k ∙ e));
+        }
+
     drawn-in : sound m ≡ true → t < 32
     drawn-in h = drawn-small (topicOf c) m (getD m i free) (all-fit m h i)
 
@@ -65,16 +80,17 @@ module _ (c : Call) (m : Map) (room : ℕ) (ok : InRange c) (size : length (c .p
         sound-set m i (used (topicOf c) (next t) (c .time)) h
         (kept-fresh m (all-fit m h) i l (topicOf c) (topic-in c ok n) (next t) (c .time) (omega arith) f)
 
-  in-map : (c .transferType ≡ 2 → ⊥) → (o : Option ℕ) → Given (topicOf c) m o → Sends c m room (sendIn o c m)
+  in-map : (c .transferType ≡ 2 → ⊥) → (o : Option ℕ) → Given (topicOf c) m o → Gives (topicOf c) m o → Sends c m room (sendIn o c m)
   unfolding sendIn sendAt
-  in-map n none nowhere = refused full refl (λ k e. let z : _≡_ {A = ℕ} 0 1 = cc in omega arith)
-  in-map n (some i) (found f) = went (t n i) (set m i (used (topicOf c) (next (t n i)) (c .time))) ok size space (λ h. (drawn-in n i h, at-found n i f h))
-  in-map n (some i) (fresh l f) = went (t n i) (set m i (used (topicOf c) (next (t n i)) (c .time))) ok size space (λ h. (drawn-in n i h, at-fresh n i l f h))
+  in-map n none nowhere g = refused full refl (λ k e. let z : _≡_ {A = ℕ} 0 1 = cc in omega arith)
+  in-map n (some i) (found f) g = went (t n i) (set m i (used (topicOf c) (next (t n i)) (c .time))) ok size space (λ h. (drawn-in n i h, at-found n i f h)) (drew n i g)
+  in-map n (some i) (fresh l f) g = went (t n i) (set m i (used (topicOf c) (next (t n i)) (c .time))) ok size space (λ h. (drawn-in n i h, at-fresh n i l f h)) (drew n i g)
 
   as-kind : (b : Bool) → isResponse c ≡ b → Sends c m room (sendAs b c m)
   unfolding sendAs
   as-kind true e = went (c .transfer) m ok size space (λ h. (ok .response (eqb-true (c .transferType) 2 e), h))
-  as-kind false e = in-map (eqb-false (c .transferType) 2 e) (slotFor (topicOf c) (c .time) m) (given (topicOf c) (c .time) m)
+      (record { is = sym (ap (λ b. pick b (c .transfer) (offered (topicOf c) m)) e); raised = λ k. absurd (true≢false (sym e ∙ k)); unused = λ k. refl })
+  as-kind false e = in-map (eqb-false (c .transferType) 2 e) (slotFor (topicOf c) (c .time) m) (given (topicOf c) (c .time) m) (gives (topicOf c) (c .time) m)
 
 sends : (c : Call) (m : Map) (room : ℕ) → Sends c m room (sendStep c m room)
 unfolding sendStep
@@ -134,19 +150,19 @@ leaves c m room = fit (notSendable c) refl
 sized : (c : Call) (m : Map) (room : ℕ) (s : Step) → Sends c m room s → length (s .records) ≡ 13 * framesOf (s .answer)
 unfolding transmit
 sized c m room s (refused o z n) = omega arith
-sized c m room s (went t after ok size space h) =
+sized c m room s (went t after ok size space h r) =
     length-records (idFor c) (sent (c .signature) t (c .payload)) (sent-short (c .signature) t (c .payload))
     ∙ ap (λ n. 13 * n) (sent-length (c .signature) t (c .payload))
 
 refuses : (c : Call) (m : Map) (room : ℕ) (s : Step) → Sends c m room s → (numberOf (s .answer) ≡ 0 → ⊥) → (s .map ≡ m) × (s .records ≡ [])
 unfolding transmit
 refuses c m room s (refused o z never) n = (refl, refl)
-refuses c m room s (went t after ok size space h) n = absurd (n refl)
+refuses c m room s (went t after ok size space h r) n = absurd (n refl)
 
 fits-room : (c : Call) (m : Map) (room : ℕ) (s : Step) → Sends c m room s → length (s .records) ≤ room
 unfolding transmit
 fits-room c m room s (refused o z n) = omega arith
-fits-room c m room s (went t after ok size space h) = let q = sized c m room s (went t after ok size space h) in omega arith
+fits-room c m room s (went t after ok size space h r) = let q = sized c m room s (went t after ok size space h r) in omega arith
 
 few-frames : (n : ℕ) → n ≤ 512 → frameCount n ≤ 74
 unfolding frameCount
@@ -159,25 +175,35 @@ few-frames n h = go (leb n 7)
 few : (c : Call) (m : Map) (room : ℕ) (s : Step) → Sends c m room s → framesOf (s .answer) ≤ 74
 unfolding transmit
 few c m room s (refused o z n) = omega arith
-few c m room s (went t after ok size space h) = few-frames (length (c .payload)) size
+few c m room s (went t after ok size space h r) = few-frames (length (c .payload)) size
 
 lasts : (c : Call) (m : Map) (room : ℕ) (s : Step) → Sends c m room s → sound m ≡ true → sound (s .map) ≡ true
 unfolding transmit
 lasts c m room s (refused o z n) h = h
-lasts c m room s (went t after ok size space k) h = k h .1
+lasts c m room s (went t after ok size space k r) h = k h .1
 
-correct : (c : Call) (m : Map) (room n : ℕ) (s : Step) → Sends c m room s → sound m ≡ true → s .answer ≡ done n → 0 < c .own → Correct c (s .records)
+correct : (c : Call) (m : Map) (room n : ℕ) (s : Step) → Sends c m room s → sound m ≡ true → s .answer ≡ done n → 0 < c .own → Correct c m (s .records)
 unfolding transmit
 correct c m room n s (refused o z never) h e named = absurd (never n e)
-correct c m room n s (went t after ok size space k) h e named =
+correct c m room n s (went t after ok size space k r) h e named =
     record {
       stream = stream-in c ok named;
       priority = ok .priority;
       payload = size;
-      transfer = t;
-      small = k h .0;
-      frames = rw (ne-eqb (c .own) 0 (λ z. omega arith));
+      transfer = subst (λ i. i < 32) (r .is) (k h .0);
+      frames = rw (ne-eqb (c .own) 0 (λ z. omega arith)) (ap (λ i. recordsOf (idOf (streamOf c) (c .priority)) (sent (c .signature) i (c .payload))) (r .is));
     }
+
+raised : (c : Call) (m : Map) (room n : ℕ) (s : Step) → Sends c m room s → s .answer ≡ done n → isResponse c ≡ false
+    → offered (topicOf c) (s .map) ≡ next (transferFor c m)
+unfolding transmit
+raised c m room n s (refused o z never) e k = absurd (never n e)
+raised c m room n s (went t after ok size space h r) e k = r .raised k ∙ ap next (r .is)
+
+unused : (c : Call) (m : Map) (room : ℕ) (s : Step) → Sends c m room s → isResponse c ≡ true → s .map ≡ m
+unfolding transmit
+unused c m room s (refused o z never) k = refl
+unused c m room s (went t after ok size space h r) k = r .unused k
 
 pub record-laws : RecordLaws
 record-laws =
@@ -196,6 +222,8 @@ source-laws =
     record {
       named = λ c m room n h e named. correct c m room n (sendStep c m room) (sends c m room) h e named;
       anonymous = λ c h z. anonymous-id c (in-range c h) z;
+      raised = λ c m room n e k. raised c m room n (sendStep c m room) (sends c m room) e k;
+      unused = λ c m room k. unused c m room (sendStep c m room) (sends c m room) k;
     }
 
 pub map-lasts : MapLasts

@@ -7,8 +7,8 @@ use Prim.Native.Nat.{ℕ, _<_}
 use native.Mathlib.Omega.{arith}
 use lib.Dec.{ltb, eqb}
 use lib.ListN.{length, getD}
-use borrow.Author.Tests.{eqb-true}
-use Rattle.rules.specs.Answer.{Reason}
+use borrow.Author.Tests.{eqb-true, ltb-true}
+use Rattle.rules.specs.Answer.{Reason, numberOf}
 use Rattle.rules.specs.Check.{Reception, Parsed, parsed, frameCheck, check}
 use Rattle.rules.specs.Condition3.{ofStream, took}
 use Rattle.rules.specs.Frame.{Stream, streamOf, isAnonymous}
@@ -20,6 +20,7 @@ use Rattle.rules.specs.Tests.{sameBool, isEmpty}
 use Rattle.rules.proofs.Checks.{checked, start-toggle, named-not-anonymous, of-stream}
 use Rattle.rules.proofs.Others.{FoundPlace, place-spec}
 use Rattle.rules.proofs.Own.{began, long-free, begins, react-is}
+use Rattle.rules.proofs.Ranges.{Small, check-small}
 use Rattle.rules.proofs.Table.{Found, seek-spec, sessionsOf, fails-none, Sole, only, new-at}
 
 -- ── one session ──
@@ -52,13 +53,13 @@ took-began s v st g e =
 
 -- and takes it as such
 module _ (v : Parsed) (st : v .start ≡ true) (g : v .toggle ≡ false) where
-  took-proceed : (s : Session) (o : Option Reason) → over s v ≡ o → took (proceedIf o s v .answer) ≡ true → proceedIf o s v ≡ takes (fresh v) v
+  took-proceed : (s : Session) (o : Option Reason) → over s v ≡ o → took (numberOf (proceedIf o s v .answer)) ≡ true → proceedIf o s v ≡ takes (fresh v) v
   unfolding proceedIf takes
   took-proceed s (some r) e t = absurd (false≢true t)
   took-proceed s none e t =
       ap (λ x. takes x v) (took-began s v st g e) ∙ long-free (ltb 514 (length (v .payload))) (s .since) (v .time) v (v .payload) st
 
-  took-react : (s : Session) → took (react s v .answer) ≡ true → react s v ≡ takes (fresh v) v
+  took-react : (s : Session) → took (numberOf (react s v .answer)) ≡ true → react s v ≡ takes (fresh v) v
   unfolding reactIf proceed
   took-react s t = go (restarts s v) refl
     where
@@ -66,7 +67,7 @@ module _ (v : Parsed) (st : v .start ≡ true) (g : v .toggle ≡ false) where
       go true e = react-is s v true true e st ∙ begins (s .since) v st g
       go false e =
           let q = react-is s v false true e st in
-          q ∙ took-proceed s (over s v) refl (subst (λ o. took (o .answer) ≡ true) q t)
+          q ∙ took-proceed s (over s v) refl (subst (λ o. took (numberOf (o .answer)) ≡ true) q t)
 
 -- ── the table ──
 
@@ -76,7 +77,7 @@ pub record Began (d : Stream) (a : Step) (o : Out) : Type 0 where
   pub session : sessionsOf d (a .places) ≡ o .session ∷ []
 
 module _ (ps : Places) (v : Parsed) (st : v .start ≡ true) (g : v .toggle ≡ false) (sole : Sole ps) where
-  began-new : (o : Option ℕ) → FoundPlace (v .time) ps o → sessionsOf (v .stream) ps ≡ [] → took (stepNew o ps v .answer) ≡ true
+  began-new : (o : Option ℕ) → FoundPlace (v .time) ps o → sessionsOf (v .stream) ps ≡ [] → took (numberOf (stepNew o ps v .answer)) ≡ true
       → Began (v .stream) (stepNew o ps v) (takes (fresh v) v)
   unfolding stepNew
   began-new none h e t = absurd (false≢true t)
@@ -87,13 +88,13 @@ module _ (ps : Places) (v : Parsed) (st : v .start ≡ true) (g : v .toggle ≡ 
         session = new-at (v .stream) ps i (proceed (fresh v) v .session) (h .0) e ∙ ap (λ o. o .session ∷ []) q;
       }
 
-  began-start : (b : Bool) → b ≡ true → sessionsOf (v .stream) ps ≡ [] → took (stepStart b ps v .answer) ≡ true
+  began-start : (b : Bool) → b ≡ true → sessionsOf (v .stream) ps ≡ [] → took (numberOf (stepStart b ps v .answer)) ≡ true
       → Began (v .stream) (stepStart b ps v) (takes (fresh v) v)
   unfolding stepStart
   began-start true k e t = began-new (placeFor (v .time) ps) (place-spec (v .time) ps) e t
   began-start false k e t = absurd (false≢true t)
 
-  began-seek : (o : Option ℕ) → Found (holds (v .stream)) ps o → took (stepSeek o ps v .answer) ≡ true
+  began-seek : (o : Option ℕ) → Found (holds (v .stream)) ps o → took (numberOf (stepSeek o ps v .answer)) ≡ true
       → Began (v .stream) (stepSeek o ps v) (takes (fresh v) v)
   unfolding stepSeek Sole
   began-seek none h t = began-start (v .start) st (fails-none (v .stream) ps h) t
@@ -105,16 +106,21 @@ module _ (ps : Places) (v : Parsed) (st : v .start ≡ true) (g : v .toggle ≡ 
       }
 
 -- what is taken passed the checks
-pub took-checked : (u : Setup) (ps : Places) (r : Reception) → took (step u ps r .answer) ≡ true → frameCheck u (r .frame) ≡ none
+not-taken : (u : Setup) (r : Reception) (n : ℕ) → check u r ≡ some n → took n ≡ true → ⊥
+not-taken u r n e k =
+    let s : Small (some n) = subst Small e (check-small u r) in
+    omega (arith, ltb-true n 2 k)
+
+pub took-checked : (u : Setup) (ps : Places) (r : Reception) → took (numberOf (step u ps r .answer)) ≡ true → frameCheck u (r .frame) ≡ none
 unfolding step stepChecked
 took-checked u ps r t = go (check u r) refl t
   where
-    go : (o : Option ℕ) → check u r ≡ o → took (stepChecked o (isAnonymous (r .frame .id)) ps (parsed u (r .frame)) .answer) ≡ true → frameCheck u (r .frame) ≡ none
+    go : (o : Option ℕ) → check u r ≡ o → took (numberOf (stepChecked o (isAnonymous (r .frame .id)) ps (parsed u (r .frame)) .answer)) ≡ true → frameCheck u (r .frame) ≡ none
     go none e k = checked u r e
-    go (some n) e k = absurd (false≢true k)
+    go (some n) e k = absurd (not-taken u r n e k)
 
 began-stream : (u : Setup) (ps : Places) (r : Reception) → 0 < streamOf (r .frame .id) .source → parsed u (r .frame) .start ≡ true → Sole ps
-    → took (step u ps r .answer) ≡ true → Began (streamOf (r .frame .id)) (step u ps r) (takes (fresh (parsed u (r .frame))) (parsed u (r .frame)))
+    → took (numberOf (step u ps r .answer)) ≡ true → Began (streamOf (r .frame .id)) (step u ps r) (takes (fresh (parsed u (r .frame))) (parsed u (r .frame)))
 unfolding step stepChecked stepAnonymous parsed
 began-stream u ps r named st sole t =
     rw (named-not-anonymous (r .frame .id) named) (go (check u r) refl (rw (named-not-anonymous (r .frame .id) named) at t))
@@ -122,14 +128,14 @@ began-stream u ps r named st sole t =
     v : Parsed
     v = parsed u (r .frame)
 
-    go : (o : Option ℕ) → check u r ≡ o → took (stepChecked o false ps v .answer) ≡ true
+    go : (o : Option ℕ) → check u r ≡ o → took (numberOf (stepChecked o false ps v .answer)) ≡ true
         → Began (streamOf (r .frame .id)) (stepChecked o false ps v) (takes (fresh v) v)
     go none e k =
         began-seek ps v st (start-toggle u (r .frame) (checked u r e) st) sole (seek (holds (v .stream)) ps) (seek-spec (holds (v .stream)) ps) k
-    go (some n) e k = absurd (false≢true k)
+    go (some n) e k = absurd (not-taken u r n e k)
 
 pub began-by : (u : Setup) (d : Stream) (ps : Places) (r : Reception) → 0 < d .source → ofStream d (r .frame) ≡ true → parsed u (r .frame) .start ≡ true
-    → Sole ps → took (step u ps r .answer) ≡ true → Began d (step u ps r) (takes (fresh (parsed u (r .frame))) (parsed u (r .frame)))
+    → Sole ps → took (numberOf (step u ps r .answer)) ≡ true → Began d (step u ps r) (takes (fresh (parsed u (r .frame))) (parsed u (r .frame)))
 began-by u d ps r named e st sole t =
     subst (λ k. 0 < k .source → Began k (step u ps r) (takes (fresh (parsed u (r .frame))) (parsed u (r .frame))))
     (of-stream d (r .frame) e) (λ n. began-stream u ps r n st sole t) named

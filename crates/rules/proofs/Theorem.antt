@@ -1,5 +1,5 @@
 -- Condition 3: the theorem.
-use mathlib.Core.Path.{_≡_, refl, sym, ap, _∙_, subst}
+use mathlib.Core.Path.{_≡_, refl, sym, ap, ap₂, _∙_, subst}
 use mathlib.Core.Bool.{Bool, true, false}
 use mathlib.Core.List.{List, [], _∷_}
 use mathlib.Core.Option.{some}
@@ -13,7 +13,7 @@ use borrow.Author.Tests.{eq-eqb, lt-leb, leb-true, leb-false}
 use Rattle.checksum.specs.Crc16.{checksum}
 use Rattle.rules.specs.Answer.{Answer, taken, handed, refused, full, passed, long, differs}
 use Rattle.rules.specs.Check.{Reception, parsed}
-use Rattle.rules.specs.Condition3.{Past, fromSetup, lent, heard, ofStream, startOf, keep, framesWith, answersTo, Receiver, startIn, started, frames, answers, took, front, While, Brings, next, again, Transfer, handouts, Condition3}
+use Rattle.rules.specs.Condition3.{Past, fromSetup, lent, heard, ofStream, startOf, keep, framesWith, answersTo, Receiver, startFrame, frames, answers, tookStart, front, While, Brings, next, again, Transfer, handouts, Condition3, rulesTable}
 use Rattle.rules.specs.Frame.{Frame, Stream, streamOf, priorityOf, isAnonymous, isStart, tailOf}
 use Rattle.rules.specs.Reception.{step, after}
 use Rattle.rules.specs.Sent.{withSum, carried, carrying, sent, idOf}
@@ -79,60 +79,64 @@ unaltered u id t signature p e = go (leb (length p) 7) refl
           eq-eqb (checksum signature p % 256 + 256 * (checksum signature p / 256)) (checksum signature p) (omega arith),
         )
 
-handouts-closings : (l : List Answer) → handouts l ≡ handouts (closings l)
-handouts-closings [] = refl
-handouts-closings (taken ∷ l) = handouts-closings l
-handouts-closings (handed p d priority t ∷ l) = ap (λ k. handed p d priority t ∷ k) (handouts-closings l)
-handouts-closings (refused n ∷ l) = ap (λ k. keep (eqb n 1) (refused n) k) (handouts-closings l)
-handouts-closings (full ∷ l) = handouts-closings l
-handouts-closings (passed r ∷ l) = handouts-closings l
-handouts-closings (long ∷ l) = handouts-closings l
-handouts-closings (differs ∷ l) = handouts-closings l
+handouts-closings : (u : Setup) (l : List Answer) → handouts (rulesTable u) l ≡ handouts (rulesTable u) (closings l)
+handouts-closings u [] = refl
+handouts-closings u (taken ∷ l) = handouts-closings u l
+handouts-closings u (handed p d priority t ∷ l) = ap (λ k. handed p d priority t ∷ k) (handouts-closings u l)
+handouts-closings u (refused n ∷ l) = ap (λ k. keep (eqb n 1) (refused n) k) (handouts-closings u l)
+handouts-closings u (full ∷ l) = handouts-closings u l
+handouts-closings u (passed r ∷ l) = handouts-closings u l
+handouts-closings u (long ∷ l) = handouts-closings u l
+handouts-closings u (differs ∷ l) = handouts-closings u l
 
 -- ── one receiver ──
 
 -- what one receiver owes at the start
-pub record Starts (u : Setup) (d : Stream) (f : Frame) (x : Receiver) : Type 0 where
-  pub past : Past u (x .places)
+pub record Starts (u : Setup) (d : Stream) (x : Receiver (rulesTable u)) : Type 0 where
+  pub past : Past u (x .state)
   pub named : 0 < d .source
-  pub start : startOf d f ≡ true
-  pub takes : took (started u f x .answer) ≡ true
+  pub start : startOf d (startFrame (rulesTable u) x) ≡ true
+  pub takes : tookStart (rulesTable u) x ≡ true
 
 abbrev pub first : Setup → Frame → Out
 first u f = takes (fresh (parsed u f)) (parsed u f)
 
-module _ (u : Setup) (d : Stream) (f : Frame) (x : Receiver) (s : Starts u d f x) where
+module _ (u : Setup) (d : Stream) (x : Receiver (rulesTable u)) (s : Starts u d x) where
+  abbrev f : Frame
+  f = x .start .frame
+
   mine : ofStream d f ≡ true
   mine = and-elim-left (ofStream d f) (isStart (tailOf (f .bytes))) (s .start)
 
   -- it answers as the reference that begins with the start
-  pub as-reference : (k : ℕ) → While u d f k x
-      → take (suc k) (answers u d f x) ≡ first u f .answer ∷ refRun u (first u f .session) (take k (frames d x))
+  pub as-reference : (k : ℕ) → While (rulesTable u) d k x
+      → take (suc k) (answers (rulesTable u) d x) ≡ first u f .answer ∷ refRun u (first u f .session) (take k (frames (rulesTable u) d x))
   unfolding answersTo parsed
   as-reference k w =
-      let sole = past-sole u (x .places) (s .past) in
-      let b = began-by u d (x .places) (startIn f x) (s .named) mine (and-elim-right (ofStream d f) _ (s .start)) sole (s .takes) in
-      let qs = started u f x .places in
-      let q = follow u d (s .named) (f .time) qs (first u f .session) (front d k x) (w .time) (w .room) (w .table)
-      (sole-step u (x .places) (startIn f x) sole) (same (b .session)) in
+      let sole = past-sole u (x .state) (s .past) in
+      let b = began-by u d (x .state) (x .start) (s .named) mine (and-elim-right (ofStream d f) _ (s .start)) sole (s .takes) in
+      let qs = step u (x .state) (x .start) .places in
+      let q = follow u d (s .named) (f .time) qs (first u f .session) (front (rulesTable u) d k x) (w .time) (w .room) (w .table)
+      (sole-step u (x .state) (x .start) sole) (same (b .session)) in
       rw mine
-      (ap (λ a. a ∷ take k (answersTo (ofStream d) u qs (x .list))) (b .answer)
-      ∙ ap (λ l. first u f .answer ∷ l) (sym (answers-upto (ofStream d) u qs (x .list) k) ∙ q ∙ ap (refRun u (first u f .session)) (frames-upto (ofStream d) (x .list) k)))
+      (ap (λ a. a ∷ take k (answersTo (rulesTable u) (ofStream d) qs (x .list))) (b .answer)
+      ∙ ap (λ l. first u f .answer ∷ l)
+      (sym (answers-upto (ofStream d) u qs (x .list) k) ∙ q ∙ ap (refRun u (first u f .session)) (frames-upto (ofStream d) u (x .list) k)))
 
   -- all of its answers, where the premises hold up to the stream's last frame
-  pub all-answers : While u d f (length (frames d x)) x
-      → answers u d f x ≡ first u f .answer ∷ refRun u (first u f .session) (frames d x)
+  pub all-answers : While (rulesTable u) d (length (frames (rulesTable u) d x)) x
+      → answers (rulesTable u) d x ≡ first u f .answer ∷ refRun u (first u f .session) (frames (rulesTable u) d x)
   unfolding framesWith
   all-answers w =
-      let n = length (frames d x) in
-      let c : length (answers u d f x) ≤ suc n = rw (answers-length (ofStream d) u (x .places) (startIn f x ∷ x .list), mine) (omega arith) in
-      sym (take-all (suc n) (answers u d f x) c) ∙ as-reference n w
-      ∙ ap (λ fs. first u f .answer ∷ refRun u (first u f .session) fs) (take-length (frames d x))
+      let n = length (frames (rulesTable u) d x) in
+      let c : length (answers (rulesTable u) d x) ≤ suc n = rw (answers-length (ofStream d) u (x .state) (x .start ∷ x .list), mine) (omega arith) in
+      sym (take-all (suc n) (answers (rulesTable u) d x) c) ∙ as-reference n w
+      ∙ ap (λ fs. first u f .answer ∷ refRun u (first u f .session) fs) (take-length (frames (rulesTable u) d x))
 
   -- ── a transfer ──
 
   abbrev ok : Accepted u f
-  ok = accepted u f (took-checked u (x .places) (startIn f x) (s .takes))
+  ok = accepted u f (took-checked u (x .state) (x .start) (s .takes))
 
   stream-is : streamOf (f .id) ≡ d
   stream-is = of-stream d f mine
@@ -141,35 +145,40 @@ module _ (u : Setup) (d : Stream) (f : Frame) (x : Receiver) (s : Starts u d f x
   not-anonymous = named-not-anonymous (f .id) (rw stream-is (s .named))
 
   -- of the answers to frames that carry some bytes, one alone neither takes nor passes over
-  pub closes : (t : ℕ) → t < 32 → (all : List ℕ) → length all ≤ 514 → While u d f (length (frames d x)) x
-      → Brings (f .id) (f .time + 2000000) (carrying t all) (f ∷ frames d x)
-      → closings (answers u d f x) ≡ verdict u (f .id) t all (leb (length all) 7) ∷ []
-  closes t small all most w b = ap closings (all-answers w) ∙ closes-once u f ok not-anonymous t small all most (frames d x) b
+  pub closes : (t : ℕ) → t < 32 → (all : List ℕ) → length all ≤ 514 → While (rulesTable u) d (length (frames (rulesTable u) d x)) x
+      → Brings (f .id) (f .time + 2000000) (carrying t all) (f ∷ frames (rulesTable u) d x)
+      → closings (answers (rulesTable u) d x) ≡ verdict u (f .id) t all (leb (length all) 7) ∷ []
+  closes t small all most w b = ap closings (all-answers w) ∙ closes-once u f ok not-anonymous t small all most (frames (rulesTable u) d x) b
 
-  hands-out : (priority t : ℕ) (p : List ℕ) → Transfer u d f (frames d x) priority t p
-      → While u d f (length (frames d x)) x → handouts (answers u d f x) ≡ handed p d priority t ∷ []
+  hands-out : (priority t : ℕ) (p : List ℕ) → Transfer u d f (frames (rulesTable u) d x) priority t p
+      → While (rulesTable u) d (length (frames (rulesTable u) d x)) x → handouts (rulesTable u) (answers (rulesTable u) d x) ≡ handed p d priority t ∷ []
   unfolding sent
   hands-out priority t p tr w =
       let i : f .id ≡ idOf d priority = sender (tr .brings) in
       let e : priorityOf (f .id) ≡ priority = ap priorityOf i ∙ id-priority d priority (subst (λ k. streamFits k ≡ true) stream-is (stream-fits u f ok not-anonymous)) in
-      handouts-closings (answers u d f x)
-      ∙ ap handouts
+      handouts-closings u (answers (rulesTable u) d x)
+      ∙ ap (handouts (rulesTable u))
       (closes t (tr .fields .1) (carried (tr .signature) p) (carried-most (tr .signature) p (tr .size)) w
-      (subst (λ id. Brings id (f .time + 2000000) (carrying t (carried (tr .signature) p)) (f ∷ frames d x)) (sym i) (tr .brings))
+      (subst (λ id. Brings id (f .time + 2000000) (carrying t (carried (tr .signature) p)) (f ∷ frames (rulesTable u) d x)) (sym i) (tr .brings))
       ∙ ap (λ a. a ∷ []) (unaltered u (f .id) t (tr .signature) p (ap (signatureFor u) i ∙ tr .subscribed)))
       ∙ λ j. handed p (stream-is j) (e j) t ∷ []
 
-pub theorem : Condition3
-theorem u d f x y h =
+pub theorem : Condition3 rulesTable
+theorem u d x y h =
     record {
-      alike = λ k v w. as-reference u d f x (starts x (h .pasts .0) (h .take .0)) k v
-          ∙ ap (λ fs. first u f .answer ∷ refRun u (first u f .session) (take k fs)) (h .same)
-          ∙ sym (as-reference u d f y (starts y (h .pasts .1) (h .take .1)) k w);
+      alike = λ k v w. as-reference u d x sx k v
+          ∙ ap₂ (λ (f : Frame) (fs : List Frame). first u f .answer ∷ refRun u (first u f .session) (take k fs)) (h .together) (h .same)
+          ∙ sym (as-reference u d y sy k w);
       delivered = λ priority t p tr v w. (
-        hands-out u d f x (starts x (h .pasts .0) (h .take .0)) priority t p tr v,
-        hands-out u d f y (starts y (h .pasts .1) (h .take .1)) priority t p (subst (λ fs. Transfer u d f fs priority t p) (h .same) tr) w,
+        hands-out u d x sx priority t p tr v,
+        hands-out u d y sy priority t p
+            (subst (λ fs. Transfer u d (y .start .frame) fs priority t p) (h .same)
+            (subst (λ f. Transfer u d f (frames (rulesTable u) d x) priority t p) (h .together) tr)) w,
       );
     }
   where
-    starts : (z : Receiver) → Past u (z .places) → took (started u f z .answer) ≡ true → Starts u d f z
-    starts z p t = record { past = p; named = h .named; start = h .start; takes = t }
+    sx : Starts u d x
+    sx = record { past = h .pasts .0; named = h .named; start = h .start; takes = h .take .0 }
+
+    sy : Starts u d y
+    sy = record { past = h .pasts .1; named = h .named; start = subst (λ f. startOf d f ≡ true) (h .together) (h .start); takes = h .take .1 }

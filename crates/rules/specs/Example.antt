@@ -6,7 +6,7 @@ use Prim.Native.Nat.{ℕ, zero, suc, _^_}
 use lib.ListN.{take}
 use Rattle.rules.specs.Answer.{handed}
 use Rattle.rules.specs.Check.{Reception}
-use Rattle.rules.specs.Condition3.{Receiver, frames, answers, Premises, While, Transfer, handouts}
+use Rattle.rules.specs.Condition3.{Receiver, frames, answers, Premises, While, Transfer, handouts, rulesTable}
 use Rattle.rules.specs.Frame.{Frame, Stream}
 use Rattle.rules.specs.Reception.{after}
 use Rattle.rules.specs.Sent.{frameAt}
@@ -75,11 +75,11 @@ earlier =
     other 0x1001552A (1 ∷ 0 ∷ 0 ∷ 0 ∷ 0 ∷ 0 ∷ 0 ∷ 0xC0 ∷ []) 1001000 ∷
     other 0x1001552A (1 ∷ 0x81 ∷ []) 2000000 ∷ []
 
-abbrev pub spacious : Receiver
+abbrev pub spacious : Receiver (rulesTable setup)
 spacious =
     record {
-      places = after setup begun earlier;
-      room = 512;
+      state = after setup begun earlier;
+      start = record { frame = start; room = 512 };
       list =
           other 0x303FF22A two 10000000 ∷
           received one 10000001 ∷
@@ -95,11 +95,11 @@ spacious =
 
 -- The other was lent a table with all places held, a broken transfer of the stream among them. Between it hears a start that is refused for the full table,
 -- one that takes an old session's place, and a single frame; after the stream's last frame time runs back.
-abbrev pub crowded : Receiver
+abbrev pub crowded : Receiver (rulesTable setup)
 crowded =
     record {
-      places = held stream (record { expected = 5; gathered = 1 ∷ 2 ∷ 3 ∷ []; toggle = true; since = 7999999 }) ∷ crowd 9500000 31;
-      room = 600;
+      state = held stream (record { expected = 5; gathered = 1 ∷ 2 ∷ 3 ∷ []; toggle = true; since = 7999999 }) ∷ crowd 9500000 31;
+      start = record { frame = start; room = 600 };
       list =
           received one 10000001 ∷
           received two 10001000 ∷
@@ -115,10 +115,10 @@ crowded =
 -- ── the premises hold, and so does the claim ──
 
 pub record Example : Type 0 where
-  pub premises : Premises setup stream start spacious crowded
-  pub whiles : While setup stream start 5 spacious × While setup stream start 5 crowded
-  pub transfer : Transfer setup stream start (frames stream spacious) 16 5 payload
-  pub alike : take 6 (answers setup stream start spacious) ≡ take 6 (answers setup stream start crowded)
+  pub premises : Premises (rulesTable setup) stream spacious crowded
+  pub whiles : While (rulesTable setup) stream 5 spacious × While (rulesTable setup) stream 5 crowded
+  pub transfer : Transfer setup stream start (frames (rulesTable setup) stream spacious) 16 5 payload
+  pub alike : take 6 (answers (rulesTable setup) stream spacious) ≡ take 6 (answers (rulesTable setup) stream crowded)
   pub delivered :
-      (handouts (answers setup stream start spacious) ≡ handed payload stream 16 5 ∷ [])
-      × (handouts (answers setup stream start crowded) ≡ handed payload stream 16 5 ∷ [])
+      (handouts (rulesTable setup) (answers (rulesTable setup) stream spacious) ≡ handed payload stream 16 5 ∷ [])
+      × (handouts (rulesTable setup) (answers (rulesTable setup) stream crowded) ≡ handed payload stream 16 5 ∷ [])

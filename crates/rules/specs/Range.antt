@@ -1,8 +1,9 @@
 -- 01, Numbers answered: every number that a reception answers, and every value that 1 gives, is in its range, whatever the table was.
+use mathlib.Core.Path.{_≡_}
 use mathlib.Core.List.{List}
 use Prim.Native.Nat.{ℕ, _≤_, _<_}
 use lib.ListN.{length}
-use Rattle.rules.specs.Answer.{Answer, taken, handed, refused, full, passed, long, differs}
+use Rattle.rules.specs.Answer.{Answer, taken, handed, refused, full, passed, long, differs, numberOf}
 use Rattle.rules.specs.Check.{Reception}
 use Rattle.rules.specs.Frame.{Stream}
 use Rattle.rules.specs.Reception.{step}
@@ -21,7 +22,7 @@ pub record HandedRange (p : List ℕ) (d : Stream) (prio t : ℕ) : Type 0 where
 abbrev pub Ranged : Answer → Type 0
 Ranged taken = Unit {0}
 Ranged (handed p d prio t) = HandedRange p d prio t
-Ranged (refused n) = n ≤ 8
+Ranged (refused n) = (2 ≤ n) × (n ≤ 8)
 Ranged full = Unit {0}
 Ranged (passed r) = Unit {0}
 Ranged long = Unit {0}
@@ -29,3 +30,10 @@ Ranged differs = Unit {0}
 
 abbrev pub RangeLaw : Type 0
 RangeLaw = (u : Setup) (ps : Places) (r : Reception) → Ranged (step u ps r .answer)
+
+-- number 1 is a hand-out, and nothing else
+pub data HandOut : Answer → Type 0 where
+  out : (p : List ℕ) (d : Stream) (prio t : ℕ) → HandOut (handed p d prio t)
+
+abbrev pub OneLaw : Type 0
+OneLaw = (u : Setup) (ps : Places) (r : Reception) → numberOf (step u ps r .answer) ≡ 1 → HandOut (step u ps r .answer)

@@ -1,25 +1,27 @@
 -- What follows from the definitions of Map.antt and Sending.antt. Each record of laws is the contract of a function in src/lib.rt.
 use mathlib.Core.Path.{_≡_}
 use mathlib.Core.Bool.{true, false}
-use mathlib.Core.List.{List, [], _∷_}
+use mathlib.Core.List.{List, [], _∷_, map}
 use mathlib.Core.Option.{some}
-use Prim.Native.Nat.{ℕ, _+_, _*_, _^_, _≤_, _<_}
+use Prim.Native.Nat.{ℕ, _+_, _*_, _-_, _^_, _≤_, _<_}
 use lib.Dec.{eqb}
 use lib.ListN.{length, getD}
 use Rattle.bits.specs.Little.{le}
 use Rattle.bits.specs.Part.{span}
 use Rattle.bits.specs.Tabulate.{tabulate}
-use Rattle.rules.specs.Answer.{Answer, handed, differs}
+use Rattle.rules.specs.Answer.{handed}
 use Rattle.rules.specs.Answer as answer
 use Rattle.rules.specs.Check.{Reception}
-use Rattle.rules.specs.Condition3.{Past, took, handouts}
+use Rattle.rules.specs.Condition3.{All, Receiver, frames, answers, tookStart, forward, roomy, front, handouts, Past, rulesTable}
 use Rattle.rules.specs.Frame as frame
-use Rattle.rules.specs.Frame.{Frame, priorityOf}
-use Rattle.rules.specs.Map.{Map, blank, sound}
-use Rattle.rules.specs.Reception.{run}
-use Rattle.rules.specs.Sending.{Call, streamOf, any, notSendable, frameCount, done, numberOf, framesOf, anonymousId, recordsOf, sendStep}
+use Rattle.rules.specs.Frame.{Frame, Stream, priorityOf}
+use Rattle.rules.specs.Limits.{payloadMax, oldAge}
+use Rattle.rules.specs.Map.{Topic, free, used, Map, blank, sameTopic, sound}
+use Rattle.rules.specs.Reception.{step}
+use Rattle.rules.specs.Sending.{Call, topicOf, streamOf, isResponse, any, notSendable, frameCount, done, numberOf, framesOf, anonymousId, recordsOf, sendStep}
 use Rattle.rules.specs.Sent.{sent, idOf, frameAt}
 use Rattle.rules.specs.Setup.{Setup, subscribed, kindOf}
+use Rattle.rules.specs.Session.{next}
 use Rattle.rules.specs.Sound.{streamFits}
 use Rattle.rules.specs.Table.{Places}
 use Rattle.rules.specs.Tests.{pick}
@@ -65,19 +67,36 @@ pub record AnonymousId (c : Call) : Type 0 where
   pub priority : priorityOf (anonymousId c) ≡ c .priority
   pub anonymous : frame.isAnonymous (anonymousId c) ≡ true
 
--- a successful send of a named source: its records are the frames of "correctly sent" (Sent.antt) under the stream's ID and a transfer ID
-pub record Correct (c : Call) (records : List ℕ) : Type 0 where
+-- ── the transfer ID ──
+
+-- what a map gives a topic: its entry's ID, and 0 where it has no entry
+unfoldable pub offered : Topic → Map → ℕ
+offered k [] = 0
+offered k (free ∷ m) = offered k m
+offered k (used e t since ∷ m) = pick (sameTopic e k) t (offered k m)
+
+-- what a call sends under: a response has the caller's
+abbrev pub transferFor : Call → Map → ℕ
+transferFor c m = pick (isResponse c) (c .transfer) (offered (topicOf c) m)
+
+-- ── a successful send ──
+
+-- of a named source: its records are the frames of "correctly sent" (Sent.antt) under the stream's ID and the transfer ID
+pub record Correct (c : Call) (m : Map) (records : List ℕ) : Type 0 where
   pub stream : streamFits (streamOf c) ≡ true
   pub priority : c .priority < 32
   pub payload : length (c .payload) ≤ 512
-  pub transfer : ℕ
-  pub small : transfer < 32
-  pub frames : records ≡ recordsOf (idOf (streamOf c) (c .priority)) (sent (c .signature) transfer (c .payload))
+  pub transfer : transferFor c m < 32
+  pub frames : records ≡ recordsOf (idOf (streamOf c) (c .priority)) (sent (c .signature) (transferFor c m) (c .payload))
 
 pub record SourceLaws : Type 0 where
   -- for the ID of a named source see IdLaws
-  pub named : (c : Call) (m : Map) (room n : ℕ) → sound m ≡ true → sendStep c m room .answer ≡ done n → 0 < c .own → Correct c (sendStep c m room .records)
+  pub named : (c : Call) (m : Map) (room n : ℕ) → sound m ≡ true → sendStep c m room .answer ≡ done n → 0 < c .own → Correct c m (sendStep c m room .records)
   pub anonymous : (c : Call) → notSendable c ≡ false → c .own ≡ 0 → AnonymousId c
+  -- after it the map gives the topic the next ID; a response leaves the map
+  pub raised : (c : Call) (m : Map) (room n : ℕ) → sendStep c m room .answer ≡ done n → isResponse c ≡ false
+      → offered (topicOf c) (sendStep c m room .map) ≡ next (transferFor c m)
+  pub unused : (c : Call) (m : Map) (room : ℕ) → isResponse c ≡ true → sendStep c m room .map ≡ m
 
 -- ── the map ──
 
@@ -93,22 +112,42 @@ pub record Hears (u : Setup) (c : Call) : Type 0 where
   pub subscribes : subscribed (kindOf (streamOf c)) (c .type) (u .subscriptions) ≡ some (c .signature)
   pub addressed : (c .transferType ≡ 0 → ⊥) → u .own ≡ c .destination
 
--- n records received at one time, with room
-abbrev pub arriving : List ℕ → ℕ → ℕ → ℕ → List Reception
-arriving records n time room = tabulate (λ k. record { frame = frameIn records time k; room = room }) 0 n
+-- a frame without its time, and the frames of n records
+abbrev pub untimed : Frame → Frame
+untimed f = frameAt (f .id) (f .bytes) 0
 
--- the answers to a call's records
-pub record Arrives (c : Call) (answers : List Answer) : Type 0 where
-  pub transfer : ℕ
+abbrev pub framesIn : List ℕ → ℕ → List Frame
+framesIn records n = tabulate (frameIn records 0) 0 n
+
+-- A receiver of the setup u, with any past, hears n records on the stream d: their frames in order, within two seconds of the first, with whatever else
+-- between. Up to the last of them time does not run back, and at each a payload has room.
+pub record Hearing (u : Setup) (d : Stream) (records : List ℕ) (n : ℕ) (x : Receiver (rulesTable u)) : Type 0 where
+  pub past : Past u (x .state)
+  pub heard : map untimed (x .start .frame ∷ frames (rulesTable u) d x) ≡ framesIn records n
+  pub soon : All (λ f. f .time ≤ x .start .frame .time + oldAge) (frames (rulesTable u) d x)
+  pub time : forward (rulesTable u) (x .start .frame .time) (front (rulesTable u) d (length (frames (rulesTable u) d x)) x) ≡ true
+  pub room : payloadMax ≤ x .start .room
+  pub rooms : roomy (rulesTable u) d (front (rulesTable u) d (length (frames (rulesTable u) d x)) x) ≡ true
+
+-- what it answers to the call's records
+pub record Arrives (u : Setup) (c : Call) (m : Map) (x : Receiver (rulesTable u)) : Type 0 where
   -- the start is taken, refused for a full table or passed over
-  pub start : any (eqb (answer.numberOf (getD answers 0 differs)) 0 ∷
-      eqb (answer.numberOf (getD answers 0 differs)) 1 ∷
-      eqb (answer.numberOf (getD answers 0 differs)) 9 ∷
-      eqb (answer.numberOf (getD answers 0 differs)) 10 ∷ []) ≡ true
+  pub start : any (map (eqb (answer.numberOf (step u (x .state) (x .start) .answer))) (0 ∷ 1 ∷ 9 ∷ 10 ∷ [])) ≡ true
   -- where it is taken, the payload is handed out exactly once
-  pub once : took (getD answers 0 differs) ≡ true → handouts answers ≡ handed (c .payload) (streamOf c) (c .priority) transfer ∷ []
+  pub once : tookStart (rulesTable u) x ≡ true
+      → handouts (rulesTable u) (answers (rulesTable u) (streamOf c) x) ≡ handed (c .payload) (streamOf c) (c .priority) (transferFor c m) ∷ []
 
-abbrev pub Delivered : Type 0
-Delivered =
-    (c : Call) (m : Map) (room n : ℕ) → sound m ≡ true → sendStep c m room .answer ≡ done n → 0 < c .own → (u : Setup) → Hears u c → (ps : Places)
-    → Past u ps → (time space : ℕ) → 512 ≤ space → Arrives c (run u ps (arriving (sendStep c m room .records) n time space))
+-- n records heard at one time, with nothing between
+abbrev pub inTurn : List ℕ → ℕ → ℕ → ℕ → Reception
+inTurn records time space k = record { frame = frameIn records time k; room = space }
+
+abbrev pub atOnce : (u : Setup) → Places → List ℕ → ℕ → ℕ → ℕ → Receiver (rulesTable u)
+atOnce u ps records n time space =
+    record { state = ps; start = inTurn records time space 0; list = tabulate (inTurn records time space) 1 (n - 1) }
+
+pub record Delivered : Type 0 where
+  pub arrives : (c : Call) (m : Map) (room n : ℕ) → sound m ≡ true → sendStep c m room .answer ≡ done n → 0 < c .own → (u : Setup) → Hears u c
+      → (x : Receiver (rulesTable u)) → Hearing u (streamOf c) (sendStep c m room .records) n x → Arrives u c m x
+  -- its premises can be met
+  pub met : (c : Call) (m : Map) (room n : ℕ) → sound m ≡ true → sendStep c m room .answer ≡ done n → 0 < c .own → (u : Setup) (ps : Places) → Past u ps
+      → (time space : ℕ) → payloadMax ≤ space → Hearing u (streamOf c) (sendStep c m room .records) n (atOnce u ps (sendStep c m room .records) n time space)

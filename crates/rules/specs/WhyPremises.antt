@@ -1,54 +1,93 @@
--- Why condition 3 has its premises: for each named below a case that breaks it, and in which the claim fails. A case is given by the numbers answered to the
--- stream's frames, the start's first. Where Premises stands beside them, the case breaks a premise of the while alone.
+-- Why condition 3 has its premises: for each a case that breaks it alone, and in which the claim fails. A case is given by the numbers answered to the
+-- stream's frames, the start's first, or by what is handed out.
 use mathlib.Core.Path.{_≡_}
-use mathlib.Core.Bool.{true, false}
-use mathlib.Core.List.{List, [], _∷_, map}
-use Prim.Native.Nat.{ℕ}
-use Rattle.rules.specs.Answer.{numberOf}
+use mathlib.Core.Bool.{Bool, true, false}
+use mathlib.Core.List.{List, [], _∷_, _++_, map}
+use Prim.Native.Nat.{ℕ, _+_}
+use lib.Dec.{ltb, leb, eqb}
+use lib.ListN.{length, getD, take, drop, set, replicate}
+use Rattle.rules.specs.Answer.{Answer, handed, numberOf}
 use Rattle.rules.specs.Check.{Reception}
-use Rattle.rules.specs.Condition3.{Receiver, answers, Premises}
-use Rattle.rules.specs.Example.{setup, stream, one, two, three, frame, received, other, start, crowd}
+use Rattle.rules.specs.Condition3.{startOf, answersTo, Receiver, frames, answers, tookStart, Premises, forward, roomy, never, front, While, Brings, Transfer, handouts, rulesTable}
+use Rattle.rules.specs.Example.{setup, stream, payload, one, two, three, frame, received, other, start, crowd}
 use Rattle.rules.specs.Frame.{Frame, Stream}
-use Rattle.rules.specs.Sent.{frameAt}
+use Rattle.rules.specs.Limits.{payloadMax, oldAge}
+use Rattle.rules.specs.Reception.{step}
+use Rattle.rules.specs.Sent.{frameAt, sent, idOf}
 use Rattle.rules.specs.Sound.{sound}
 use Rattle.rules.specs.Table.{empty, held, Places, begun}
 
-abbrev pub numbers : Stream → Frame → Receiver → List ℕ
-numbers d f x = map numberOf (answers setup d f x)
+abbrev pub Heard : Type 0
+Heard = Receiver (rulesTable setup)
 
--- with a table, 512 bytes of room and a list
-abbrev pub receiver : Places → List Reception → Receiver
-receiver ps l = record { places = ps; room = 512; list = l }
+-- with a start, 512 bytes of room for it, a table and a list
+abbrev pub opened : Frame → Places → List Reception → Heard
+opened f ps l = record { state = ps; start = record { frame = f; room = 512 }; list = l }
+
+abbrev pub receiver : Places → List Reception → Heard
+receiver = opened start
 
 -- one place is free, and 31 hold sessions begun at a time
 abbrev pub oneFree : ℕ → Places
 oneFree since = empty ∷ crowd since 31
 
+abbrev pub numbers : Stream → Heard → List ℕ
+numbers d x = map numberOf (answers (rulesTable setup) d x)
+
+abbrev pub handedOut : Heard → List Answer
+handedOut x = handouts (rulesTable setup) (answers (rulesTable setup) stream x)
+
+-- ── the premises, as tests ──
+
+-- up to the stream's last frame
+abbrev pub far : Stream → Heard → List Reception
+far d x = front (rulesTable setup) d (length (frames (rulesTable setup) d x)) x
+
+-- what is asked of one receiver: 0 its past, 1 a named source, 2 a start, 3 that it takes it, and while: 4 time, 5 room, 6 table
+abbrev pub tests : Stream → Heard → List Bool
+tests d x =
+    sound (x .state) ∷
+    ltb 0 (d .source) ∷
+    startOf d (x .start .frame) ∷
+    tookStart (rulesTable setup) x ∷
+    forward (rulesTable setup) (x .start .frame .time) (far d x) ∷
+    roomy (rulesTable setup) d (far d x) ∷
+    never (rulesTable setup) 9 (answersTo (rulesTable setup) (startOf d) (step setup (x .state) (x .start) .places) (far d x)) ∷ []
+
+abbrev pub all : List Bool
+all = replicate 7 true
+
+abbrev pub but : ℕ → List Bool
+but n = set all n false
+
+-- what is asked of two
+abbrev pub Together : Heard → Heard → Type 0
+Together x y = x .start .frame ≡ y .start .frame
+
+abbrev pub Same : Stream → Heard → Heard → Type 0
+Same d x y = frames (rulesTable setup) d x ≡ frames (rulesTable setup) d y
+
+-- the signature that the setup has for the stream
+abbrev pub agreed : ℕ
+agreed = 0x0123456789ABCDEF
+
+-- what is asked of a transfer, with priority 16: its size, its transfer ID, the subscribed signature, and that the stream brings it
+pub record Sent (x : Heard) (signature t : ℕ) (p : List ℕ) (found : List Bool) : Type 0 where
+  pub premises : tests stream x ≡ all
+  pub fits : leb (length p) payloadMax ∷ ltb t 32 ∷ eqb signature agreed ∷ [] ≡ found
+  pub brings : Brings (idOf stream 16) (x .start .frame .time + oldAge) (sent signature t p) (x .start .frame ∷ frames (rulesTable setup) stream x)
+
+-- these tests are all of the premises
+pub record Tests : Type 0 where
+  pub premises : (d : Stream) (x y : Heard) → tests d x ≡ all → tests d y ≡ all → Together x y → Same d x y → Premises (rulesTable setup) d x y
+  pub whiles : (d : Stream) (x : Heard) → tests d x ≡ all → While (rulesTable setup) d (length (frames (rulesTable setup) d x)) x
+  pub transfer : (x : Heard) (signature t : ℕ) (p : List ℕ) → Sent x signature t p (true ∷ true ∷ true ∷ [])
+      → Transfer setup stream (x .start .frame) (frames (rulesTable setup) stream x) 16 t p
+
 -- ── alike ──
 
--- time runs back: a later start of another stream has taken the session's place
-abbrev pub steady : Receiver
+abbrev pub steady : Heard
 steady = receiver (oneFree 10000000) (received two 10100000 ∷ received three 10200000 ∷ [])
-
-abbrev pub back : Receiver
-back = receiver (oneFree 10000000) (other 0x103FF22B one 12000001 ∷ received two 10100000 ∷ received three 10200000 ∷ [])
-
--- the stream's next start meets a full table
-abbrev pub roomLeft : Receiver
-roomLeft = receiver begun (received one 12000002 ∷ [])
-
-abbrev pub noneLeft : Receiver
-noneLeft = receiver (oneFree 12000000) (other 0x103FF22B one 12000001 ∷ received one 12000002 ∷ [])
-
--- an output buffer is short
-abbrev pub short : Receiver
-short = receiver begun (record { frame = frame two 10100000; room = 511 } ∷ received three 10200000 ∷ [])
-
--- one receiver does not take the start: it has taken it before
-abbrev pub ahead : Receiver
-ahead =
-    receiver (held stream (record { expected = 6; gathered = []; toggle = false; since = 9000000 }) ∷ crowd 9000000 31)
-    (received two 10100000 ∷ received three 10200000 ∷ [])
 
 -- a lent table has two entries of the stream: when one has lost its place the other shows
 abbrev pub twins : Places
@@ -56,21 +95,95 @@ twins =
     held stream (record { expected = 5; gathered = []; toggle = false; since = 0 }) ∷
     held stream (record { expected = 5; gathered = 1 ∷ 2 ∷ 3 ∷ 4 ∷ 5 ∷ 6 ∷ 7 ∷ []; toggle = true; since = 12000000 }) ∷ crowd 12000000 30
 
-abbrev pub single : Receiver
+abbrev pub single : Heard
 single = receiver begun (received two 12000002 ∷ [])
 
-abbrev pub double : Receiver
+abbrev pub double : Heard
 double = receiver twins (other 0x103FF22B one 12000001 ∷ received two 12000002 ∷ [])
+
+-- what both take is no start: each adds it to what it has in hand
+abbrev pub midway : List ℕ → Heard
+midway bytes =
+    opened (frame two 10100000) (held stream (record { expected = 5; gathered = bytes; toggle = true; since = 10000000 }) ∷ crowd 10000000 31)
+    (received three 10200000 ∷ [])
+
+-- what the first frame carries
+abbrev pub seven : List ℕ
+seven = take 7 one
+
+abbrev pub intact : Heard
+intact = midway seven
+
+abbrev pub damaged : Heard
+damaged = midway (1 ∷ 2 ∷ 3 ∷ 4 ∷ 5 ∷ 6 ∷ 7 ∷ [])
+
+-- the start came earlier to one, whose session is old when the last frame comes
+abbrev pub late : Heard
+late = receiver begun (received two 10100000 ∷ received three 12000000 ∷ [])
+
+abbrev pub later : Heard
+later = opened (frame one 9999999) begun (received two 10100000 ∷ received three 12000000 ∷ [])
+
+-- one does not take the start: it has taken it before
+abbrev pub ahead : Heard
+ahead =
+    receiver (held stream (record { expected = 6; gathered = []; toggle = false; since = 9000000 }) ∷ crowd 9000000 31)
+    (received two 10100000 ∷ received three 10200000 ∷ [])
+
+-- one does not get the second frame
+abbrev pub lacking : Heard
+lacking = receiver (oneFree 10000000) (received three 10200000 ∷ [])
+
+-- time runs back: a later start of another stream has taken the session's place
+abbrev pub back : Heard
+back = receiver (oneFree 10000000) (other 0x103FF22B one 12000001 ∷ received two 10100000 ∷ received three 10200000 ∷ [])
+
+-- an output buffer is short
+abbrev pub short : Heard
+short = receiver begun (record { frame = frame two 10100000; room = 511 } ∷ received three 10200000 ∷ [])
+
+-- the stream's next start meets a full table
+abbrev pub roomLeft : Heard
+roomLeft = receiver begun (received one 12000002 ∷ [])
+
+abbrev pub noneLeft : Heard
+noneLeft = receiver (oneFree 12000000) (other 0x103FF22B one 12000001 ∷ received one 12000002 ∷ [])
 
 -- ── delivered ──
 
+-- an anonymous frame is handed out as often as it comes
+abbrev pub unnamed : Stream
+unnamed = record { transferType = 0; type = 1; source = 0; destination = 0 }
+
+abbrev pub twice : Heard
+twice = opened (frameAt 0x10000100 (1 ∷ 0xC0 ∷ []) 10000000) begun (other 0x10000100 (1 ∷ 0xC0 ∷ []) 10000001 ∷ [])
+
+-- frames of the stream, at one time
+abbrev pub hearing : List (List ℕ) → Heard
+hearing l = opened (frame (getD l 0 []) 10000000) begun (map (λ c. received c 10000000) (drop 1 l))
+
+-- 513 bytes are one too many
+abbrev pub long : List ℕ
+long = replicate 513 0
+
+-- The transfer ID 69 does not fit the tail byte: its bit 64 says that the start is the end too.
+abbrev pub wide : Heard
+wide = hearing (sent agreed 69 payload)
+
+-- the checksum is made under another signature
+abbrev pub strange : Heard
+strange = hearing (sent 7 5 payload)
+
 -- the last frame comes later than two seconds after the start
-abbrev pub late : Receiver
-late = receiver begun (received two 10100000 ∷ received three 12000001 ∷ [])
+abbrev pub tooLate : Heard
+tooLate = receiver begun (received two 10100000 ∷ received three 12000001 ∷ [])
 
 -- of a transfer of four frames the second is repeated after the third: it is taken as the fourth
-abbrev pub first : Frame
-first = frame (0x3F ∷ 0x13 ∷ 0x00 ∷ 0x00 ∷ 0x34 ∷ 0x42 ∷ 0x70 ∷ 0x85 ∷ []) 10000000
+abbrev pub four : List Reception → Heard
+four = opened (frame (0x3F ∷ 0x13 ∷ 0x00 ∷ 0x00 ∷ 0x34 ∷ 0x42 ∷ 0x70 ∷ 0x85 ∷ []) 10000000) begun
+
+abbrev pub degrees : List ℕ
+degrees = payload ++ (0x5F ∷ 0x64 ∷ 0x65 ∷ 0x67 ∷ 0x72 ∷ 0x65 ∷ 0x65 ∷ [])
 
 abbrev pub third : List ℕ
 third = 0x65 ∷ 0x5F ∷ 0x64 ∷ 0x65 ∷ 0x67 ∷ 0x72 ∷ 0x65 ∷ 0x05 ∷ []
@@ -78,35 +191,47 @@ third = 0x65 ∷ 0x5F ∷ 0x64 ∷ 0x65 ∷ 0x67 ∷ 0x72 ∷ 0x65 ∷ 0x05 ∷ 
 abbrev pub fourth : List ℕ
 fourth = 0x65 ∷ 0x65 ∷ []
 
-abbrev pub inOrder : Receiver
-inOrder = receiver begun (received two 10100000 ∷ received two 10200000 ∷ received third 10300000 ∷ received fourth 10400000 ∷ [])
+abbrev pub inOrder : Heard
+inOrder = four (received two 10100000 ∷ received two 10200000 ∷ received third 10300000 ∷ received fourth 10400000 ∷ [])
 
-abbrev pub outOfOrder : Receiver
-outOfOrder = receiver begun (received two 10100000 ∷ received third 10200000 ∷ received two 10300000 ∷ received fourth 10400000 ∷ [])
-
--- an anonymous frame is handed out as often as it comes
-abbrev pub unnamed : Stream
-unnamed = record { transferType = 0; type = 1; source = 0; destination = 0 }
-
-abbrev pub unnamedTwice : Receiver
-unnamedTwice = receiver begun (other 0x10000100 (1 ∷ 0xC0 ∷ []) 10000001 ∷ [])
+abbrev pub outOfOrder : Heard
+outOfOrder = four (received two 10100000 ∷ received third 10200000 ∷ received two 10300000 ∷ received fourth 10400000 ∷ [])
 
 -- ── the facts ──
 
+-- two receivers with the same frames: what each meets, and the numbers they answer
+pub record Differ (x y : Heard) (meets meets' : List Bool) (a b : List ℕ) : Type 0 where
+  pub first : tests stream x ≡ meets
+  pub second : tests stream y ≡ meets'
+  pub together : Together x y
+  pub same : Same stream x y
+  pub answers : (numbers stream x ≡ a) × (numbers stream y ≡ b)
+
 pub record WhyPremises : Type 0 where
-  -- "time never runs back"
-  pub time : Premises setup stream start steady back × (numbers stream start steady ≡ 0 ∷ 0 ∷ 1 ∷ []) × (numbers stream start back ≡ 0 ∷ 10 ∷ 10 ∷ [])
-  -- "no start of that stream is refused for a full table"
-  pub table : Premises setup stream start roomLeft noneLeft × (numbers stream start roomLeft ≡ 0 ∷ 0 ∷ []) × (numbers stream start noneLeft ≡ 0 ∷ 9 ∷ [])
-  -- "output buffers are large enough"
-  pub room : Premises setup stream start steady short × (numbers stream start steady ≡ 0 ∷ 0 ∷ 1 ∷ []) × (numbers stream start short ≡ 0 ∷ 8 ∷ 10 ∷ [])
-  -- "Both take the same start"
-  pub take : (numbers stream start steady ≡ 0 ∷ 0 ∷ 1 ∷ []) × (numbers stream start ahead ≡ 10 ∷ 10 ∷ 10 ∷ [])
-  -- "without a fault that 20 names"
-  pub pasts : (sound twins ≡ false) × (numbers stream start single ≡ 0 ∷ 10 ∷ []) × (numbers stream start double ≡ 0 ∷ 0 ∷ [])
-  -- "within two seconds of the start"
-  pub seconds : numbers stream start late ≡ 0 ∷ 0 ∷ 10 ∷ []
-  -- "repeated before the next"
-  pub order : (numbers stream first inOrder ≡ 0 ∷ 0 ∷ 10 ∷ 0 ∷ 1 ∷ []) × (numbers stream first outOfOrder ≡ 0 ∷ 0 ∷ 0 ∷ 0 ∷ 10 ∷ [])
-  -- "a named source"
-  pub named : numbers unnamed (frameAt 0x10000100 (1 ∷ 0xC0 ∷ []) 10000000) unnamedTwice ≡ 1 ∷ 1 ∷ []
+  pub complete : Tests
+  -- alike
+  pub pasts : Differ single double all (but 0) (0 ∷ 10 ∷ []) (0 ∷ 0 ∷ [])
+  pub start : Differ intact damaged (but 2) (but 2) (0 ∷ 1 ∷ []) (0 ∷ 12 ∷ [])
+  pub take : Differ steady ahead all (but 3) (0 ∷ 0 ∷ 1 ∷ []) (10 ∷ 10 ∷ 10 ∷ [])
+  pub time : Differ steady back all (but 4) (0 ∷ 0 ∷ 1 ∷ []) (0 ∷ 10 ∷ 10 ∷ [])
+  pub room : Differ steady short all (but 5) (0 ∷ 0 ∷ 1 ∷ []) (0 ∷ 8 ∷ 10 ∷ [])
+  pub table : Differ roomLeft noneLeft all (but 6) (0 ∷ 0 ∷ []) (0 ∷ 9 ∷ [])
+  pub together : (tests stream late ≡ all) × (tests stream later ≡ all) × Same stream late later
+      × (numbers stream late ≡ 0 ∷ 0 ∷ 1 ∷ []) × (numbers stream later ≡ 0 ∷ 0 ∷ 10 ∷ [])
+  pub same : (tests stream steady ≡ all) × (tests stream lacking ≡ all) × Together steady lacking
+      × (numbers stream steady ≡ 0 ∷ 0 ∷ 1 ∷ []) × (numbers stream lacking ≡ 0 ∷ 10 ∷ [])
+  -- delivered
+  pub named : (tests unnamed twice ≡ but 1) × Transfer setup unnamed (twice .start .frame) (frames (rulesTable setup) unnamed twice) 16 0 (1 ∷ [])
+      × (numbers unnamed twice ≡ 1 ∷ 1 ∷ [])
+  pub size : Sent (hearing (sent agreed 5 long)) agreed 5 long (false ∷ true ∷ true ∷ [])
+      × (handedOut (hearing (sent agreed 5 long)) ≡ [])
+  -- A priority of 32 or more breaks the premise on the start as well: its ID is none of the stream.
+  pub fields : Sent wide agreed 69 payload (true ∷ false ∷ true ∷ []) × (handedOut wide ≡ handed seven stream 16 5 ∷ [])
+      × (startOf stream (frameAt (idOf stream 32) one 10000000) ≡ false)
+  pub subscribed : Sent strange 7 5 payload (true ∷ true ∷ false ∷ []) × (numbers stream strange ≡ 0 ∷ 0 ∷ 12 ∷ [])
+  -- in time with a microsecond more
+  pub seconds : (tests stream tooLate ≡ all)
+      × Brings (idOf stream 16) (10000000 + oldAge + 1) (sent agreed 5 payload) (tooLate .start .frame ∷ frames (rulesTable setup) stream tooLate)
+      × (numbers stream tooLate ≡ 0 ∷ 0 ∷ 10 ∷ [])
+  pub order : Sent inOrder agreed 5 degrees (true ∷ true ∷ true ∷ []) × (tests stream outOfOrder ≡ all)
+      × (numbers stream inOrder ≡ 0 ∷ 0 ∷ 10 ∷ 0 ∷ 1 ∷ []) × (numbers stream outOfOrder ≡ 0 ∷ 0 ∷ 0 ∷ 0 ∷ 10 ∷ [])

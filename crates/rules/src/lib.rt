@@ -1,18 +1,18 @@
 // The rules of 01 as definitions, in specs/. The functions here have no body: each one's contract is a theorem about the definitions.
 pub mod limits;
 
-ghost use Rattle.rules.specs.Condition3.{Condition3};
+ghost use Rattle.rules.specs.Condition3.{Condition3, rulesTable};
 ghost use Rattle.rules.specs.Example.{Example};
-ghost use Rattle.rules.specs.Range.{RangeLaw};
+ghost use Rattle.rules.specs.Range.{RangeLaw, OneLaw};
 ghost use Rattle.rules.specs.Samples.{Samples};
 ghost use Rattle.rules.specs.SendingLaws.{RecordLaws, SourceLaws, MapLasts, Delivered};
 ghost use Rattle.rules.specs.SentLaws.{SentLaws, IdLaws};
 ghost use Rattle.rules.specs.Sound.{Lasting};
 ghost use Rattle.rules.specs.WhyPremises.{WhyPremises};
 
-// Condition 3 of 00.
+// Condition 3, of the rules' table.
 pub fn condition3()
-    ensures { λ _. ⌜ Condition3 ⌝ }
+    ensures { λ _. ⌜ Condition3 rulesTable ⌝ }
 {}
 
 // Its premises can be met together.
@@ -30,9 +30,9 @@ pub fn table_lasts()
     ensures { λ _. ⌜ Lasting ⌝ }
 {}
 
-// What a reception answers is in its range.
+// What a reception answers is in its range, and number 1 is a hand-out.
 pub fn answers_in_range()
-    ensures { λ _. ⌜ RangeLaw ⌝ }
+    ensures { λ _. ⌜ RangeLaw × OneLaw ⌝ }
 {}
 
 // The frames of a payload: how many, what each carries, and what the first of them are.
