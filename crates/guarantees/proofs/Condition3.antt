@@ -12,18 +12,9 @@ use Rattle.rules.specs.Answer as rules
 use Rattle.rules.specs.Condition3.{Condition3, lent}
 use Rattle.rules.specs.Reception.{step}
 use Rattle.rules.specs.Setup.{Setup}
-use Rattle.answers.specs.Reception.{numberOf, told}
+use Rattle.answers.proofs.Reception.{told-number}
 use Rattle.state.proofs.Faultless.{table-sound}
 use Rattle.state.specs.Layout.{placesOf}
-
-pub number-is : (a : rules.Answer) → numberOf (told a) ≡ rules.numberOf a
-number-is rules.taken = refl
-number-is (rules.handed p d priority t) = refl
-number-is (rules.refused n) = refl
-number-is rules.full = refl
-number-is (rules.passed r) = refl
-number-is rules.long = refl
-number-is rules.differs = refl
 
 pub lent-stays : (u : Setup) (m : List ℕ) (c : Call) → Lent u m → Typed (c .frame) → Lent u (resultOf m c .state)
 lent-stays u m c h t =
@@ -35,7 +26,7 @@ unfoldable pub view : (u : Setup) → View u (lentBytes u)
 view u =
     record {
       places = placesOf;
-      numbers = number-is;
+      numbers = told-number;
       past = λ m h. lent (table-sound m (h .sound));
       stays = lent-stays u;
       says = λ m c h t. reading-is m c (h .sound) ∙ ap (λ w. readingOf (step w (placesOf m) (receptionOf c) .answer)) (h .setup);

@@ -3,28 +3,25 @@ use mathlib.Core.Path.{_≡_, refl, ap, ap₂, _∙_}
 use mathlib.Core.Bool.{true}
 use mathlib.Core.List.{List, [], _∷_, map}
 use Prim.Native.Nat.{ℕ, _+_}
-use lib.ListN.{length, drop}
+use lib.ListN.{length, take, drop}
 use lib.Seq.{take-at}
 use Rattle.guarantees.specs.Received.{stepOn}
-use Rattle.guarantees.specs.Run.{Call, resultOf, left, receptions, Reading, payloadIn, reading, readings, payloadOf, readingOf, RunLaw}
+use Rattle.guarantees.specs.Run.{Call, resultOf, left, receptions, Reading, reading, readings, readingOf, RunLaw}
 use Rattle.guarantees.proofs.Received.{view-law, sound-law}
 use Rattle.rules.specs.Answer as rules
 use Rattle.rules.specs.Reception.{Step, run, after}
 use Rattle.rules.specs.Setup.{Setup}
 use Rattle.rules.specs.Table.{Places}
 use Rattle.receiver.specs.Receive.{receivedIf, received, lent}
-use Rattle.answers.specs.Reception.{told, outAfter}
+use Rattle.answers.specs.Reception.{transferIn, told, outAfter}
+use Rattle.answers.proofs.Reception.{told-length}
 use Rattle.state.specs.Sound.{soundState}
 
 -- a payload is read back from the front of the output buffer
-payload-back : (a : rules.Answer) (out : List ℕ) → payloadIn (told a) (outAfter a out) ≡ payloadOf a
-payload-back rules.taken out = refl
-payload-back (rules.handed p d priority t) out = take-at p (drop (0 + length p) out) (length p) refl
-payload-back (rules.refused n) out = refl
-payload-back rules.full out = refl
-payload-back (rules.passed r) out = refl
-payload-back rules.long out = refl
-payload-back rules.differs out = refl
+payload-back : (a : rules.Answer) (out : List ℕ) → take (transferIn (told a) .len) (outAfter a out) ≡ rules.handedPayload a
+payload-back a out =
+    let p = rules.handedPayload a in
+    ap (λ n. take n (outAfter a out)) (told-length a) ∙ take-at p (drop (0 + length p) out) (length p) refl
 
 reading-lent : (m out : List ℕ) (s : Step) → reading (lent m out s) ≡ readingOf (s .answer)
 reading-lent m out s = ap (λ (p : List ℕ). record { answer = told (s .answer); payload = p }) (payload-back (s .answer) out)

@@ -12,9 +12,8 @@ use Rattle.rules.specs.Condition3.{All}
 use Rattle.rules.specs.Frame.{Frame}
 use Rattle.rules.specs.Reception.{run, after}
 use Rattle.receiver.specs.Receive.{Result, arriving, received}
-use Rattle.answers.specs.Reception.{told}
+use Rattle.answers.specs.Reception.{transferIn, told}
 use Rattle.answers.specs.declared.Answer.{Answer}
-use Rattle.answers.specs.declared.Answer.the-variants.{Taken, Handed, Refused, Full, Passed, TooLong, BadChecksum, Faulty}
 use Rattle.state.specs.Layout.{setupOf, placesOf}
 use Rattle.state.specs.Sound.{soundState}
 
@@ -50,35 +49,16 @@ pub record Reading : Type 0 where
   pub answer : Answer
   pub payload : List ℕ
 
-abbrev pub payloadIn : Answer → List ℕ → List ℕ
-payloadIn Taken out = []
-payloadIn (Handed t) out = take (t .len) out
-payloadIn (Refused n) out = []
-payloadIn Full out = []
-payloadIn Passed out = []
-payloadIn TooLong out = []
-payloadIn BadChecksum out = []
-payloadIn Faulty out = []
-
 abbrev pub reading : Result → Reading
-reading r = record { answer = r .answer; payload = payloadIn (r .answer) (r .out) }
+reading r = record { answer = r .answer; payload = take (transferIn (r .answer) .len) (r .out) }
 
 unfoldable pub readings : List ℕ → List Call → List Reading
 readings m [] = []
 readings m (c ∷ cs) = reading (resultOf m c) ∷ readings (resultOf m c .state) cs
 
 -- what is to be read of an answer of the rules
-abbrev pub payloadOf : rules.Answer → List ℕ
-payloadOf rules.taken = []
-payloadOf (rules.handed p d priority t) = p
-payloadOf (rules.refused n) = []
-payloadOf rules.full = []
-payloadOf (rules.passed r) = []
-payloadOf rules.long = []
-payloadOf rules.differs = []
-
 abbrev pub readingOf : rules.Answer → Reading
-readingOf a = record { answer = told a; payload = payloadOf a }
+readingOf a = record { answer = told a; payload = rules.handedPayload a }
 
 -- ── the law ──
 
