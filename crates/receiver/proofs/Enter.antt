@@ -1,7 +1,7 @@
 -- The session that a frame enters, and the place it comes from.
 use mathlib.Core.Path.{_≡_, sym, ap, _∙_}
 use mathlib.Core.Bool.{Bool, true, false}
-use mathlib.Core.List.{List}
+use mathlib.Core.List.{List, []}
 use Prim.Native.Nat.{ℕ, _+_, _*_, _≤_, _<_}
 use native.Mathlib.Omega.{arith}
 use lib.ListN.{length}
@@ -11,7 +11,10 @@ use Rattle.rules.specs.Session.{Session, restarted}
 use Rattle.receiver.specs.Place.{entered}
 use Rattle.receiver.specs.declared.place.Way.{Way}
 use Rattle.receiver.specs.declared.place.Way.the-variants.{New, Again, On}
-use Rattle.session.specs.Session.{sessionOf, streamOf, freshOf, progressOf, restartsAt, awaitedAt}
+use Rattle.session.specs.Session.{sessionOf, streamOf, parsedOf, freshOf, progressOf, bare}
+use Rattle.session.proofs.Rules.{restartsAt, awaitedAt, restarts-bare, awaited-bare}
+use Rattle.rules.specs.Session.{restarts, over}
+use Rattle.rules.specs.Tests.{isNone}
 use Rattle.session.specs.declared.Incoming.{Incoming}
 use Rattle.session.specs.declared.Progress.{Progress}
 use Rattle.session.specs.declared.Session as coded
@@ -64,9 +67,9 @@ held-few m fine i h z =
 
 -- the code's tests are those on the session of the place
 module _ (s : Session) (c : Progress) (e : c ≡ progressOf s) (h : Incoming) where
-  pub restarts-at : (b : Bool) → b ≡ restartsAt (c .expected) (c .time) h → (a : Bool) → b ≡ a → restartsAt (s .expected) (s .since) h ≡ a
-  restarts-at b t a q = sym (ap (λ (x : Progress). restartsAt (x .expected) (x .time) h) e) ∙ sym t ∙ q
+  pub restarts-at : (b : Bool) → b ≡ restarts (bare c) (parsedOf h []) → (a : Bool) → b ≡ a → restartsAt (s .expected) (s .since) h ≡ a
+  restarts-at b t a q = sym (ap (λ (x : Progress). restartsAt (x .expected) (x .time) h) e) ∙ sym (restarts-bare c h) ∙ sym t ∙ q
 
-  pub awaited-at : (b : Bool) → b ≡ awaitedAt (c .expected) (c .toggle) (c .len) h → (a : Bool) → b ≡ a
+  pub awaited-at : (b : Bool) → b ≡ isNone (over (bare c) (parsedOf h [])) → (a : Bool) → b ≡ a
       → awaitedAt (s .expected) (s .toggle) (length (s .gathered)) h ≡ a
-  awaited-at b t a q = sym (ap (λ (x : Progress). awaitedAt (x .expected) (x .toggle) (x .len) h) e) ∙ sym t ∙ q
+  awaited-at b t a q = sym (ap (λ (x : Progress). awaitedAt (x .expected) (x .toggle) (x .len) h) e) ∙ sym (awaited-bare c h) ∙ sym t ∙ q

@@ -105,14 +105,14 @@ fn known(state: &mut [u8], i: usize, k: u32, f: Incoming, p: &[u8], out: &mut [u
     ensures { λ r. ⌜ result r (now (state .exit)) (now (out .exit)) ≡ lent (now (state .entry)) (now (out .entry)) (store (placesOf (now (state .entry))) i (streamOf f) (react (sessionAt (now (state .entry)) i) (parsedOf f (now (p .entry))))) ⌝ }
 {
     let c = state::place::progress(state, i);
-    if session::restarts(c.expected, c.time, f) {
+    if session::restarts(c, f) {
         if f.head.start {
             return enter(state, i, k, Way::Again, f, p, out);
         }
         reset(state, i, k, (f.head.transfer + 1) % 32);
         return Answer::Passed;
     }
-    if session::awaited(c.expected, c.toggle, c.len, f) {
+    if session::awaited(c, f) {
         if 514 < c.len + p.len() {
             reset(state, i, k, (c.expected + 1) % 32);
             return Answer::TooLong;

@@ -12,7 +12,7 @@ use lib.Seq.{length-take-le}
 use borrow.Author.Tests.{eq-eqb, ne-eqb, lt-ltb, le-ltb, le-leb, lt-leb, eqb-false}
 use Rattle.rules.specs.Answer.{Answer, Reason}
 use Rattle.rules.specs.Answer as answer
-use Rattle.rules.specs.Check.{Reception, Parsed, parsed, badTail, isNone}
+use Rattle.rules.specs.Check.{Reception, Parsed, parsed, badTail}
 use Rattle.rules.specs.Condition3.{ofStream, startOf, keep, All, framesWith, answersTo, upTo, forward, roomy, Brings, done, next, rulesTable}
 use Rattle.rules.specs.Frame.{Frame, Stream, sameStream, streamOf, tailOf, isStart, isEnd, toggleOf}
 use Rattle.rules.specs.Reception.{stepNew, stepStart, sessionIn, stepSeek, stepAnonymous, stepChecked, step}
@@ -23,7 +23,7 @@ use Rattle.rules.specs.Sent.{tailByte, framed, pieces, carrying, frameAt
 use Rattle.rules.specs.Session.{Session, overIf, over, sumOk, closing, takeEnd, takeLong, takes, proceedIf, proceed, reactIf, react, restarts, restarted, fresh}
 use Rattle.rules.specs.Setup.{kindOf, Setup, subscribed, signatureFor}
 use Rattle.rules.specs.Table.{empty, Places, seek, holds, placeFor}
-use Rattle.rules.specs.Tests.{pick, bit, isEmpty, sameBool}
+use Rattle.rules.specs.Tests.{pick, bit, isEmpty, sameBool, isNone}
 use Rattle.rules.proofs.Checks.{Accepted, none-of, roomy-check, named-not-anonymous}
 use Rattle.rules.proofs.Frames.{framed-length, framed-tail, framed-payload, fulls}
 use Rattle.rules.proofs.Ids.{bit-is, flag-le}

@@ -8,7 +8,7 @@ use lib.ListN.{length}
 use Rattle.rules.specs.Frame.{Frame, Stream, priorityOf, isServiceStream, unnamed, streamOf, tailOf, payloadOf, isStart, isEnd, toggleOf, transferOf}
 use Rattle.rules.specs.Limits.{frameData, payloadMax}
 use Rattle.rules.specs.Setup.{Setup, signatureFor}
-use Rattle.rules.specs.Tests.{pick}
+use Rattle.rules.specs.Tests.{pick, isNone}
 
 -- a frame, and how many bytes the output buffer has
 pub record Reception : Type 0 where
@@ -63,10 +63,6 @@ badTail anonymous start last toggle n =
 
 abbrev pub forAnother : ℕ → Stream → Bool
 forAnother own d = isServiceStream d && not (eqb (d .destination) own)
-
-abbrev pub isNone : Option ℕ → Bool
-isNone none = true
-isNone (some n) = false
 
 abbrev pub notSubscribed : Setup → Frame → Bool
 notSubscribed u f = isNone (signatureFor u (f .id))

@@ -27,8 +27,11 @@ abbrev pub next : ℕ → ℕ
 next t = (t + 1) % 32
 
 -- an age above the limit; an earlier time counts as age 0
+abbrev pub oldSince : ℕ → ℕ → Bool
+oldSince since t = ltb oldAge (t - since)
+
 abbrev pub old : ℕ → Session → Bool
-old t s = ltb oldAge (t - s .since)
+old t s = oldSince (s .since) t
 
 -- ── restart ──
 

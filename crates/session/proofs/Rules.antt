@@ -1,30 +1,38 @@
 -- Each case of the rules, from the tests that lead to it. Throughout, b is what a test of the code gave.
 use mathlib.Core.Path.{_≡_, refl, sym, ap, ap₂, _∙_}
-use mathlib.Core.Bool.{Bool, true, false, _&&_, Bool·beq, and-false, true≢false, false≢true}
+use mathlib.Core.Bool.{Bool, true, false, _&&_, _||_, Bool·beq, and-false, true≢false, false≢true}
 use mathlib.Core.List.{List, [], _++_}
 use mathlib.Core.Option.{Option, none, some}
 use Prim.Native.Nat.{ℕ, _+_, _-_, _≤_, _<_}
 use native.Mathlib.Omega.{arith}
 use borrow.Author.Tests.{eqb-true, lt-ltb, le-ltb, eq-eqb, ne-eqb}
 use lib.Dec.{ltb, eqb, lit≤}
-use lib.ListN.{length, take, drop, length-append}
+use lib.ListN.{length, take, drop, length-append, length-replicate}
 use Rattle.rules.specs.Answer.{Reason, taken, handed, passed, long, differs, noTransfer}
 use Rattle.rules.specs.Check.{Parsed}
 use Rattle.rules.specs.Session as rules
-use Rattle.rules.specs.Session.{distance, next, sumOk, over, overIf, closed, closing, takes, takeLong, takeEnd, sinceOf, proceed, proceedIf, react, reactIf, restarts, restarted, fresh}
-use Rattle.rules.specs.Tests.{pick, sameBool, isEmpty}
+use Rattle.rules.specs.Session.{oldSince, distance, next, sumOk, over, overIf, closed, closing, takes, takeLong, takeEnd, sinceOf, proceed, proceedIf, react, reactIf, restarts, restarted, fresh}
+use Rattle.rules.specs.Tests.{pick, sameBool, isEmpty, isNone}
 use Rattle.answers.specs.Reception.{told, outAfter}
 use Rattle.session.specs.Answer.{HandsOut, Closes}
-use Rattle.session.specs.Session.{sessionOf, InRange, parsedOf, added, restartsAt, awaitedAt}
+use Rattle.session.specs.Session.{sessionOf, InRange, parsedOf, added, bare}
 use Rattle.answers.specs.declared.Answer.{Answer}
 use Rattle.answers.specs.declared.Answer.the-variants.{Passed, BadChecksum}
 use Rattle.session.specs.declared.Incoming.{Incoming}
+use Rattle.session.specs.declared.Progress.{Progress}
 use Rattle.session.specs.declared.Session.{Session}
 use Rattle.session.proofs.Gathered.{empty-length}
 
--- ── the tests ──
+-- ── the tests, on the fields that they read ──
 
-module _ (expected time : ℕ) (h : Incoming) (b : Bool) (e : b ≡ ltb 2000000 (h .time - time)) where
+unfoldable pub restartsAt : ℕ → ℕ → Incoming → Bool
+restartsAt expected time h = oldSince time (h .time) || (h .head .start && ltb 1 (distance (h .head .transfer) expected))
+
+unfoldable pub awaitedAt : ℕ → Bool → ℕ → Incoming → Bool
+awaitedAt expected toggle len h =
+    eqb (h .head .transfer) expected && (sameBool (h .head .toggle) toggle && sameBool (h .head .start) (eqb len 0))
+
+module _ (expected time : ℕ) (h : Incoming) (b : Bool) (e : b ≡ oldSince time (h .time)) where
   pub restarts-old : b ≡ true → true ≡ restartsAt expected time h
   unfolding restartsAt
   restarts-old o = rw (← e, o)
@@ -69,10 +77,6 @@ module _ (expected : ℕ) (toggle : Bool) (len : ℕ) (h : Incoming) where
 
 -- ── passed over or taken ──
 
-abbrev isNone : Option Reason → Bool
-isNone none = true
-isNone (some r) = false
-
 none-awaited : (start expected empty toggle : Bool) → isNone (overIf start expected empty toggle) ≡ (expected && (toggle && sameBool start empty))
 none-awaited true false empty toggle = refl
 none-awaited true true false toggle = sym (and-false toggle)
@@ -90,6 +94,13 @@ unfolding over awaitedAt parsedOf
 over-awaited s h p =
     none-awaited (h .head .start) (eqb (h .head .transfer) (s .expected)) (isEmpty (s .gathered)) (sameBool (h .head .toggle) (s .toggle))
     ∙ ap (λ (b : Bool). eqb (h .head .transfer) (s .expected) && (sameBool (h .head .toggle) (s .toggle) && sameBool (h .head .start) b)) (empty-length (s .gathered))
+
+pub restarts-bare : (c : Progress) (h : Incoming) → restarts (bare c) (parsedOf h []) ≡ restartsAt (c .expected) (c .time) h
+unfolding restarts restartsAt parsedOf
+restarts-bare c h = refl
+
+pub awaited-bare : (c : Progress) (h : Incoming) → isNone (over (bare c) (parsedOf h [])) ≡ awaitedAt (c .expected) (c .toggle) (c .len) h
+awaited-bare c h = over-awaited (bare c) h [] ∙ ap (λ n. awaitedAt (c .expected) (c .toggle) n h) (length-replicate (c .len) 0)
 
 module _ (s : rules.Session) (v : Parsed) where
   proceed-taken : isNone (over s v) ≡ true → proceed s v ≡ takes s v

@@ -50,17 +50,13 @@ added s start time p =
 abbrev pub freshOf : ℕ → ℕ → Session
 freshOf transfer time = record { expected = transfer; toggle = false; time = time; len = 0; bytes = replicate gatheredMax 0 }
 
--- the restart test and the test of a frame that is not passed over, on the fields that they read
-unfoldable pub restartsAt : ℕ → ℕ → Incoming → Bool
-restartsAt expected time h = ltb oldAge (h .time - time) || (h .head .start && ltb 1 (rules.distance (h .head .transfer) expected))
-
-unfoldable pub awaitedAt : ℕ → Bool → ℕ → Incoming → Bool
-awaitedAt expected toggle len h =
-    eqb (h .head .transfer) expected && (sameBool (h .head .toggle) toggle && sameBool (h .head .start) (eqb len 0))
-
 -- what decides on a frame, of a session of the rules
 abbrev pub progressOf : rules.Session → Progress
 progressOf s = record { expected = s .expected; toggle = s .toggle; time = s .since; len = length (s .gathered) }
+
+-- a session of the rules from what decides on a frame: of the bytes only their number counts there
+abbrev pub bare : Progress → rules.Session
+bare c = record { expected = c .expected; gathered = replicate (c .len) 0; toggle = c .toggle; since = c .time }
 
 -- the session with these bytes
 abbrev pub whole : Progress → List ℕ → Session

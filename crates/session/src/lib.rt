@@ -6,14 +6,15 @@ use rules::limits::GATHERED;
 use rules::limits::OLD_AGE;
 ghost use mathlib.Core.Path.{_≡_};
 ghost use mathlib.Core.Bool.{true, false};
+ghost use mathlib.Core.List.{[]};
 ghost use Prim.Native.Nat.{_+_, _-_, _≤_, _<_};
-ghost use lib.Dec.{ltb};
 ghost use lib.ListN.{length, take};
 ghost use Rattle.bits.specs.Part.{span};
-ghost use Rattle.rules.specs.Limits.{oldAge, gatheredMax};
+ghost use Rattle.rules.specs.Limits.{gatheredMax};
+ghost use Rattle.rules.specs.Session as rules;
 ghost use Rattle.rules.specs.Session.{next, sumOk};
-ghost use Rattle.rules.specs.Tests.{pick};
-ghost use Rattle.session.specs.Session.{sessionOf, freshOf, added, restartsAt, awaitedAt};
+ghost use Rattle.rules.specs.Tests.{pick, isNone};
+ghost use Rattle.session.specs.Session.{sessionOf, parsedOf, freshOf, added, bare};
 ghost use Rattle.session.specs.Answer.{HandsOut, Closes};
 
 // A session by value.
@@ -104,7 +105,7 @@ fn started(start: bool, time: u64, before: u64) -> u64
 
 // The age is above 2,000,000. An earlier time counts as age 0.
 fn is_old(since: u64, time: u64) -> bool
-    ensures { λ r. ⌜ r ≡ ltb oldAge (time - since) ⌝ }
+    ensures { λ r. ⌜ r ≡ rules.oldSince since time ⌝ }
 {
     if since < time {
         return OLD_AGE < time - since;
@@ -113,26 +114,26 @@ fn is_old(since: u64, time: u64) -> bool
 }
 
 // Internal. The session restarts: it is old, or the frame is a start of another transfer.
-pub fn restarts(expected: u8, time: u64, f: Incoming) -> bool
-    requires { ⌜ (expected < 32) × (f .head .transfer < 32) ⌝ }
-    ensures { λ r. ⌜ r ≡ restartsAt expected time f ⌝ }
+pub fn restarts(c: Progress, f: Incoming) -> bool
+    requires { ⌜ (c .expected < 32) × (f .head .transfer < 32) ⌝ }
+    ensures { λ r. ⌜ r ≡ rules.restarts (bare c) (parsedOf f []) ⌝ }
 {
-    if is_old(time, f.time) {
+    if is_old(c.time, f.time) {
         return true;
     }
     if f.head.start {
-        return 1 < (expected + 32 - f.head.transfer) % 32;
+        return 1 < (c.expected + 32 - f.head.transfer) % 32;
     }
     false
 }
 
 // Internal. The frame is the one that the session waits for.
-pub fn awaited(expected: u8, toggle: bool, len: usize, f: Incoming) -> bool
-    ensures { λ r. ⌜ r ≡ awaitedAt expected toggle len f ⌝ }
+pub fn awaited(c: Progress, f: Incoming) -> bool
+    ensures { λ r. ⌜ r ≡ isNone (rules.over (bare c) (parsedOf f [])) ⌝ }
 {
-    if f.head.transfer == expected {
-        if f.head.toggle == toggle {
-            return f.head.start == (len == 0);
+    if f.head.transfer == c.expected {
+        if f.head.toggle == c.toggle {
+            return f.head.start == (c.len == 0);
         }
     }
     false
