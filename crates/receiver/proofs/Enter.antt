@@ -31,7 +31,7 @@ on-new q = let z : _≡_ {A = ℕ} 0 1 = cc in absurd (omega arith)
 
 module _ (m : List ℕ) (i : ℕ) (h : Incoming) (way : Way) where
   pub enters-new : way ≡ New → (r : coded.Session) → r ≡ freshOf (h .head .transfer) (h .time) → (sessionOf r ≡ entered way m i h) × (r .len ≤ 514)
-  unfolding sessionOf
+  unfolding sessionOf parsedOf
   enters-new e r f = (ap sessionOf f ∙ ap (λ (w : Way). entered w m i h) (sym e), omega (arith, ap (λ (x : coded.Session). x .len) f))
 
   module _ (s : coded.Session) (l : sessionOf s ≡ sessionAt m i) where

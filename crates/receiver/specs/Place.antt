@@ -4,14 +4,15 @@ use mathlib.Core.Bool.{true, false}
 use mathlib.Core.List.{List, []}
 use Prim.Native.Nat.{ℕ, _+_, _≤_, _<_}
 use lib.ListN.{length}
-use Rattle.rules.specs.Session.{Session, restarted}
+use Rattle.rules.specs.Session.{Session, restarted, fresh}
+use Rattle.session.specs.Session.{parsedOf}
 use Rattle.receiver.specs.declared.place.Way.{Way}
 use Rattle.receiver.specs.declared.place.Way.the-variants.{New, Again, On}
 use Rattle.session.specs.declared.Incoming.{Incoming}
 use Rattle.state.specs.Layout.{countAt, sessionAt}
 
 abbrev pub entered : Way → List ℕ → ℕ → Incoming → Session
-entered New m i h = record { expected = h .head .transfer; gathered = []; toggle = false; since = h .time }
+entered New m i h = fresh (parsedOf h [])
 entered Again m i h = restarted (sessionAt m i) (h .head .transfer)
 entered On m i h = sessionAt m i
 
