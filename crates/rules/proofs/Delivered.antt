@@ -127,12 +127,12 @@ tab-each {A} g (c ∷ l) f i h =
     (tab-each g l f (suc i) (λ k b. let e : suc i + k ≡ i + suc k = omega arith in ap f e ∙ h (suc k) (omega arith)))
 
 -- a successful send of a named source
-module _ (c : Call) (m : Map) (room n : ℕ) (h : sound m ≡ true) (e : sendStep c m room .answer ≡ done n) (named : 0 < c .own) where
+module _ (c : Call) (m : Map) (room n i : ℕ) (h : sound m ≡ true) (e : sendStep c m room .answer ≡ done n i) (named : 0 < c .own) where
   abbrev out : List ℕ
   out = sendStep c m room .records
 
   abbrev correct : Correct c m out
-  correct = source-laws .named c m room n h e named
+  correct = source-laws .named c m room n i h e named
 
   abbrev wire : ℕ
   wire = idOf (sending.streamOf c) (c .priority)
@@ -228,13 +228,13 @@ module _ (c : Call) (m : Map) (room n : ℕ) (h : sound m ≡ true) (e : sendSte
 pub delivered : Delivered
 delivered =
     record {
-      arrives = λ c m room n h e named u hears x hearing.
-          let ok = correct c m room n h e named in
-          let o = opens c m room n h e named in
-          let heard = hearing .heard ∙ frames-in c m room n h e named in
+      arrives = λ c m room n i h e named u hears x hearing.
+          let ok = correct c m room n i h e named in
+          let o = opens c m room n i h e named in
+          let heard = hearing .heard ∙ frames-in c m room n i h e named in
           record {
             start = sorted u c hears m (sendStep c m room .records) ok named n x hearing o heard;
             once = hands-out u c hears m (sendStep c m room .records) ok named n x hearing o heard;
           };
-      met = λ c m room n h e named u ps past time space wide. hears-at-once c m room n h e named u ps past time space wide;
+      met = λ c m room n i h e named u ps past time space wide. hears-at-once c m room n i h e named u ps past time space wide;
     }

@@ -10,7 +10,7 @@ use lib.Dec.{ltb, leb, eqb}
 use lib.ListN.{length, getD, set, length-set}
 use borrow.Author.Tests.{eqb-true, eqb-false, eq-eqb, ne-eqb, ltb-false, lt-ltb}
 use Rattle.rules.specs.Map.{Slot, free, used, Map, times, slotFor, drawn, topicFits, slotsFit, sound}
-use Rattle.rules.specs.Sending.{Call, topicOf, streamOf, isResponse, notSendable, frameCount, Outcome, done, unsendable, long, small, full, numberOf, framesOf, idFor, recordsOf, Step, refuse, transmit, sendAt, sendIn, sendAs, sendStep}
+use Rattle.rules.specs.Sending.{Call, topicOf, streamOf, isResponse, notSendable, frameCount, Outcome, done, unsendable, long, small, full, numberOf, framesOf, transferOf, idFor, recordsOf, Step, refuse, transmit, sendAt, sendIn, sendAs, sendStep}
 use Rattle.rules.specs.SendingLaws.{InRange, RecordLaws, offered, transferFor, Correct, SourceLaws, MapLasts}
 use Rattle.rules.specs.Sent.{sent, idOf}
 use Rattle.rules.specs.Session.{next}
@@ -28,7 +28,7 @@ record Drew (c : Call) (m : Map) (t : ℕ) (after : Map) : Type 0 where
   pub unused : isResponse c ≡ true → after ≡ m
 
 data Sends (c : Call) (m : Map) (room : ℕ) : Step → Type 0 where
-  refused : (o : Outcome) → framesOf o ≡ 0 → ((n : ℕ) → o ≡ done n → ⊥) → Sends c m room (refuse o m)
+  refused : (o : Outcome) → (framesOf o ≡ 0) × (transferOf o ≡ 0) → ((n i : ℕ) → o ≡ done n i → ⊥) → Sends c m room (refuse o m)
   went : (t : ℕ) (after : Map) → InRange c → length (c .payload) ≤ 512 → 13 * frameCount (length (c .payload)) ≤ room
       → (sound m ≡ true → (t < 32) × (sound after ≡ true)) → Drew c m t after → Sends c m room (transmit c t after)
 
@@ -82,7 +82,7 @@ module _ (c : Call) (m : Map) (room : ℕ) (ok : InRange c) (size : length (c .p
 
   in-map : (c .transferType ≡ 2 → ⊥) → (o : Option ℕ) → Given (topicOf c) m o → Gives (topicOf c) m o → Sends c m room (sendIn o c m)
   unfolding sendIn sendAt
-  in-map n none nowhere g = refused full refl (λ k e. let z : _≡_ {A = ℕ} 0 1 = cc in omega arith)
+  in-map n none nowhere g = refused full (refl, refl) (λ k i e. let z : _≡_ {A = ℕ} 0 1 = cc in omega arith)
   in-map n (some i) (found f) g = went (t n i) (set m i (used (topicOf c) (next (t n i)) (c .time))) ok size space (λ h. (drawn-in n i h, at-found n i f h)) (drew n i g)
   in-map n (some i) (fresh l f) g = went (t n i) (set m i (used (topicOf c) (next (t n i)) (c .time))) ok size space (λ h. (drawn-in n i h, at-fresh n i l f h)) (drew n i g)
 
@@ -98,19 +98,19 @@ sends c m room = fit (notSendable c) refl
   where
     roomy : (b : Bool) → ltb room (13 * frameCount (length (c .payload))) ≡ b → InRange c → length (c .payload) ≤ 512
         → Sends c m room (pick b (refuse small m) (sendAs (isResponse c) c m))
-    roomy true e ok size = refused small refl (λ k e. let z : _≡_ {A = ℕ} 0 1 = cc in omega arith)
+    roomy true e ok size = refused small (refl, refl) (λ k i e. let z : _≡_ {A = ℕ} 0 1 = cc in omega arith)
     roomy false e ok size = as-kind c m room ok size (ltb-false room (13 * frameCount (length (c .payload))) e) (isResponse c) refl
 
     short : (b : Bool) → ltb 512 (length (c .payload)) ≡ b → InRange c
         → Sends c m room (pick b (refuse long m) (pick (ltb room (13 * frameCount (length (c .payload)))) (refuse small m) (sendAs (isResponse c) c m)))
-    short true e ok = refused long refl (λ k e. let z : _≡_ {A = ℕ} 0 1 = cc in omega arith)
+    short true e ok = refused long (refl, refl) (λ k i e. let z : _≡_ {A = ℕ} 0 1 = cc in omega arith)
     short false e ok = roomy (ltb room (13 * frameCount (length (c .payload)))) refl ok (ltb-false 512 (length (c .payload)) e)
 
     fit : (b : Bool) → notSendable c ≡ b
         → Sends c m room
         (pick b (refuse unsendable m)
         (pick (ltb 512 (length (c .payload))) (refuse long m) (pick (ltb room (13 * frameCount (length (c .payload)))) (refuse small m) (sendAs (isResponse c) c m))))
-    fit true e = refused unsendable refl (λ k e. let z : _≡_ {A = ℕ} 0 1 = cc in omega arith)
+    fit true e = refused unsendable (refl, refl) (λ k i e. let z : _≡_ {A = ℕ} 0 1 = cc in omega arith)
     fit false e = short (ltb 512 (length (c .payload))) refl (in-range c e)
 
 -- ── what is left of the map ──
@@ -177,15 +177,20 @@ unfolding transmit
 few c m room s (refused o z n) = omega arith
 few c m room s (went t after ok size space h r) = few-frames (length (c .payload)) size
 
+small-id : (c : Call) (m : Map) (room : ℕ) (s : Step) → Sends c m room s → sound m ≡ true → transferOf (s .answer) < 32
+unfolding transmit
+small-id c m room s (refused o z n) h = omega (arith, z .1)
+small-id c m room s (went t after ok size space k r) h = k h .0
+
 lasts : (c : Call) (m : Map) (room : ℕ) (s : Step) → Sends c m room s → sound m ≡ true → sound (s .map) ≡ true
 unfolding transmit
 lasts c m room s (refused o z n) h = h
 lasts c m room s (went t after ok size space k r) h = k h .1
 
-correct : (c : Call) (m : Map) (room n : ℕ) (s : Step) → Sends c m room s → sound m ≡ true → s .answer ≡ done n → 0 < c .own → Correct c m (s .records)
+correct : (c : Call) (m : Map) (room n i : ℕ) (s : Step) → Sends c m room s → sound m ≡ true → s .answer ≡ done n i → 0 < c .own → Correct c m (s .records)
 unfolding transmit
-correct c m room n s (refused o z never) h e named = absurd (never n e)
-correct c m room n s (went t after ok size space k r) h e named =
+correct c m room n i s (refused o z never) h e named = absurd (never n i e)
+correct c m room n i s (went t after ok size space k r) h e named =
     record {
       stream = stream-in c ok named;
       priority = ok .priority;
@@ -194,11 +199,16 @@ correct c m room n s (went t after ok size space k r) h e named =
       frames = rw (ne-eqb (c .own) 0 (λ z. omega arith)) (ap (λ i. recordsOf (idOf (streamOf c) (c .priority)) (sent (c .signature) i (c .payload))) (r .is));
     }
 
-raised : (c : Call) (m : Map) (room n : ℕ) (s : Step) → Sends c m room s → s .answer ≡ done n → isResponse c ≡ false
+raised : (c : Call) (m : Map) (room n i : ℕ) (s : Step) → Sends c m room s → s .answer ≡ done n i → isResponse c ≡ false
     → offered (topicOf c) (s .map) ≡ next (transferFor c m)
 unfolding transmit
-raised c m room n s (refused o z never) e k = absurd (never n e)
-raised c m room n s (went t after ok size space h r) e k = r .raised k ∙ ap next (r .is)
+raised c m room n i s (refused o z never) e k = absurd (never n i e)
+raised c m room n i s (went t after ok size space h r) e k = r .raised k ∙ ap next (r .is)
+
+numbered : (c : Call) (m : Map) (room n i : ℕ) (s : Step) → Sends c m room s → s .answer ≡ done n i → i ≡ transferFor c m
+unfolding transmit
+numbered c m room n i s (refused o z never) e = absurd (never n i e)
+numbered c m room n i s (went t after ok size space h r) e = sym (ap transferOf e) ∙ r .is
 
 unused : (c : Call) (m : Map) (room : ℕ) (s : Step) → Sends c m room s → isResponse c ≡ true → s .map ≡ m
 unfolding transmit
@@ -213,6 +223,7 @@ record-laws =
       refusal = λ c m room. refuses c m room (sendStep c m room) (sends c m room);
       size = λ c m room. sized c m room (sendStep c m room) (sends c m room);
       room = λ c m room. fits-room c m room (sendStep c m room) (sends c m room);
+      transfer = λ c m room h. small-id c m room (sendStep c m room) (sends c m room) h;
       few = λ c m room. few c m room (sendStep c m room) (sends c m room);
       back = λ id signature t p time n h k. back id h time (sent signature t p) n (sent-short signature t p) (omega (arith, sent-length signature t p));
     }
@@ -220,9 +231,10 @@ record-laws =
 pub source-laws : SourceLaws
 source-laws =
     record {
-      named = λ c m room n h e named. correct c m room n (sendStep c m room) (sends c m room) h e named;
+      named = λ c m room n i h e named. correct c m room n i (sendStep c m room) (sends c m room) h e named;
       anonymous = λ c h z. anonymous-id c (in-range c h) z;
-      raised = λ c m room n e k. raised c m room n (sendStep c m room) (sends c m room) e k;
+      given = λ c m room n i e. numbered c m room n i (sendStep c m room) (sends c m room) e;
+      raised = λ c m room n i e k. raised c m room n i (sendStep c m room) (sends c m room) e k;
       unused = λ c m room k. unused c m room (sendStep c m room) (sends c m room) k;
     }
 

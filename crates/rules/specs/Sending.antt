@@ -71,26 +71,33 @@ unfoldable pub frameCount : ℕ → ℕ
 frameCount n = pick (leb n 7) 1 ((n + 8) / 7)
 
 pub data Outcome : Type 0 where
-  -- the number of frames
-  done : ℕ → Outcome
+  -- the number of frames, and their transfer ID
+  done : ℕ → ℕ → Outcome
   unsendable : Outcome
   long : Outcome
   small : Outcome
   full : Outcome
 
 abbrev pub numberOf : Outcome → ℕ
-numberOf (done n) = 0
+numberOf (done n t) = 0
 numberOf unsendable = 14
 numberOf long = 11
 numberOf small = 8
 numberOf full = 9
 
 abbrev pub framesOf : Outcome → ℕ
-framesOf (done n) = n
+framesOf (done n t) = n
 framesOf unsendable = 0
 framesOf long = 0
 framesOf small = 0
 framesOf full = 0
+
+abbrev pub transferOf : Outcome → ℕ
+transferOf (done n t) = t
+transferOf unsendable = 0
+transferOf long = 0
+transferOf small = 0
+transferOf full = 0
 
 -- ── the records ──
 
@@ -124,7 +131,7 @@ refuse o m = record { answer = o; map = m; records = [] }
 -- under the transfer ID t
 unfoldable pub transmit : Call → ℕ → Map → Step
 transmit c t m =
-    record { answer = done (frameCount (length (c .payload))); map = m; records = recordsOf (idFor c) (sent (c .signature) t (c .payload)) }
+    record { answer = done (frameCount (length (c .payload))) t; map = m; records = recordsOf (idFor c) (sent (c .signature) t (c .payload)) }
 
 -- "after a send it rises, 31 to 0"; "A successful send sets the entry's time"
 unfoldable pub sendAt : Call → ℕ → ℕ → Map → Step

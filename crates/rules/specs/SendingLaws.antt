@@ -18,7 +18,7 @@ use Rattle.rules.specs.Frame.{Frame, Stream, priorityOf}
 use Rattle.rules.specs.Limits.{payloadMax, oldAge}
 use Rattle.rules.specs.Map.{Topic, free, used, Map, blank, sameTopic, sound}
 use Rattle.rules.specs.Reception.{step}
-use Rattle.rules.specs.Sending.{Call, topicOf, streamOf, isResponse, any, notSendable, frameCount, done, numberOf, framesOf, anonymousId, recordsOf, sendStep}
+use Rattle.rules.specs.Sending.{Call, topicOf, streamOf, isResponse, any, notSendable, frameCount, done, numberOf, framesOf, transferOf, anonymousId, recordsOf, sendStep}
 use Rattle.rules.specs.Sent.{sent, idOf, frameAt}
 use Rattle.rules.specs.Setup.{Setup, subscribed, kindOf}
 use Rattle.rules.specs.Session.{next}
@@ -54,6 +54,8 @@ pub record RecordLaws : Type 0 where
   pub room : (c : Call) (m : Map) (room : ℕ) → length (sendStep c m room .records) ≤ room
   -- no call makes more frames than a payload of 512 bytes
   pub few : (c : Call) (m : Map) (room : ℕ) → framesOf (sendStep c m room .answer) ≤ 74
+  -- and none a transfer ID that is out of range
+  pub transfer : (c : Call) (m : Map) (room : ℕ) → sound m ≡ true → transferOf (sendStep c m room .answer) < 32
   -- record n gives back the n-th frame's ID and data
   pub back : (id signature t : ℕ) (p : List ℕ) (time n : ℕ) → id < 2 ^ 32 → n < frameCount (length p)
       → frameIn (recordsOf id (sent signature t p)) time n ≡ frameAt id (getD (sent signature t p) n []) time
@@ -91,10 +93,12 @@ pub record Correct (c : Call) (m : Map) (records : List ℕ) : Type 0 where
 
 pub record SourceLaws : Type 0 where
   -- for the ID of a named source see IdLaws
-  pub named : (c : Call) (m : Map) (room n : ℕ) → sound m ≡ true → sendStep c m room .answer ≡ done n → 0 < c .own → Correct c m (sendStep c m room .records)
+  pub named : (c : Call) (m : Map) (room n t : ℕ) → sound m ≡ true → sendStep c m room .answer ≡ done n t → 0 < c .own → Correct c m (sendStep c m room .records)
   pub anonymous : (c : Call) → notSendable c ≡ false → c .own ≡ 0 → AnonymousId c
+  -- the answer gives the transfer ID
+  pub given : (c : Call) (m : Map) (room n t : ℕ) → sendStep c m room .answer ≡ done n t → t ≡ transferFor c m
   -- after it the map gives the topic the next ID; a response leaves the map
-  pub raised : (c : Call) (m : Map) (room n : ℕ) → sendStep c m room .answer ≡ done n → isResponse c ≡ false
+  pub raised : (c : Call) (m : Map) (room n t : ℕ) → sendStep c m room .answer ≡ done n t → isResponse c ≡ false
       → offered (topicOf c) (sendStep c m room .map) ≡ next (transferFor c m)
   pub unused : (c : Call) (m : Map) (room : ℕ) → isResponse c ≡ true → sendStep c m room .map ≡ m
 
@@ -146,8 +150,8 @@ atOnce u ps records n time space =
     record { state = ps; start = inTurn records time space 0; list = tabulate (inTurn records time space) 1 (n - 1) }
 
 pub record Delivered : Type 0 where
-  pub arrives : (c : Call) (m : Map) (room n : ℕ) → sound m ≡ true → sendStep c m room .answer ≡ done n → 0 < c .own → (u : Setup) → Hears u c
+  pub arrives : (c : Call) (m : Map) (room n t : ℕ) → sound m ≡ true → sendStep c m room .answer ≡ done n t → 0 < c .own → (u : Setup) → Hears u c
       → (x : Receiver (rulesTable u)) → Hearing u (streamOf c) (sendStep c m room .records) n x → Arrives u c m x
   -- its premises can be met
-  pub met : (c : Call) (m : Map) (room n : ℕ) → sound m ≡ true → sendStep c m room .answer ≡ done n → 0 < c .own → (u : Setup) (ps : Places) → Past u ps
+  pub met : (c : Call) (m : Map) (room n t : ℕ) → sound m ≡ true → sendStep c m room .answer ≡ done n t → 0 < c .own → (u : Setup) (ps : Places) → Past u ps
       → (time space : ℕ) → payloadMax ≤ space → Hearing u (streamOf c) (sendStep c m room .records) n (atOnce u ps (sendStep c m room .records) n time space)
