@@ -1,11 +1,11 @@
--- The rules' answer of a send and the code's have the same number of frames.
+-- The rules' answer of a send and the code's: as many frames, under the same transfer ID.
 use mathlib.Core.Path.{_≡_, refl}
-use Rattle.answers.specs.Sending.{framesOf, told}
+use Rattle.answers.specs.Sending.{dispatchIn, told}
 use Rattle.rules.specs.Sending as rules
 
-pub told-frames : (o : rules.Outcome) → framesOf (told o) ≡ rules.framesOf o
-told-frames (rules.done n) = refl
-told-frames rules.unsendable = refl
-told-frames rules.long = refl
-told-frames rules.small = refl
-told-frames rules.full = refl
+pub told-dispatch : (o : rules.Outcome) → dispatchIn (told o) ≡ record { frames = rules.framesOf o; transfer = rules.transferOf o }
+told-dispatch (rules.done n t) = refl
+told-dispatch rules.unsendable = refl
+told-dispatch rules.long = refl
+told-dispatch rules.small = refl
+told-dispatch rules.full = refl

@@ -4,7 +4,7 @@ ghost use mathlib.Core.Path.{_≡_};
 ghost use Prim.Native.Nat.{_<_};
 ghost use Rattle.answers.specs.Reception.{numberOf, noTransfer, transferIn};
 ghost use Rattle.answers.specs.Sending as sending;
-ghost use Rattle.answers.specs.Sending.{framesOf};
+ghost use Rattle.answers.specs.Sending.{noDispatch, dispatchIn};
 
 // A transfer that was handed out: its length, stream, the closing frame's priority and transfer ID.
 pub struct Transfer {
@@ -29,9 +29,15 @@ pub enum Answer {
     Faulty,
 }
 
-// The sender's answers; success has the number of frames.
+// What a send made: how many frames, and their transfer ID.
+pub struct Dispatch {
+    pub frames: usize,
+    pub transfer: u8,
+}
+
+// The sender's answers.
 pub enum Sent {
-    Done(usize),
+    Done(Dispatch),
     OutputSmall,
     MapFull,
     TooLong,
@@ -86,6 +92,15 @@ impl Answer {
     }
 }
 
+fn no_dispatch() -> Dispatch
+    ensures { λ r. ⌜ r ≡ noDispatch ⌝ }
+{
+    Dispatch {
+        frames: 0,
+        transfer: 0,
+    }
+}
+
 impl Sent {
     pub fn number(self) -> u64
         ensures { λ r. ⌜ (r ≡ sending.numberOf self) × (r < 256) ⌝ }
@@ -100,17 +115,17 @@ impl Sent {
         }
     }
 
-    // How many frames were written; 0 under a refusal.
-    pub fn frames(self) -> usize
-        ensures { λ r. ⌜ r ≡ framesOf self ⌝ }
+    // What was made; all zero under a refusal.
+    pub fn dispatch(self) -> Dispatch
+        ensures { λ r. ⌜ r ≡ dispatchIn self ⌝ }
     {
         match self {
-            Sent::Done(n) => n,
-            Sent::OutputSmall => 0,
-            Sent::MapFull => 0,
-            Sent::TooLong => 0,
-            Sent::NotSendable => 0,
-            Sent::Faulty => 0,
+            Sent::Done(d) => d,
+            Sent::OutputSmall => no_dispatch(),
+            Sent::MapFull => no_dispatch(),
+            Sent::TooLong => no_dispatch(),
+            Sent::NotSendable => no_dispatch(),
+            Sent::Faulty => no_dispatch(),
         }
     }
 }

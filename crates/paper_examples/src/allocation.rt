@@ -34,9 +34,10 @@ fn answer(map: &mut [u8; 416], time: u64, payload: &[u8]) {
         transfer_id: 0,
         discriminator: 0,
     };
-    let Sent::Done(n) = sender::send(map, c, payload, &mut out) else {
+    let Sent::Done(d) = sender::send(map, c, payload, &mut out) else {
         return;
     };
+    let n = d.frames;
     if 0 < n {
         show(&out, 0);
     }

@@ -78,10 +78,10 @@ module _ (m : List ℕ) (fine : soundMap m ≡ true) (bytes : Octets m) where
 
             pub responded : c .transferType ≡ 2 → (n : ℕ) (out' : List ℕ) → n ≡ frameCount (length (c .payload))
                 → out' ≡ splice out 0 (recordsOf (idFor c) (sent (c .signature) (c .transfer) (c .payload)))
-                → result (Done n) m out' ≡ lent m out (sendStep c (mapOf m) room)
+                → result (Done (record { frames = n; transfer = c .transfer })) m out' ≡ lent m out (sendStep c (mapOf m) room)
             unfolding sendAs transmit
             responded e n out' en eo =
-                (λ i. result (Done (en i)) (sym kept i) (eo i)) ∙ ap (lent m out) (sym (step-is true (eq-eqb (c .transferType) 2 e)))
+                (λ i. result (Done (record { frames = en i; transfer = c .transfer })) (sym kept i) (eo i)) ∙ ap (lent m out) (sym (step-is true (eq-eqb (c .transferType) 2 e)))
 
             pub numbered : (c .transferType ≡ 2 → ⊥) → (r : Result) → r ≡ lent m out (sendIn (slotFor (topicOf c) (c .time) (mapOf m)) c (mapOf m))
                 → r ≡ lent m out (sendStep c (mapOf m) room)
@@ -111,14 +111,14 @@ module _ (m : List ℕ) (fine : soundMap m ≡ true) (bytes : Octets m) where
     pub stored : (i t n : ℕ) (m' out' : List ℕ) → i ≡ placeOr32 place → i ≤ 31 → t ≡ drawn (topicOf c) (slotAt m i)
         → m' ≡ withSlot m i (used (topicOf c) ((t + 1) % 32) (c .time)) → n ≡ frameCount (length (c .payload))
         → out' ≡ splice out 0 (recordsOf (idFor c) (sent (c .signature) t (c .payload)))
-        → result (Done n) m' out' ≡ lent m out (sendIn place c (mapOf m))
+        → result (Done (record { frames = n; transfer = t })) m' out' ≡ lent m out (sendIn place c (mapOf m))
     unfolding sendIn sendAt transmit
     stored i t n m' out' e h et em en eo =
         let p : place ≡ some i = found place (omega arith) ∙ ap some (sym e) in
         let s : drawn (topicOf c) (getD (mapOf m) i free) ≡ t = ap (drawn (topicOf c)) (slot-is i (omega arith)) ∙ sym et in
         let after = used (topicOf c) ((t + 1) % 32) (c .time) in
         let w : written m 0 (set (mapOf m) i after) ≡ withSlot m i after = stored-is i (topicOf c) ((t + 1) % 32) (c .time) (omega arith) (omega arith) in
-        (λ j. result (Done (en j)) ((em ∙ sym w) j) (eo j))
+        (λ j. result (Done (record { frames = en j; transfer = t })) ((em ∙ sym w) j) (eo j))
         ∙ ap (λ x. lent m out (sendAt c i x (mapOf m))) (sym s)
         ∙ ap (λ x. lent m out (sendIn x c (mapOf m))) (sym p)
 

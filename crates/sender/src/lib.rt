@@ -3,6 +3,7 @@ mod check;
 mod frames;
 pub mod laws;
 
+use answers::Dispatch;
 use answers::Sent;
 ghost use mathlib.Core.Path.{_≡_};
 ghost use mathlib.Core.Bool.{true};
@@ -42,7 +43,10 @@ fn number(map: &mut [u8], c: Outgoing, payload: &[u8], out: &mut [u8]) -> Sent
     let transfer = id_map::entry::drawn(map, i, k);
     id_map::entry::store(map, i, k, (transfer + 1) % 32, c.time);
     frames::write(out, frames::id(c), transfer, c.signature, payload);
-    Sent::Done(frames::count(payload.len()))
+    Sent::Done(Dispatch {
+        frames: frames::count(payload.len()),
+        transfer,
+    })
 }
 
 // On a map without a fault.
@@ -62,14 +66,9 @@ fn dispatch(map: &mut [u8], c: Outgoing, payload: &[u8], out: &mut [u8]) -> Sent
         return Sent::OutputSmall;
     }
     if c.transfer_type == 2 {
-        frames::write(
-            out,
-            frames::id(c),
-            c.transfer_id as u8,
-            c.signature,
-            payload,
-        );
-        return Sent::Done(frames);
+        let transfer = c.transfer_id as u8;
+        frames::write(out, frames::id(c), transfer, c.signature, payload);
+        return Sent::Done(Dispatch { frames, transfer });
     }
     number(map, c, payload, out)
 }

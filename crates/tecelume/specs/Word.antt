@@ -49,7 +49,7 @@ pub record WordLaws : Type 0 where
   pub fits : (m : List ℕ) (f : Frame) (out : List ℕ) → Fits (received m f out .answer)
   pub back : (a : Answer) → Fits a → ReadBack (wordOf a) a
 
--- ── the result word of a send: the number in bits 0 to 7, the frames from bit 8 on ──
+-- ── the result word of a send: the number in bits 0 to 7, the frames in 8 to 14, their transfer ID in 55 to 59 as that of a reception ──
 
 abbrev pub sentWord : Sent → ℕ
-sentWord a = sending.numberOf a + sending.framesOf a * 2 ^ 8
+sentWord a = sending.numberOf a + (sending.dispatchIn a .frames * 2 ^ 8 + sending.dispatchIn a .transfer * 2 ^ 55)

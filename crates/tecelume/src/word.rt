@@ -4,8 +4,8 @@ use transport::Outcome;
 use transport::Sent;
 use transport::Transfer;
 ghost use mathlib.Core.Path.{_≡_};
-ghost use Prim.Native.Nat.{_≤_};
-ghost use Rattle.answers.specs.Sending.{framesOf};
+ghost use Prim.Native.Nat.{_≤_, _<_};
+ghost use Rattle.answers.specs.Sending.{dispatchIn};
 ghost use Rattle.id_map.specs.Setup as setting;
 ghost use Rattle.setup.specs.Setup.{numberOf};
 ghost use Rattle.tecelume.specs.Word.{transferWord, wordOf, sentWord, TransferFits, Fits};
@@ -50,8 +50,9 @@ pub fn of_map_outcome(o: id_map::Outcome) -> u32
 }
 
 pub fn of_sent(a: Sent) -> u64
-    requires { ⌜ framesOf a ≤ 74 ⌝ }
+    requires { ⌜ (dispatchIn a .frames ≤ 74) × (dispatchIn a .transfer < 32) ⌝ }
     ensures { λ r. ⌜ r ≡ sentWord a ⌝ }
 {
-    a.number() + a.frames() as u64 * 0x100
+    let d = a.dispatch();
+    a.number() + (d.frames as u64 * 0x100 + d.transfer as u64 * 0x80000000000000)
 }

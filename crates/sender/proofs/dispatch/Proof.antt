@@ -74,18 +74,18 @@ returns-3 c =
     let s = k .before in
     too-small (s .args .map .now) (s .pre) (octets k) (call s) (s .args .out .now) (length (s .args .out .now)) (fit e) (g .if2 .left) (omega (arith, n .count .ensures))
 
+cast-transfer : tie.Need-cast-transfer
+unfolding call
+cast-transfer c =
+    let t = c .before in
+    omega (arith, ranged (t .before .before .before .before .before) .response (t .if4 .taken))
+
 id-requires : tie.Need-id-requires
 unfolding call
 id-requires c κs =
-    let e = c .before .before .before .before .before .before in
+    let e = c .before .before .before .before .before .before .before in
     let s = e .before .before .before .before .before in
     without-payload (s .args .c) (s .args .payload .now) (ranged e)
-
-cast-write : tie.Need-cast-write
-unfolding call
-cast-write c =
-    let t = c .before .before .before in
-    omega (arith, ranged (t .before .before .before .before .before) .response (t .if4 .taken))
 
 write-requires : tie.Need-write-requires
 unfolding call
@@ -102,8 +102,8 @@ returns-4 : tie.Need-returns-4
 unfolding call
 returns-4 c =
     let w = c .before .before in
-    let i = w .before .before in
-    let t = i .before .before in
+    let i = w .before in
+    let t = i .before .before .before in
     let r = t .before .before in
     let n = r .before in
     let g = n .before in
@@ -153,8 +153,8 @@ dispatch-spec =
     count-requires
     mul-if3
     returns-3
+    cast-transfer
     id-requires
-    cast-write
     write-requires
     same-length
     returns-4
