@@ -7,6 +7,10 @@ use Rattle.receiver.specs.Receive as receive
 use Rattle.sender.specs.Send as send
 use Rattle.setup.specs.Setup as setup
 
+-- 0.1.0
+abbrev pub version : ℕ
+version = 0 * 2 ^ 16 + (1 * 2 ^ 8 + 0)
+
 -- of a setup: the number, and the lent state or map
 pub record Numbered : Type 0 where
   pub number : ℕ

@@ -3,7 +3,7 @@ mod word;
 
 use transport::Outgoing;
 ghost use mathlib.Core.Path.{_≡_};
-ghost use Rattle.tecelume.specs.Entry.{numbered, numberedMap, entry, packed, packedSend};
+ghost use Rattle.tecelume.specs.Entry.{version, numbered, numberedMap, entry, packed, packedSend};
 ghost use Rattle.tecelume.specs.Word.{WordLaws};
 ghost use Rattle.id_map.specs.Layout as layout;
 ghost use Rattle.id_map.specs.Setup as setting;
@@ -12,6 +12,14 @@ ghost use Rattle.sender.specs.Send.{sends};
 ghost use Rattle.setup.specs.Setup.{afterSetup};
 ghost use Rattle.state.specs.Layout.{size};
 ghost use Rattle.types.specs.Types.{signatureOf};
+
+// The version of the library: major, minor and patch in bits 16 up, 8 to 15 and 0 to 7.
+#[no_mangle]
+pub extern "C" fn tecelume_version() -> u32
+    ensures { λ r. ⌜ r ≡ version ⌝ }
+{
+    0x000100
+}
 
 // The bytes of a receiver's state.
 #[no_mangle]
@@ -31,7 +39,7 @@ pub extern "C" fn tecelume_setup(state: &mut [u8], own: u32, subscriptions: &[u8
 
 // One frame on a lent state: the result word.
 #[no_mangle]
-pub extern "C" fn tecelume_receive(
+pub extern "C" fn tecelume_receive_word(
     state: &mut [u8],
     id: u32,
     frame: &[u8],
@@ -61,7 +69,7 @@ pub extern "C" fn tecelume_map_setup(map: &mut [u8]) -> u32
 
 // A payload as records of frames, on a lent map: the number and, from bit 8 on, how many frames.
 #[no_mangle]
-pub extern "C" fn tecelume_send(
+pub extern "C" fn tecelume_send_word(
     map: &mut [u8],
     own: u32,
     transfer_type: u32,

@@ -1,4 +1,4 @@
--- `tecelume_send` meets its contract: the proved call, its answer as a word.
+-- `tecelume_send_word` meets its contract: the proved call, its answer as a word.
 use mathlib.Core.Path.{_≡_, refl, sym, ap, subst, _∙_}
 use mathlib.Core.Bool.{Bool, true, false}
 use mathlib.Core.List.{List}
@@ -18,8 +18,8 @@ use Rattle.rules.specs.Sending.{Call, sendStep}
 use Rattle.rules.proofs.Sends.{record-laws}
 use Rattle.sender.specs.Send.{sendsIf, sends, Result}
 use borrow.Author.Needs.{needs}
-use Rattle.tecelume.proofs.tecelume_send.Statement.{statement}
-use Rattle.tecelume.proofs.tecelume_send.Tie as tie
+use Rattle.tecelume.proofs.tecelume_send_word.Statement.{statement}
+use Rattle.tecelume.proofs.tecelume_send_word.Tie as tie
 
 -- as many frames as 512 bytes make, at most, under a transfer ID in range
 fits : (m : List ℕ) (c : Call) (out : List ℕ) → (dispatchIn (sends m c out .answer) .frames ≤ 74) × (dispatchIn (sends m c out .answer) .transfer < 32)
@@ -66,6 +66,6 @@ returns c =
     let s = c .before .before .before .before .before in
     ap (λ (w : ℕ). entry w (s .send .last .0) (s .send .last .1 .1 .1 .0)) (c .of-sent .ensures) ∙ ap packedSend (s .send .ensures)
 
-pub tecelume-send-spec : {M : Type 1} → statement M
-tecelume-send-spec =
+pub tecelume-send-word-spec : {M : Type 1} → statement M
+tecelume-send-word-spec =
     tie.close (tie.spec send-requires of-sent-requires same-length same-length-2 returns)

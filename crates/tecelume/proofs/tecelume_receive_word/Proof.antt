@@ -1,4 +1,4 @@
--- `tecelume_receive` meets its contract: the proved call, its answer as a word.
+-- `tecelume_receive_word` meets its contract: the proved call, its answer as a word.
 use mathlib.Core.Path.{sym, ap, subst, _∙_}
 use Prim.Native.Nat.{ℕ}
 use denote.Ref.{now}
@@ -7,8 +7,8 @@ use Rattle.tecelume.specs.Word.{Fits}
 use Rattle.tecelume.proofs.Words.{received-fits}
 use Rattle.receiver.specs.Receive.{Result, frameOf}
 use borrow.Author.Needs.{needs}
-use Rattle.tecelume.proofs.tecelume_receive.Statement.{statement}
-use Rattle.tecelume.proofs.tecelume_receive.Tie as tie
+use Rattle.tecelume.proofs.tecelume_receive_word.Statement.{statement}
+use Rattle.tecelume.proofs.tecelume_receive_word.Tie as tie
 
 receive-requires : tie.Need-receive-requires
 receive-requires c κs = search needs
@@ -31,6 +31,6 @@ returns c =
     let r = c .before .before .before .before .before in
     ap (λ (w : ℕ). entry w (r .receive .last .0) (r .receive .last .1 .1 .1 .1 .0)) (c .of-answer .ensures) ∙ ap packed (r .receive .ensures)
 
-pub tecelume-receive-spec : {M : Type 1} → statement M
-tecelume-receive-spec =
+pub tecelume-receive-word-spec : {M : Type 1} → statement M
+tecelume-receive-word-spec =
     tie.close (tie.spec receive-requires of-answer-requires same-length same-length-2 returns)
