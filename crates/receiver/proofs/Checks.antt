@@ -19,8 +19,8 @@ use Rattle.receiver.specs.Check.{shapeCheck, headOf}
 use Rattle.receiver.specs.Receive.{frameOf, arriving}
 use Rattle.session.specs.Session.{parsedOf}
 use Rattle.receiver.proofs.Heads.{anonymous-is, source-is}
-use Rattle.state.specs.Subscription.{asked}
-use Rattle.state.specs.declared.subscription.Subscribed.the-variants.{Under, Not}
+use Rattle.subscriptions.specs.inside.Subscription.{asked}
+use Rattle.subscriptions.specs.declared.Subscribed.the-variants.{Under, Not}
 
 -- ── 7 comes after 2 to 6 ──
 

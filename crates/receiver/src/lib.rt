@@ -3,7 +3,7 @@ mod check;
 mod place;
 
 use session::Answer;
-use state::subscription::Subscribed;
+use subscriptions::Subscribed;
 ghost use mathlib.Core.Path.{_≡_};
 ghost use mathlib.Core.Bool.{true};
 ghost use mathlib.Core.Option.{none, some};
@@ -47,7 +47,7 @@ fn arrive(state: &mut [u8], id: u32, frame: &[u8], time: u64, out: &mut [u8]) ->
     if 0 < refused {
         return Answer::Refused(refused);
     }
-    match state::subscription::find(state, check::kind(id), check::type_id(id)) {
+    match subscriptions::find(state, check::kind(id), check::type_id(id)) {
         Subscribed::Not => Answer::Refused(7),
         Subscribed::Under(signature) => {
             if out.len() < 512 {
@@ -62,7 +62,7 @@ fn arrive(state: &mut [u8], id: u32, frame: &[u8], time: u64, out: &mut [u8]) ->
 pub fn receive(state: &mut [u8], id: u32, frame: &[u8], time: u64, out: &mut [u8]) -> Answer
     ensures { λ r. ⌜ result r (now (state .exit)) (now (out .exit)) ≡ received (now (state .entry)) (frameOf id (now (frame .entry)) time) (now (out .entry)) ⌝ }
 {
-    if state::sound::is_sound(state) {
+    if sessions::sound::is_sound(state) {
         return arrive(state, id, frame, time, out);
     }
     Answer::Faulty

@@ -18,8 +18,8 @@ use Rattle.receiver.specs.Receive.{result, frameOf, arriving, lent}
 use Rattle.session.specs.declared.Answer.the-variants.{Refused}
 use Rattle.state.specs.Layout.{setupOf, placesOf}
 use Rattle.state.specs.Sound.{soundState}
-use Rattle.state.specs.Subscription.{asked}
-use Rattle.state.specs.declared.subscription.Subscribed.{Subscribed}
+use Rattle.subscriptions.specs.inside.Subscription.{asked}
+use Rattle.subscriptions.specs.declared.Subscribed.{Subscribed}
 use Rattle.state.proofs.Faultless.{long}
 use Rattle.receiver.proofs.Checks.{under, not-asked, shape-refuses, not-subscribed, all-passed, no-room, accepted, step-refused, step-accepted}
 use Rattle.receiver.proofs.Heads.{type-lt}
