@@ -2,7 +2,9 @@
 use super::layout::KEYS_AT;
 use super::layout::NEXTS_AT;
 use super::layout::SIZE;
+use keys::MARKS;
 use rules::limits::MAP_ENTRIES;
+ghost use mathlib.Core.Bool.{_&&_};
 ghost use mathlib.Core.Path.{_≡_};
 ghost use Prim.Native.Nat.{_≤_, _<_};
 ghost use lib.ListN.{length};
@@ -10,6 +12,7 @@ ghost use Rattle.bits.specs.Tabulate.{every};
 ghost use Rattle.id_map.specs.Layout.{size, keyAt, topicOfKey};
 ghost use Rattle.id_map.specs.Sound.{soundMap};
 ghost use Rattle.id_map.specs.inside.Sound.{emptyOrFits, keysOf};
+ghost use Rattle.keys.specs.inside.Keys.{distinct};
 ghost use Rattle.rules.specs.Limits.{entriesMax};
 ghost use Rattle.rules.specs.Map.{topicFits};
 
@@ -43,18 +46,24 @@ fn place_fits(map: &[u8], i: usize, k: u32) -> bool
     false
 }
 
-// Place by place, up to the last entry.
-fn places_fit(map: &[u8], table: &[u32]) -> bool
+// Place by place, up to the last entry: each fits, and no key stands twice. One walk for both, since it runs at every call.
+fn places_sound(map: &[u8], table: &[u32]) -> bool
     requires { ⌜ (size ≤ length (now map)) × (now table ≡ keysOf (now map)) ⌝ }
-    ensures { λ r. ⌜ r ≡ every (emptyOrFits (now (map .entry))) 0 entriesMax ⌝ }
+    ensures { λ r. ⌜ r ≡ (every (emptyOrFits (now (map .entry))) 0 entriesMax && distinct (now (table .entry))) ⌝ }
 {
+    let mut marks = [0u8; MARKS];
     let mut left = table.len() as u32 - keys::count(table, 0);
     let mut i = 0;
     while 0 < left {
         let k = table[i];
+        let first = keys::mark(&mut marks, k);
         if place_fits(map, i, k) {
-            left -= (k != 0) as u32;
-            i += 1;
+            if keys::is_alone(table, k, first) {
+                left -= (k != 0) as u32;
+                i += 1;
+            } else {
+                return false;
+            }
         } else {
             return false;
         }
@@ -71,8 +80,5 @@ pub fn is_sound(map: &[u8]) -> bool
     }
     let mut table = [0u32; MAP_ENTRIES];
     keys::load(&mut table, map, KEYS_AT);
-    if places_fit(map, &table) {
-        return keys::are_distinct(&table);
-    }
-    false
+    places_sound(map, &table)
 }

@@ -3,7 +3,7 @@ ghost use mathlib.Core.Bool.{_||_};
 ghost use mathlib.Core.Path.{_≡_};
 ghost use Prim.Native.Nat.{_+_, _*_, _≤_, _<_};
 ghost use lib.Dec.{eqb};
-ghost use lib.ListN.{length};
+ghost use lib.ListN.{length, getD, set};
 ghost use Rattle.bits.specs.Tabulate.{tabulate};
 ghost use Rattle.keys.specs.inside.Keys.{wordAt, distinct, lowest, markAt};
 ghost use Rattle.keys.specs.inside.Keys as inside;
@@ -34,6 +34,9 @@ pub fn count(table: &[u32], k: u32) -> u32
     hits
 }
 
+// Internal. How many marks a walk over a table has.
+pub const MARKS: usize = 128;
+
 // Where a key sets its mark: like keys the same one, unlike keys mostly different ones. The factor is 2^32 over the golden ratio, which spreads
 // any run of neighbours.
 fn mark_at(k: u32) -> usize
@@ -42,8 +45,19 @@ fn mark_at(k: u32) -> usize
     (k as u64 * 2654435769 / 33554432 % 128) as usize
 }
 
-// The key k is 0 or stands once in the table; `first`: it is known that it stands at no earlier place.
-fn is_alone(table: &[u32], k: u32, first: bool) -> bool
+// Internal. Sets the mark of the key k; whether it was not set. On a walk, no key passed is then like k.
+pub fn mark(marks: &mut [u8; MARKS], k: u32) -> bool
+    requires { ⌜ length (now marks) ≡ 128 ⌝ }
+    ensures { λ r. ⌜ (r ≡ eqb (getD (now (marks .entry)) (markAt k) 0) 0) × (now (marks .exit) ≡ set (now (marks .entry)) (markAt k) 1) ⌝ }
+{
+    let at = mark_at(k);
+    let first = marks[at] == 0;
+    marks[at] = 1;
+    first
+}
+
+// Internal. The key k is 0 or stands once in the table; `first`: it is known that it stands at no earlier place.
+pub fn is_alone(table: &[u32], k: u32, first: bool) -> bool
     requires { ⌜ length (now table) < 4294967296 ⌝ }
     ensures { λ r. ⌜ r ≡ (first || (eqb k 0 || eqb (inside.count k (now (table .entry))) 1)) ⌝ }
 {
@@ -56,20 +70,18 @@ fn is_alone(table: &[u32], k: u32, first: bool) -> bool
     count(table, k) == 1
 }
 
-// Internal. No key but 0 stands twice. It goes as far as the last key and seldom counts one: a key whose mark is not set stands at no earlier
-// place; only where it is set, the key is counted.
+// Internal. No key but 0 stands twice. The walk goes as far as the last key, and counts only keys whose mark is set.
 pub fn are_distinct(table: &[u32]) -> bool
     requires { ⌜ length (now table) < 4294967296 ⌝ }
     ensures { λ r. ⌜ r ≡ distinct (now (table .entry)) ⌝ }
 {
-    let mut marks = [0u8; 128];
+    let mut marks = [0u8; MARKS];
     let mut left = table.len() as u32 - count(table, 0);
     let mut i = 0;
     while 0 < left {
         let k = table[i];
-        let at = mark_at(k);
-        if is_alone(table, k, marks[at] == 0) {
-            marks[at] = 1;
+        let first = mark(&mut marks, k);
+        if is_alone(table, k, first) {
             left -= (k != 0) as u32;
             i += 1;
         } else {

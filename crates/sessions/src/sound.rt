@@ -1,4 +1,5 @@
 // The faults of a lent state that answer 20. Every call of the receiver runs this first.
+use keys::MARKS;
 use rules::limits::GATHERED;
 use rules::limits::SESSIONS;
 use rules::limits::SUBSCRIPTIONS;
@@ -7,10 +8,12 @@ use state::layout::OWN_AT;
 use state::layout::SIZE;
 use state::layout::STREAM_KEYS_AT;
 use state::layout::SUBSCRIPTION_COUNT_AT;
+ghost use mathlib.Core.Bool.{_&&_};
 ghost use mathlib.Core.Path.{_≡_};
 ghost use Prim.Native.Nat.{_≤_, _<_};
 ghost use lib.ListN.{length};
 ghost use Rattle.bits.specs.Tabulate.{every};
+ghost use Rattle.keys.specs.inside.Keys.{distinct};
 ghost use Rattle.rules.specs.Limits.{sessionsMax};
 ghost use Rattle.rules.specs.Sound.{streamFits};
 ghost use Rattle.sessions.specs.inside.Sound.{controlFits, keysOf, emptyOrFits};
@@ -73,18 +76,24 @@ fn place_fits(state: &[u8], i: usize, k: u32) -> bool
     false
 }
 
-// Place by place, up to the last session.
-fn places_fit(state: &[u8], table: &[u32]) -> bool
+// Place by place, up to the last session: each fits, and no key stands twice. One walk for both, since it runs at every call.
+fn places_sound(state: &[u8], table: &[u32]) -> bool
     requires { ⌜ (size ≤ length (now state)) × (now table ≡ keysOf (now state)) ⌝ }
-    ensures { λ r. ⌜ r ≡ every (emptyOrFits (now (state .entry))) 0 sessionsMax ⌝ }
+    ensures { λ r. ⌜ r ≡ (every (emptyOrFits (now (state .entry))) 0 sessionsMax && distinct (now (table .entry))) ⌝ }
 {
+    let mut marks = [0u8; MARKS];
     let mut left = table.len() as u32 - keys::count(table, 0);
     let mut i = 0;
     while 0 < left {
         let k = table[i];
+        let first = keys::mark(&mut marks, k);
         if place_fits(state, i, k) {
-            left -= (k != 0) as u32;
-            i += 1;
+            if keys::is_alone(table, k, first) {
+                left -= (k != 0) as u32;
+                i += 1;
+            } else {
+                return false;
+            }
         } else {
             return false;
         }
@@ -108,9 +117,7 @@ pub fn is_sound(state: &[u8]) -> bool
     if subscriptions::all_fit(state) {
         let mut table = [0u32; SESSIONS];
         keys::load(&mut table, state, STREAM_KEYS_AT);
-        if places_fit(state, &table) {
-            return keys::are_distinct(&table);
-        }
+        return places_sound(state, &table);
     }
     false
 }

@@ -11,8 +11,10 @@ use lib.ListN.{length, take, set}
 use lib.Seq.{take-suc-set}
 use mir.Val.{boolByte}
 use Rattle.bits.specs.Tabulate.{tabulate}
-use Rattle.bits.proofs.Tabulate.{tab-snoc}
+use Rattle.bits.proofs.Tabulate.{tab-snoc, length-tabulate}
 use Rattle.keys.specs.inside.Keys.{count, distinct}
+use Rattle.keys.proofs.Counts.{count-two}
+use Rattle.keys.proofs.Distinct.{at, First, first-distinct, distinct-once, key-is}
 use Rattle.rules.specs.Setup.{Subscription, typeFits, alike, unlike, allFit}
 use Rattle.rules.specs.Tests.{pick}
 use Rattle.subscriptions.specs.inside.Subscription.{keysEnd}
@@ -122,3 +124,40 @@ module _ (f : ℕ → Subscription) where
         let s : j ≡ i = omega (arith, ltb-false i j q) in
         let t : typeFits (f i .kind) (f i .type) ≡ false = rw s at e in
         rw t
+
+  -- each is in range, and the first of its kind and type
+  pub first-fit : (n : ℕ) → ((l : ℕ) → l < n → Fits (f l)) → ((i : ℕ) → i < n → First (λ a. entryOf (f a)) i) → allFit (tabulate f 0 n) ≡ true
+  first-fit n fit first =
+      all-distinct n 0 (λ j l b. fit j (omega arith))
+      ∙ first-distinct (entries 0 n)
+      (λ i h z a b e. first i (omega (arith, length-is)) a b (sym (key-is entry n a (omega (arith, length-is))) ∙ e ∙ key-is entry n i (omega (arith, length-is))))
+    where
+      entry : ℕ → ℕ
+      entry a = entryOf (f a)
+
+      length-is : length (entries 0 n) ≡ n
+      length-is = length-tabulate entry 0 n
+
+  -- one stands a second time
+  pub twice-unfit : (n l j : ℕ) → l < j → j < n → entryOf (f l) ≡ entryOf (f j) → allFit (tabulate f 0 n) ≡ false
+  twice-unfit n l j a b e = go (allFit (tabulate f 0 n)) refl where
+    entry : ℕ → ℕ
+    entry i = entryOf (f i)
+
+    length-is : length (entries 0 n) ≡ n
+    length-is = length-tabulate entry 0 n
+
+    go : (t : Bool) → allFit (tabulate f 0 n) ≡ t → t ≡ false
+    go false q = refl
+    go true q =
+        let d : distinct (entries 0 n) ≡ true = sym (all-distinct n 0 fit) ∙ q in
+        let k = key-is entry n j b in
+        let one = distinct-once (entries 0 n) d j (omega (arith, length-is)) (λ z. omega (arith, k)) in
+        let two = count-two (at (entries 0 n) j) (entries 0 n) l j a (omega (arith, length-is)) (key-is entry n l (omega arith) ∙ e ∙ sym k) refl in
+        absurd (omega arith)
+      where
+        fit : AllFit 0 n
+        fit i h k = by (typeFits (f i .kind) (f i .type)) refl where
+          by : (t : Bool) → typeFits (f i .kind) (f i .type) ≡ t → t ≡ true
+          by true r = refl
+          by false r = sym (one-unfit n 0 i h k r) ∙ q

@@ -1,15 +1,15 @@
 // The subscriptions in a receiver's state.
-use rules::limits::SUBSCRIPTIONS;
+use keys::MARKS;
 use state::layout::SIGNATURES_AT;
 use state::layout::SUBSCRIPTION_COUNT_AT;
 use state::layout::SUBSCRIPTION_KEYS_AT;
 ghost use mathlib.Core.Path.{_≡_};
 ghost use Prim.Native.Nat.{_≤_, _<_};
-ghost use lib.ListN.{length, getD};
+ghost use lib.ListN.{length};
 ghost use Rattle.rules.specs.Limits.{subscriptionsMax};
 ghost use Rattle.rules.specs.Setup.{allFit, subscribed};
-ghost use Rattle.state.specs.Layout.{size, subscriptionCountAt, setupOf};
-ghost use Rattle.subscriptions.specs.inside.Subscription.{asked, withSubscription};
+ghost use Rattle.state.specs.Layout.{size, setupOf};
+ghost use Rattle.subscriptions.specs.inside.Subscription.{asked, keyFits, withSubscription};
 
 // What a subscription gives: the signature of its type.
 pub enum Subscribed {
@@ -33,24 +33,39 @@ pub fn find(state: &[u8], kind: u32, type_id: u32) -> Subscribed
     Subscribed::Not
 }
 
-// Internal. Every subscription has a kind and a type in range, and none stands twice. One is added to each key, since key 0 is a subscription
-// and no empty place.
+// The key k is in range, and none of the first j subscriptions has it; `first`: it is known that none has it.
+fn key_fits(state: &[u8], k: u32, j: usize, first: bool) -> bool
+    requires { ⌜ (size ≤ length (now state)) × (j < 256) ⌝ }
+    ensures { λ r. ⌜ r ≡ keyFits (now (state .entry)) k j first ⌝ }
+{
+    if KEYS_END <= k {
+        return false;
+    }
+    if first {
+        return true;
+    }
+    keys::find(state, SUBSCRIPTION_KEYS_AT, j, k) == j
+}
+
+// Internal. Every subscription has a kind and a type in range, and none stands twice. Only a key whose mark is set is looked for among those
+// before it.
 pub fn all_fit(state: &[u8]) -> bool
-    requires { ⌜ (size ≤ length (now state)) × (getD (now state) subscriptionCountAt 0 ≤ subscriptionsMax) ⌝ }
+    requires { ⌜ size ≤ length (now state) ⌝ }
     ensures { λ r. ⌜ r ≡ allFit (setupOf (now (state .entry)) .subscriptions) ⌝ }
 {
     let n = state[SUBSCRIPTION_COUNT_AT] as usize;
-    let mut table = [0u32; SUBSCRIPTIONS];
+    let mut marks = [0u8; MARKS];
     let mut j = 0;
     while j < n {
         let k = bits::le::get_u32(state, SUBSCRIPTION_KEYS_AT + j * 4);
-        if KEYS_END <= k {
+        let first = keys::mark(&mut marks, k);
+        if key_fits(state, k, j, first) {
+            j += 1;
+        } else {
             return false;
         }
-        table[j] = k + 1;
-        j += 1;
     }
-    keys::are_distinct(&table[..n])
+    true
 }
 
 // Internal. Subscription j: the key of its kind and type, and its signature.

@@ -43,13 +43,11 @@ module _ (m : List ℕ) where
       unfolding soundState acceptable setupOf
       too-many h = rw (le-leb size (length m) long, named, length-tabulate (subscriptionAt m) 0 n, lt-leb n subscriptionsMax h)
 
-      -- behind the length and the numbers: subscriptions, places, keys of the places
+      -- behind the length and the numbers: subscriptions, then places
       module _ (few : n ≤ subscriptionsMax) (b : Bool) (fit : allFit (setupOf m .subscriptions) ≡ b) (bytes : Octets m) where
-        tested : (p : Bool) → every (emptyOrFits m) 0 sessionsMax ≡ p → (b && (p && distinct (keysOf m))) ≡ soundState m
+        tested : (b && (every (emptyOrFits m) 0 sessionsMax && distinct (keysOf m))) ≡ soundState m
         unfolding soundState acceptable setupOf
-        tested p e =
-            ap (λ x. b && (x && distinct (keysOf m))) (sym e)
-            ∙ rw (whole m bytes long, le-leb size (length m) long, named, length-tabulate (subscriptionAt m) 0 n, le-leb n subscriptionsMax few, fit)
+        tested = rw (whole m bytes long, le-leb size (length m) long, named, length-tabulate (subscriptionAt m) 0 n, le-leb n subscriptionsMax few, fit)
 
 returns : tie.Need-returns
 returns c = short _ (c .if1 .taken)
@@ -78,53 +76,33 @@ slice-aggregate-load c = search needs
 load-requires : tie.Need-load-requires
 load-requires c κs = search needs
 
-slice-aggregate-places-fit : tie.Need-slice-aggregate-places-fit
-slice-aggregate-places-fit c = search needs
+slice-aggregate-places-sound : tie.Need-slice-aggregate-places-sound
+slice-aggregate-places-sound c = search needs
 
-places-fit-requires : tie.Need-places-fit-requires
+places-sound-requires : tie.Need-places-sound-requires
 unfolding keyAt
-places-fit-requires c κs = (omega arith, c .before .before .load .ensures)
-
-slice-aggregate-are-distinct : tie.Need-slice-aggregate-are-distinct
-slice-aggregate-are-distinct c = search needs
-
-are-distinct-requires : tie.Need-are-distinct-requires
-are-distinct-requires c κs = search needs
+places-sound-requires c κs = (omega arith, c .before .before .load .ensures)
 
 returns-4 : tie.Need-returns-4
 unfolding keyAt
 returns-4 c =
-    let p = c .before .before .before in
-    let d = p .before .before .before in
+    let d = c .before .before .before in
     let a = d .before .before .before in
     let e = a .before .before .before in
     let o = e .before .before in
     let m = o .before .before .args .state .now in
     let bytes = octets-all m (λ i. omega (arith, o .before .shared-slice-known .given i)) in
-    c .are-distinct .ensures ∙ ap distinct (d .load .ensures)
-    ∙ tested m (o .if1 .left) (e .if2 .left) (a .before .if3 .left) true (sym (a .all-fit .ensures) ∙ d .before .before .if4 .taken) bytes true
-    (sym (p .places-fit .ensures) ∙ c .before .before .if5 .taken)
+    c .places-sound .ensures ∙ ap (λ x. every (emptyOrFits m) 0 sessionsMax && distinct x) (d .load .ensures)
+    ∙ tested m (o .if1 .left) (e .if2 .left) (a .before .if3 .left) true (sym (a .all-fit .ensures) ∙ d .before .before .if4 .taken) bytes
 
 returns-5 : tie.Need-returns-5
 returns-5 c =
-    let p = c .before in
-    let d = p .before .before .before in
-    let a = d .before .before .before in
-    let e = a .before .before .before in
-    let o = e .before .before in
-    let m = o .before .before .args .state .now in
-    let bytes = octets-all m (λ i. omega (arith, o .before .shared-slice-known .given i)) in
-    tested m (o .if1 .left) (e .if2 .left) (a .before .if3 .left) true (sym (a .all-fit .ensures) ∙ d .before .before .if4 .taken) bytes false
-    (sym (p .places-fit .ensures) ∙ c .if5 .left)
-
-returns-6 : tie.Need-returns-6
-returns-6 c =
     let a = c .before in
     let e = a .before .before .before in
     let o = e .before .before in
     let m = o .before .before .args .state .now in
     let bytes = octets-all m (λ i. omega (arith, o .before .shared-slice-known .given i)) in
-    tested m (o .if1 .left) (e .if2 .left) (a .before .if3 .left) false (sym (a .all-fit .ensures) ∙ c .if4 .left) bytes _ refl
+    tested m (o .if1 .left) (e .if2 .left) (a .before .if3 .left) false (sym (a .all-fit .ensures) ∙ c .if4 .left) bytes
 
 pub is-sound-spec : {M : Type 1} → statement M
 is-sound-spec =
@@ -139,10 +117,7 @@ is-sound-spec =
     all-fit-requires
     slice-aggregate-load
     load-requires
-    slice-aggregate-places-fit
-    places-fit-requires
-    slice-aggregate-are-distinct
-    are-distinct-requires
+    slice-aggregate-places-sound
+    places-sound-requires
     returns-4
-    returns-5
-    returns-6)
+    returns-5)
