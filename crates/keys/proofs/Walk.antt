@@ -10,7 +10,7 @@ use lib.ListN.{length, drop, getD, set, length-set}
 use mir.Val.{boolByte}
 use Rattle.bits.specs.Tabulate.{tabulate}
 use Rattle.bits.proofs.Tabulate.{length-tabulate}
-use Rattle.keys.specs.inside.Keys.{count, distinct, markAt}
+use Rattle.keys.specs.inside.Keys.{count, distinct, marksMax, markAt}
 use Rattle.keys.proofs.Counts.{byte-le, left-step, rest-empty}
 use Rattle.keys.proofs.Distinct.{at, First, FirstTo, first-distinct, distinct-once, once-first, key-is}
 use Rattle.keys.proofs.Marks.{Marked, unmarked, mark, first-step}
@@ -18,7 +18,7 @@ use Rattle.keys.proofs.Marks.{Marked, unmarked, mark, first-step}
 -- before place i: the keys have left their marks, and each in use is the first of its kind; `left` places in use are to come
 pub record Walked (table marks : List ℕ) (left i : ℕ) : Type 0 where
   pub inside : i ≤ length table
-  pub marks-long : length marks ≡ 128
+  pub marks-long : length marks ≡ marksMax
   pub marked : Marked (at table) i marks
   pub to-come : left + count 0 (drop i table) ≡ length table - i
   pub first : FirstTo (at table) i

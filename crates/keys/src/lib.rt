@@ -5,7 +5,7 @@ ghost use Prim.Native.Nat.{_+_, _*_, _≤_, _<_};
 ghost use lib.Dec.{eqb};
 ghost use lib.ListN.{length, getD, set};
 ghost use Rattle.bits.specs.Tabulate.{tabulate};
-ghost use Rattle.keys.specs.inside.Keys.{wordAt, distinct, lowest, markAt};
+ghost use Rattle.keys.specs.inside.Keys.{wordAt, distinct, lowest, marksMax, markAt};
 ghost use Rattle.keys.specs.inside.Keys as inside;
 
 // Internal. As many keys as the table has, from `at` on, four bytes each.
@@ -42,12 +42,12 @@ pub const MARKS: usize = 128;
 fn mark_at(k: u32) -> usize
     ensures { λ r. ⌜ r ≡ markAt k ⌝ }
 {
-    (k as u64 * 2654435769 / 33554432 % 128) as usize
+    (k as u64 * 2654435769 / 33554432) as usize % MARKS
 }
 
 // Internal. Sets the mark of the key k; whether it was not set. On a walk, no key passed is then like k.
 pub fn mark(marks: &mut [u8; MARKS], k: u32) -> bool
-    requires { ⌜ length (now marks) ≡ 128 ⌝ }
+    requires { ⌜ length (now marks) ≡ marksMax ⌝ }
     ensures { λ r. ⌜ (r ≡ eqb (getD (now (marks .entry)) (markAt k) 0) 0) × (now (marks .exit) ≡ set (now (marks .entry)) (markAt k) 1) ⌝ }
 {
     let at = mark_at(k);

@@ -40,7 +40,7 @@ progressed m i e t n g hi hm hc p q r s =
     let l : n ≡ length (span m (bytesAt + i * gatheredMax) (countAt m i)) = s ∙ sym (length-span m (bytesAt + i * gatheredMax) (countAt m i) (omega arith)) in
     λ j. record { expected = p j; toggle = q j; time = r j; len = l j }
 
--- all 514 bytes of the place were copied
+-- all bytes of the place were copied
 gathered-copied : (m z bs : List ℕ) (i n : ℕ) → i < sessionsMax → size ≤ length m → length z ≡ gatheredMax → n ≡ countAt m i → n ≤ gatheredMax
     → bs ≡ splice z 0 (span m (bytesAt + i * gatheredMax) gatheredMax) → take n bs ≡ gatheredAt m i
 unfolding gatheredAt

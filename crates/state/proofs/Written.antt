@@ -8,7 +8,7 @@ use borrow.Author.Tests.{leb-true}
 use lib.Dec.{leb, ltb}
 use lib.ListN.{length, drop, getD, length-drop}
 use lib.Seq.{take-all}
-use Rattle.rules.specs.Limits.{sessionsMax}
+use Rattle.rules.specs.Limits.{sessionsMax, subscriptionsMax}
 use Rattle.bits.specs.Little.{le}
 use Rattle.bits.specs.Order.{Octets}
 use Rattle.bits.specs.Part.{span}
@@ -16,7 +16,7 @@ use Rattle.bits.proofs.Little.{le-one}
 use Rattle.rules.specs.Setup.{allFit, acceptable}
 use Rattle.rules.specs.Table.{Place, empty, held, Places}
 use Rattle.bits.specs.Tabulate.{tabulate, every}
-use Rattle.state.specs.Layout.{size, subscriptionKeyAt, subscriptionAt, setupOf, placeAt, placesOf, signaturesAt, timesAt, subscriptionKeysAt, streamKeysAt}
+use Rattle.state.specs.Layout.{size, subscriptionKeyAt, subscriptionAt, setupOf, placeAt, placesOf, signaturesAt, timesAt, subscriptionKeysAt, streamKeysAt, ownAt, subscriptionCountAt}
 use Rattle.state.specs.Place.{withPlace, written}
 use Rattle.state.specs.Sound.{rawFits}
 use Rattle.state.proofs.Bools.{and-left, and-right}
@@ -118,7 +118,7 @@ raw-from (p ∷ ps) m j w =
     (before ps (withPlace m j p) (suc j) j v (omega arith) (back-raw m j (w .long) h p (w .storable .0)) .raw)
     (raw-from ps (withPlace m j p) (suc j) v)
 
--- ── all 32 places ──
+-- ── all places ──
 
 -- a part before a field, and one past it
 ahead : {at w a n : ℕ} → a < at → a + n ≤ at → Clear at w a n
@@ -127,14 +127,14 @@ ahead h k = record { before = λ x. k; behind = λ x. omega arith }
 past : {at w a n : ℕ} → at + w ≤ a → Clear at w a n
 past h = record { before = λ x. omega arith; behind = λ x. h }
 
-few-subscriptions : (m : List ℕ) → acceptable (setupOf m) ≡ true → getD m 1 0 ≤ 64
+few-subscriptions : (m : List ℕ) → acceptable (setupOf m) ≡ true → getD m subscriptionCountAt 0 ≤ subscriptionsMax
 unfolding acceptable setupOf
 few-subscriptions m e =
-    let xs = tabulate (subscriptionAt m) 0 (getD m 1 0) in
+    let xs = tabulate (subscriptionAt m) 0 (getD m subscriptionCountAt 0) in
     omega (
       arith,
-      leb-true (length xs) 64 (and-left (leb (length xs) 64) (allFit xs) (and-right (ltb (getD m 0 0) 128) (leb (length xs) 64 && allFit xs) e)),
-      length-tabulate (subscriptionAt m) 0 (getD m 1 0),
+      leb-true (length xs) subscriptionsMax (and-left (leb (length xs) subscriptionsMax) (allFit xs) (and-right (ltb (getD m ownAt 0) 128) (leb (length xs) subscriptionsMax && allFit xs) e)),
+      length-tabulate (subscriptionAt m) 0 (getD m subscriptionCountAt 0),
     )
 
 module _ (m : List ℕ) (ps : Places) (long : size ≤ length m) (whole : length ps ≡ sessionsMax) (storable : AllStorable ps) where
@@ -184,7 +184,7 @@ module _ (m : List ℕ) (ps : Places) (long : size ≤ length m) (whole : length
       let l = length-written in
       sym (le-one (written m 0 ps) a (omega arith)) ∙ ap le (low a 1 h (omega arith)) ∙ le-one m a (omega arith)
 
-  subscription : (j : ℕ) → j < 64 → subscriptionAt (written m 0 ps) j ≡ subscriptionAt m j
+  subscription : (j : ℕ) → j < subscriptionsMax → subscriptionAt (written m 0 ps) j ≡ subscriptionAt m j
   unfolding subscriptionAt subscriptionKeyAt
   subscription j h = rw (middle (subscriptionKeysAt + j * 4) 4 (omega arith) (omega arith) (omega arith), low (signaturesAt + j * 8) 8 (omega arith) (omega arith))
 
@@ -192,8 +192,8 @@ module _ (m : List ℕ) (ps : Places) (long : size ≤ length m) (whole : length
   unfolding setupOf
   setup-written ok =
       let f = few-subscriptions m ok in
-      let o = byte 0 (omega arith) in
-      let s : tabulate (subscriptionAt (written m 0 ps)) 0 (getD (written m 0 ps) 1 0) ≡ tabulate (subscriptionAt m) 0 (getD m 1 0) =
-      ap (tabulate (subscriptionAt (written m 0 ps)) 0) (byte 1 (omega arith))
-      ∙ tab-same (subscriptionAt (written m 0 ps)) (subscriptionAt m) (getD m 1 0) 0 (λ l a b. subscription l (omega arith)) in
+      let o = byte ownAt (omega arith) in
+      let s : tabulate (subscriptionAt (written m 0 ps)) 0 (getD (written m 0 ps) subscriptionCountAt 0) ≡ tabulate (subscriptionAt m) 0 (getD m subscriptionCountAt 0) =
+      ap (tabulate (subscriptionAt (written m 0 ps)) 0) (byte subscriptionCountAt (omega arith))
+      ∙ tab-same (subscriptionAt (written m 0 ps)) (subscriptionAt m) (getD m subscriptionCountAt 0) 0 (λ l a b. subscription l (omega arith)) in
       λ i. record { own = o i; subscriptions = s i }

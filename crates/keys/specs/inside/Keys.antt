@@ -27,6 +27,9 @@ unfoldable pub lowest : (ℕ → Bool) → ℕ → ℕ → ℕ
 lowest f i zero = i
 lowest f i (suc n) = pick (f i) i (lowest f (suc i) n)
 
--- which of 128 marks a key sets
+-- how many marks a walk has, and which one a key sets
+abbrev pub marksMax : ℕ
+marksMax = 128
+
 abbrev pub markAt : ℕ → ℕ
-markAt k = k * 2654435769 / 33554432 % 128
+markAt k = k * 2654435769 / 33554432 % marksMax

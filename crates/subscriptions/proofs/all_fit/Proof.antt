@@ -9,7 +9,7 @@ use borrow.Author.Count.{below-more}
 use borrow.Author.Tests.{eqb-true, eqb-false, eq-eqb, ne-eqb, ltb-true, ltb-false, le-ltb, lt-ltb}
 use lib.Dec.{eqb, ltb}
 use lib.ListN.{length, getD, set, length-set}
-use Rattle.keys.specs.inside.Keys.{wordAt, lowest, markAt}
+use Rattle.keys.specs.inside.Keys.{wordAt, lowest, marksMax, markAt}
 use Rattle.keys.proofs.Distinct.{First}
 use Rattle.keys.proofs.Lowest.{lowest-takes, lowest-passes, lowest-le}
 use Rattle.keys.proofs.Marks.{Marked, unmarked, mark}
@@ -55,7 +55,7 @@ module _ (m : List ℕ) (j k : ℕ) (is : k ≡ subscriptionKeyAt m j) where
   in-range : (b : Bool) → ltb k keysEnd ≡ b → typeFits (subscriptionAt m j .kind) (subscriptionAt m j .type) ≡ b
   in-range b e = own-fits m j ∙ ap (λ (x : ℕ). ltb x keysEnd) (sym is) ∙ e
 
-  module _ (marks : List ℕ) (long : length marks ≡ 128) (marked : Marked (subscriptionKeyAt m) j marks) where
+  module _ (marks : List ℕ) (long : length marks ≡ marksMax) (marked : Marked (subscriptionKeyAt m) j marks) where
     marks-more : (marks' : List ℕ) → marks' ≡ set marks (markAt k) 1 → Marked (subscriptionKeyAt m) (suc j) marks'
     marks-more marks' e =
         subst (Marked (subscriptionKeyAt m) (suc j)) (sym (e ∙ ap (λ (x : ℕ). set marks (markAt x) 1) is))
@@ -98,7 +98,7 @@ whole m all =
     (λ i h a b e. all i h .first a b (let p = own-entry m a in let q = own-entry m i in omega arith))
 
 abbrev Inv-loop : tie.InvT-loop
-Inv-loop state n marks₀ j₀ marks j = ((n < 256) × (j ≤ n)) × ((length marks ≡ 128) × (Marked (subscriptionKeyAt state) j marks × ((l : ℕ) → l < j → Good state l)))
+Inv-loop state n marks₀ j₀ marks j = ((n < 256) × (j ≤ n)) × ((length marks ≡ marksMax) × (Marked (subscriptionKeyAt state) j marks × ((l : ℕ) → l < j → Good state l)))
 
 abbrev μ-loop : tie.MeasureT-loop
 μ-loop state n marks₀ j₀ marks j = n - j

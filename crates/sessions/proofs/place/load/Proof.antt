@@ -1,4 +1,4 @@
--- `place::load` meets its contract: all 514 bytes are copied.
+-- `place::load` meets its contract: all bytes of the place are copied.
 use mathlib.Core.Path.{refl}
 use native.Mathlib.Omega.{arith}
 use Rattle.sessions.proofs.Stored.{loaded}
