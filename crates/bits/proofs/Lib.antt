@@ -1,7 +1,6 @@
 pub mod Splice
 pub mod Tabulate
-pub mod Hits
-pub mod Alone
+pub mod Every
 pub mod Octets
 pub mod Little
 pub mod Digits

@@ -1,7 +1,6 @@
 pub mod Part
 pub mod Tabulate
 pub mod Little
-pub mod Keys
 pub mod Order
 pub mod Window
 pub mod Width

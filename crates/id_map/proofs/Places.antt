@@ -8,13 +8,14 @@ use borrow.Author.Tests.{eqb-true, eqb-false, ne-eqb}
 use lib.Dec.{eqb}
 use lib.ListN.{length, take, getD}
 use lib.Seq.{drop-cons}
+use Rattle.rules.specs.Limits.{entriesMax}
 use Rattle.bits.specs.Little.{le, leBytes}
 use Rattle.bits.specs.Order.{Octets}
 use Rattle.bits.specs.Part.{span, splice}
 use Rattle.bits.proofs.Little.{length-leBytes, le-leBytes, leBytes-le, le-one}
 use Rattle.bits.proofs.Octets.{octets-span, octets-splice, octets-leBytes}
 use Rattle.bits.proofs.Splice.{length-splice, length-span, span-same, span-apart, splice-same}
-use Rattle.id_map.specs.Layout.{size, keyAt, nextAt, timeAt, keyOf, topicOfKey, slotAt, withSlot}
+use Rattle.id_map.specs.Layout.{size, keyAt, nextAt, timeAt, keyOf, topicOfKey, slotAt, withSlot, keysAt, timesAt, nextsAt}
 use Rattle.id_map.proofs.Keys.{key-some, key-topic}
 use Rattle.rules.specs.Map.{Topic, Slot, free, used}
 use Rattle.rules.specs.Tests.{pick}
@@ -26,9 +27,9 @@ record Clear (at w a n : ℕ) : Type 0 where
 
 -- no field of place i is among them
 record Aside (i a n : ℕ) : Type 0 where
-  pub key : Clear (i * 4) 4 a n
-  pub time : Clear (128 + i * 8) 8 a n
-  pub next : Clear (384 + i) 1 a n
+  pub key : Clear (keysAt + i * 4) 4 a n
+  pub time : Clear (timesAt + i * 8) 8 a n
+  pub next : Clear (nextsAt + i) 1 a n
 
 -- an entry that the layout can hold
 pub record Holdable (k : Topic) (since : ℕ) : Type 0 where
@@ -37,42 +38,42 @@ pub record Holdable (k : Topic) (since : ℕ) : Type 0 where
   pub time : since < 2 ^ 64
 
 abbrev keyed : List ℕ → ℕ → ℕ → List ℕ
-keyed m i k = splice m (i * 4) (leBytes 4 k)
+keyed m i k = splice m (keysAt + i * 4) (leBytes 4 k)
 
 abbrev timed : List ℕ → ℕ → ℕ → ℕ → List ℕ
-timed m i k since = splice (keyed m i k) (128 + i * 8) (leBytes 8 since)
+timed m i k since = splice (keyed m i k) (timesAt + i * 8) (leBytes 8 since)
 
-module _ (m : List ℕ) (i : ℕ) (long : size ≤ length m) (inMap : i < 32) where
+module _ (m : List ℕ) (i : ℕ) (long : size ≤ length m) (inMap : i < entriesMax) where
   length-keyed : (k : ℕ) → length (keyed m i k) ≡ length m
-  length-keyed k = length-splice m (i * 4) (leBytes 4 k) (omega (arith, length-leBytes 4 k))
+  length-keyed k = length-splice m (keysAt + i * 4) (leBytes 4 k) (omega (arith, length-leBytes 4 k))
 
   length-timed : (k since : ℕ) → length (timed m i k since) ≡ length m
   length-timed k since =
       let l = length-keyed k in
-      length-splice (keyed m i k) (128 + i * 8) (leBytes 8 since) (omega (arith, length-leBytes 8 since)) ∙ l
+      length-splice (keyed m i k) (timesAt + i * 8) (leBytes 8 since) (omega (arith, length-leBytes 8 since)) ∙ l
 
   pub length-withSlot : (s : Slot) → length (withSlot m i s) ≡ length m
   unfolding withSlot
   length-withSlot free = length-keyed 0
   length-withSlot (used k t since) =
       let l = length-timed (keyOf k) since in
-      length-splice (timed m i (keyOf k) since) (384 + i) (t ∷ []) (omega arith) ∙ l
+      length-splice (timed m i (keyOf k) since) (nextsAt + i) (t ∷ []) (omega arith) ∙ l
 
-  key-clear : (k a n : ℕ) → Clear (i * 4) 4 a n → span (keyed m i k) a n ≡ span m a n
+  key-clear : (k a n : ℕ) → Clear (keysAt + i * 4) 4 a n → span (keyed m i k) a n ≡ span m a n
   key-clear k a n c =
       let l = length-leBytes 4 k in
-      span-apart m (i * 4) (leBytes 4 k) a n (omega arith) (c .before) (λ b. let q = c .behind b in omega arith)
+      span-apart m (keysAt + i * 4) (leBytes 4 k) a n (omega arith) (c .before) (λ b. let q = c .behind b in omega arith)
 
-  time-clear : (k since a n : ℕ) → Clear (128 + i * 8) 8 a n → span (timed m i k since) a n ≡ span (keyed m i k) a n
+  time-clear : (k since a n : ℕ) → Clear (timesAt + i * 8) 8 a n → span (timed m i k since) a n ≡ span (keyed m i k) a n
   time-clear k since a n c =
       let l = length-leBytes 8 since in
       let l' = length-keyed k in
-      span-apart (keyed m i k) (128 + i * 8) (leBytes 8 since) a n (omega arith) (c .before) (λ b. let q = c .behind b in omega arith)
+      span-apart (keyed m i k) (timesAt + i * 8) (leBytes 8 since) a n (omega arith) (c .before) (λ b. let q = c .behind b in omega arith)
 
-  next-clear : (k since t a n : ℕ) → Clear (384 + i) 1 a n → span (splice (timed m i k since) (384 + i) (t ∷ [])) a n ≡ span (timed m i k since) a n
+  next-clear : (k since t a n : ℕ) → Clear (nextsAt + i) 1 a n → span (splice (timed m i k since) (nextsAt + i) (t ∷ [])) a n ≡ span (timed m i k since) a n
   next-clear k since t a n c =
       let l = length-timed k since in
-      span-apart (timed m i k since) (384 + i) (t ∷ []) a n (omega arith) (c .before) (c .behind)
+      span-apart (timed m i k since) (nextsAt + i) (t ∷ []) a n (omega arith) (c .before) (c .behind)
 
   aside : (s : Slot) (a n : ℕ) → Aside i a n → span (withSlot m i s) a n ≡ span m a n
   unfolding withSlot
@@ -82,22 +83,22 @@ module _ (m : List ℕ) (i : ℕ) (long : size ≤ length m) (inMap : i < 32) wh
 
   -- ── another place ──
 
-  module _ (s : Slot) (j : ℕ) (inMapJ : j < 32) (other : i ≤ j → i < j) where
-    key-aside : Aside i (j * 4) 4
+  module _ (s : Slot) (j : ℕ) (inMapJ : j < entriesMax) (other : i ≤ j → i < j) where
+    key-aside : Aside i (keysAt + j * 4) 4
     key-aside = record {
       key = record { before = λ h. omega arith; behind = λ h. let l = other (omega arith) in omega arith };
       time = record { before = λ h. omega arith; behind = λ h. omega arith };
       next = record { before = λ h. omega arith; behind = λ h. omega arith };
     }
 
-    time-aside : Aside i (128 + j * 8) 8
+    time-aside : Aside i (timesAt + j * 8) 8
     time-aside = record {
       key = record { before = λ h. omega arith; behind = λ h. omega arith };
       time = record { before = λ h. omega arith; behind = λ h. let l = other (omega arith) in omega arith };
       next = record { before = λ h. omega arith; behind = λ h. omega arith };
     }
 
-    next-aside : Aside i (384 + j) 1
+    next-aside : Aside i (nextsAt + j) 1
     next-aside = record {
       key = record { before = λ h. omega arith; behind = λ h. omega arith };
       time = record { before = λ h. omega arith; behind = λ h. omega arith };
@@ -106,17 +107,17 @@ module _ (m : List ℕ) (i : ℕ) (long : size ≤ length m) (inMap : i < 32) wh
 
     pub same-key-at : keyAt (withSlot m i s) j ≡ keyAt m j
     unfolding keyAt
-    same-key-at = ap le (aside s (j * 4) 4 key-aside)
+    same-key-at = ap le (aside s (keysAt + j * 4) 4 key-aside)
 
     same-time : timeAt (withSlot m i s) j ≡ timeAt m j
     unfolding timeAt
-    same-time = ap le (aside s (128 + j * 8) 8 time-aside)
+    same-time = ap le (aside s (timesAt + j * 8) 8 time-aside)
 
     same-next : nextAt (withSlot m i s) j ≡ nextAt m j
     unfolding nextAt
     same-next =
         let l = length-withSlot s in
-        sym (le-one (withSlot m i s) (384 + j) (omega arith)) ∙ ap le (aside s (384 + j) 1 next-aside) ∙ le-one m (384 + j) (omega arith)
+        sym (le-one (withSlot m i s) (nextsAt + j) (omega arith)) ∙ ap le (aside s (nextsAt + j) 1 next-aside) ∙ le-one m (nextsAt + j) (omega arith)
 
     pub same-slot : slotAt (withSlot m i s) j ≡ slotAt m j
     unfolding slotAt
@@ -129,9 +130,9 @@ module _ (m : List ℕ) (i : ℕ) (long : size ≤ length m) (inMap : i < 32) wh
     unfolding keyAt withSlot
     own-key w =
         let l = length-leBytes 4 (keyOf k) in
-        ap le (next-clear (keyOf k) since t (i * 4) 4 (record { before = λ h. omega arith; behind = λ h. omega arith })
-        ∙ time-clear (keyOf k) since (i * 4) 4 (record { before = λ h. omega arith; behind = λ h. omega arith })
-        ∙ span-same m (i * 4) (leBytes 4 (keyOf k)) (omega arith) 4 (sym l))
+        ap le (next-clear (keyOf k) since t (keysAt + i * 4) 4 (record { before = λ h. omega arith; behind = λ h. omega arith })
+        ∙ time-clear (keyOf k) since (keysAt + i * 4) 4 (record { before = λ h. omega arith; behind = λ h. omega arith })
+        ∙ span-same m (keysAt + i * 4) (leBytes 4 (keyOf k)) (omega arith) 4 (sym l))
         ∙ le-leBytes 4 (keyOf k) w
 
     own-time : since < 2 ^ 64 → timeAt (withSlot m i (used k t since)) i ≡ since
@@ -139,17 +140,17 @@ module _ (m : List ℕ) (i : ℕ) (long : size ≤ length m) (inMap : i < 32) wh
     own-time w =
         let l = length-leBytes 8 since in
         let l' = length-keyed (keyOf k) in
-        ap le (next-clear (keyOf k) since t (128 + i * 8) 8 (record { before = λ h. omega arith; behind = λ h. omega arith })
-        ∙ span-same (keyed m i (keyOf k)) (128 + i * 8) (leBytes 8 since) (omega arith) 8 (sym l))
+        ap le (next-clear (keyOf k) since t (timesAt + i * 8) 8 (record { before = λ h. omega arith; behind = λ h. omega arith })
+        ∙ span-same (keyed m i (keyOf k)) (timesAt + i * 8) (leBytes 8 since) (omega arith) 8 (sym l))
         ∙ le-leBytes 8 since w
 
     own-next : nextAt (withSlot m i (used k t since)) i ≡ t
     unfolding nextAt withSlot le
     own-next =
         let l = length-timed (keyOf k) since in
-        let m' = splice (timed m i (keyOf k) since) (384 + i) (t ∷ []) in
-        let l' : length m' ≡ length (timed m i (keyOf k) since) = length-splice (timed m i (keyOf k) since) (384 + i) (t ∷ []) (omega arith) in
-        sym (le-one m' (384 + i) (omega arith)) ∙ ap le (span-same (timed m i (keyOf k) since) (384 + i) (t ∷ []) (omega arith) 1 refl) ∙ omega arith
+        let m' = splice (timed m i (keyOf k) since) (nextsAt + i) (t ∷ []) in
+        let l' : length m' ≡ length (timed m i (keyOf k) since) = length-splice (timed m i (keyOf k) since) (nextsAt + i) (t ∷ []) (omega arith) in
+        sym (le-one m' (nextsAt + i) (omega arith)) ∙ ap le (span-same (timed m i (keyOf k) since) (nextsAt + i) (t ∷ []) (omega arith) 1 refl) ∙ omega arith
 
     pub slot-back : Holdable k since → slotAt (withSlot m i (used k t since)) i ≡ used k t since
     unfolding slotAt
@@ -163,20 +164,20 @@ module _ (m : List ℕ) (i : ℕ) (long : size ≤ length m) (inMap : i < 32) wh
     key-kept : (k : ℕ) → k ≡ keyAt m i → keyed m i k ≡ m
     unfolding keyAt
     key-kept k e =
-        let l : length (span m (i * 4) 4) ≡ 4 = length-span m (i * 4) 4 (omega arith) in
-        splice-same m (i * 4) (leBytes 4 k) 4 (length-leBytes 4 k) (ap₂ leBytes (sym l) e ∙ leBytes-le (span m (i * 4) 4) (octets-span m (i * 4) 4 bytes))
+        let l : length (span m (keysAt + i * 4) 4) ≡ 4 = length-span m (keysAt + i * 4) 4 (omega arith) in
+        splice-same m (keysAt + i * 4) (leBytes 4 k) 4 (length-leBytes 4 k) (ap₂ leBytes (sym l) e ∙ leBytes-le (span m (keysAt + i * 4) 4) (octets-span m (keysAt + i * 4) 4 bytes))
 
-    time-kept : splice m (128 + i * 8) (leBytes 8 (timeAt m i)) ≡ m
+    time-kept : splice m (timesAt + i * 8) (leBytes 8 (timeAt m i)) ≡ m
     unfolding timeAt
     time-kept =
-        let x = span m (128 + i * 8) 8 in
-        let l : length x ≡ 8 = length-span m (128 + i * 8) 8 (omega arith) in
-        splice-same m (128 + i * 8) (leBytes 8 (le x)) 8 (length-leBytes 8 (le x))
-        (ap (λ (n : ℕ). leBytes n (le x)) (sym l) ∙ leBytes-le x (octets-span m (128 + i * 8) 8 bytes))
+        let x = span m (timesAt + i * 8) 8 in
+        let l : length x ≡ 8 = length-span m (timesAt + i * 8) 8 (omega arith) in
+        splice-same m (timesAt + i * 8) (leBytes 8 (le x)) 8 (length-leBytes 8 (le x))
+        (ap (λ (n : ℕ). leBytes n (le x)) (sym l) ∙ leBytes-le x (octets-span m (timesAt + i * 8) 8 bytes))
 
-    next-kept : splice m (384 + i) (nextAt m i ∷ []) ≡ m
+    next-kept : splice m (nextsAt + i) (nextAt m i ∷ []) ≡ m
     unfolding nextAt
-    next-kept = splice-same m (384 + i) (getD m (384 + i) 0 ∷ []) 1 refl (sym (ap (take 1) (drop-cons m (384 + i) 0 (omega arith))))
+    next-kept = splice-same m (nextsAt + i) (getD m (nextsAt + i) 0 ∷ []) 1 refl (sym (ap (take 1) (drop-cons m (nextsAt + i) 0 (omega arith))))
 
     pub slot-kept : ((keyAt m i ≡ 0 → ⊥) → keyAt m i % 2 ≡ 1) → withSlot m i (slotAt m i) ≡ m
     unfolding slotAt withSlot
@@ -184,13 +185,13 @@ module _ (m : List ℕ) (i : ℕ) (long : size ≤ length m) (inMap : i < 32) wh
       go : (b : Bool) → eqb (keyAt m i) 0 ≡ b → withSlot m i (pick b free (used (topicOfKey (keyAt m i)) (nextAt m i) (timeAt m i))) ≡ m
       go true e = key-kept 0 (sym (eqb-true (keyAt m i) 0 e))
       go false e =
-          ap (λ (x : List ℕ). splice (splice x (128 + i * 8) (leBytes 8 (timeAt m i))) (384 + i) (nextAt m i ∷ []))
+          ap (λ (x : List ℕ). splice (splice x (timesAt + i * 8) (leBytes 8 (timeAt m i))) (nextsAt + i) (nextAt m i ∷ []))
           (key-kept (keyOf (topicOfKey (keyAt m i))) (key-topic (keyAt m i) (odd (eqb-false (keyAt m i) 0 e))))
-          ∙ ap (λ (x : List ℕ). splice x (384 + i) (nextAt m i ∷ [])) time-kept ∙ next-kept
+          ∙ ap (λ (x : List ℕ). splice x (nextsAt + i) (nextAt m i ∷ [])) time-kept ∙ next-kept
 
     pub octets-withSlot : (k : Topic) (t since : ℕ) → t < 256 → Octets (withSlot m i (used k t since))
     unfolding withSlot
     octets-withSlot k t since h =
-        octets-splice (timed m i (keyOf k) since) (384 + i) (t ∷ [])
-        (octets-splice (keyed m i (keyOf k)) (128 + i * 8) (leBytes 8 since) (octets-splice m (i * 4) (leBytes 4 (keyOf k)) bytes (octets-leBytes 4 (keyOf k))) (octets-leBytes 8 since))
+        octets-splice (timed m i (keyOf k) since) (nextsAt + i) (t ∷ [])
+        (octets-splice (keyed m i (keyOf k)) (timesAt + i * 8) (leBytes 8 since) (octets-splice m (keysAt + i * 4) (leBytes 4 (keyOf k)) bytes (octets-leBytes 4 (keyOf k))) (octets-leBytes 8 since))
         (h, tt)

@@ -9,13 +9,17 @@ use borrow.Author.Tests.{eq-eqb, ne-eqb, eqb-true, eqb-false, le-leb, lt-leb, le
 use lib.Dec.{eqb, ltb}
 use lib.ListN.{length}
 use mir.Val.{boolByte}
-use Rattle.bits.specs.Keys.{count, alone}
-use Rattle.bits.specs.Tabulate.{tabulate}
+use Rattle.rules.specs.Limits.{entriesMax}
+use Rattle.bits.specs.Tabulate.{tabulate, every}
+use Rattle.bits.proofs.Every.{every-at, every-join}
 use Rattle.id_map.specs.Layout.{size, keyAt, nextAt, topicOfKey, slotAt, mapOf}
-use Rattle.id_map.specs.Sound.{soundMap, inRange, keysOf, placeFits}
+use Rattle.id_map.specs.Sound.{soundMap}
+use Rattle.id_map.specs.inside.Sound.{emptyOrFits, keysOf}
 use Rattle.id_map.proofs.Keys.{of-key, slot-used, slot-free}
 use Rattle.id_map.proofs.Seek.{length-mapOf}
 use Rattle.id_map.proofs.Written.{OddFrom}
+use Rattle.keys.specs.inside.Keys.{count, distinct}
+use Rattle.keys.proofs.Distinct.{every-alone}
 use Rattle.rules.specs.Map.{topicFits, times, slotFits, slotsFit, sound}
 use Rattle.rules.specs.Sent.{flag}
 
@@ -133,32 +137,39 @@ module _ (m : List ℕ) where
   times-count k z zero i = refl
   times-count k z (suc n) i = ap₂ _+_ (ap flag (of-key m i k z) ∙ flag-byte (eqb (keyAt m i) k)) (times-count k z n (suc i))
 
-  pub slot-fits : (i : ℕ) → slotFits (mapOf m) (slotAt m i) ≡ placeFits m i false
-  unfolding alone inRange mapOf
+  -- what the rules ask of place i: that it fits, and that it is alone with its key
+  slot-fits : (i : ℕ) → (emptyOrFits m i && (eqb (keyAt m i) 0 || eqb (count (keyAt m i) (keysOf m)) 1)) ≡ slotFits (mapOf m) (slotAt m i)
+  unfolding emptyOrFits mapOf
   slot-fits i = go (eqb (keyAt m i) 0) refl where
-    regroup : (a b c : Bool) → (a && (b && c)) ≡ ((a && b) && c)
+    regroup : (a b c : Bool) → ((a && b) && c) ≡ (a && (b && c))
     regroup true b c = refl
     regroup false b c = refl
 
     go : (b : Bool) → eqb (keyAt m i) 0 ≡ b
-        → slotFits (mapOf m) (slotAt m i) ≡ (b || ((topicFits (topicOfKey (keyAt m i)) && ltb (nextAt m i) 32) && eqb (count (keyAt m i) (keysOf m)) 1))
-    go true e = ap (slotFits (mapOf m)) (slot-free m i (eqb-true (keyAt m i) 0 e))
+        → ((b || (topicFits (topicOfKey (keyAt m i)) && ltb (nextAt m i) 32)) && (b || eqb (count (keyAt m i) (keysOf m)) 1)) ≡ slotFits (mapOf m) (slotAt m i)
+    go true e = sym (ap (slotFits (mapOf m)) (slot-free m i (eqb-true (keyAt m i) 0 e)))
     go false e =
         let z = eqb-false (keyAt m i) 0 e in
-        ap (slotFits (mapOf m)) (slot-used m i z)
-        ∙ ap (λ n. topicFits (topicOfKey (keyAt m i)) && (ltb (nextAt m i) 32 && eqb n 1)) (times-count (keyAt m i) z 32 0)
-        ∙ regroup (topicFits (topicOfKey (keyAt m i))) (ltb (nextAt m i) 32) (eqb (count (keyAt m i) (keysOf m)) 1)
+        regroup (topicFits (topicOfKey (keyAt m i))) (ltb (nextAt m i) 32) (eqb (count (keyAt m i) (keysOf m)) 1)
+        ∙ ap (λ n. topicFits (topicOfKey (keyAt m i)) && (ltb (nextAt m i) 32 && eqb n 1)) (sym (times-count (keyAt m i) z entriesMax 0))
+        ∙ sym (ap (slotFits (mapOf m)) (slot-used m i z))
 
   -- ── all places ──
 
-  pub fit-all : (n i : ℕ) → ((l : ℕ) → i ≤ l → l < i + n → slotFits (mapOf m) (slotAt m l) ≡ true) → slotsFit (mapOf m) (tabulate (slotAt m) i n) ≡ true
-  unfolding tabulate
-  fit-all zero i h = refl
-  fit-all (suc n) i h = and-intro (h i (omega arith) (omega arith)) (fit-all n (suc i) (λ l a b. h l (omega arith) (omega arith)))
+  every-fits : (n i : ℕ) → every (λ l. slotFits (mapOf m) (slotAt m l)) i n ≡ slotsFit (mapOf m) (tabulate (slotAt m) i n)
+  unfolding every tabulate
+  every-fits zero i = refl
+  every-fits (suc n) i = ap (λ b. slotFits (mapOf m) (slotAt m i) && b) (every-fits n (suc i))
 
-  pub sound-is : size ≤ length m → soundMap m ≡ slotsFit (mapOf m) (tabulate (slotAt m) 0 32)
+  sound-is : size ≤ length m → soundMap m ≡ slotsFit (mapOf m) (tabulate (slotAt m) 0 entriesMax)
   unfolding soundMap sound mapOf
-  sound-is h = rw (le-leb size (length m) h, eq-eqb (length (mapOf m)) 32 (length-mapOf m))
+  sound-is h = rw (le-leb size (length m) h, eq-eqb (length (mapOf m)) entriesMax (length-mapOf m))
+
+  pub whole : size ≤ length m → (every (emptyOrFits m) 0 entriesMax && distinct (keysOf m)) ≡ soundMap m
+  whole h =
+      ap (λ b. every (emptyOrFits m) 0 entriesMax && b) (sym (every-alone (keyAt m) entriesMax))
+      ∙ every-join (emptyOrFits m) (λ i. eqb (keyAt m i) 0 || eqb (count (keyAt m i) (keysOf m)) 1) (λ i. slotFits (mapOf m) (slotAt m i)) entriesMax 0 (λ l a b. slot-fits l)
+      ∙ every-fits entriesMax 0 ∙ sym (sound-is h)
 
   pub sound-short : length m < size → soundMap m ≡ false
   unfolding soundMap
@@ -175,19 +186,9 @@ module _ (m : List ℕ) (fine : soundMap m ≡ true) where
   unfolding mapOf
   all-fit = sym (sound-is m long-enough) ∙ fine
 
-  fit-at : (n i : ℕ) → slotsFit (mapOf m) (tabulate (slotAt m) i n) ≡ true → (l : ℕ) → i ≤ l → l < i + n → slotFits (mapOf m) (slotAt m l) ≡ true
-  unfolding tabulate
-  fit-at zero i e l h k = absurd (omega arith)
-  fit-at (suc n) i e l h k = go (λ p. fit-at n (suc i) (and-elim-right (slotFits (mapOf m) (slotAt m i)) _ e) l p (omega arith)) (ltb i l) refl where
-    go : (suc i ≤ l → slotFits (mapOf m) (slotAt m l) ≡ true) → (b : Bool) → ltb i l ≡ b → slotFits (mapOf m) (slotAt m l) ≡ true
-    go later true p = later (ltb-true i l p)
-    go later false p =
-        let q : i ≡ l = omega (arith, ltb-false i l p) in
-        ap (λ j. slotFits (mapOf m) (slotAt m j)) (sym q) ∙ and-elim-left _ _ e
-
-  pub slot-fit : (l : ℕ) → l < 32 → slotFits (mapOf m) (slotAt m l) ≡ true
+  pub slot-fit : (l : ℕ) → l < entriesMax → slotFits (mapOf m) (slotAt m l) ≡ true
   unfolding mapOf
-  slot-fit l h = fit-at 32 0 all-fit l (omega arith) (omega arith)
+  slot-fit l h = every-at (λ i. slotFits (mapOf m) (slotAt m i)) entriesMax 0 (every-fits m entriesMax 0 ∙ all-fit) l (omega arith) (omega arith)
 
   pub keys-odd : OddFrom m 0
   keys-odd l a h z = fits-odd (keyAt m l) (and-elim-left _ _ (ap (slotFits (mapOf m)) (sym (slot-used m l z)) ∙ slot-fit l h))

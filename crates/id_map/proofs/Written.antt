@@ -4,6 +4,7 @@ use mathlib.Core.List.{List, _∷_}
 use Prim.Native.Nat.{ℕ, zero, suc, _+_, _%_, _≤_, _<_}
 use native.Mathlib.Omega.{arith}
 use lib.ListN.{length, set}
+use Rattle.rules.specs.Limits.{entriesMax}
 use Rattle.bits.specs.Order.{Octets}
 use Rattle.bits.specs.Tabulate.{tabulate}
 use Rattle.bits.proofs.Tabulate.{tab-same}
@@ -13,10 +14,10 @@ use Rattle.rules.specs.Map.{Topic, Slot, used, Map}
 
 -- every key from j on that is not 0 is odd
 abbrev pub OddFrom : List ℕ → ℕ → Type 0
-OddFrom m j = (l : ℕ) → j ≤ l → l < 32 → (keyAt m l ≡ 0 → ⊥) → keyAt m l % 2 ≡ 1
+OddFrom m j = (l : ℕ) → j ≤ l → l < entriesMax → (keyAt m l ≡ 0 → ⊥) → keyAt m l % 2 ≡ 1
 
 -- writing the map that is there
-pub written-kept : (m : List ℕ) → size ≤ length m → Octets m → (n j : ℕ) → j + n ≤ 32 → OddFrom m j → written m j (tabulate (slotAt m) j n) ≡ m
+pub written-kept : (m : List ℕ) → size ≤ length m → Octets m → (n j : ℕ) → j + n ≤ entriesMax → OddFrom m j → written m j (tabulate (slotAt m) j n) ≡ m
 unfolding written tabulate
 written-kept m long o zero j h r = refl
 written-kept m long o (suc n) j h r =
@@ -24,7 +25,7 @@ written-kept m long o (suc n) j h r =
     ∙ written-kept m long o n (suc j) (omega arith) (λ l a b. r l (omega arith) b)
 
 -- writing the map with one place changed
-pub written-set : (m : List ℕ) → size ≤ length m → Octets m → (s : Slot) → (x n j : ℕ) → x < n → j + n ≤ 32 → Octets (withSlot m (j + x) s) → OddFrom m j
+pub written-set : (m : List ℕ) → size ≤ length m → Octets m → (s : Slot) → (x n j : ℕ) → x < n → j + n ≤ entriesMax → Octets (withSlot m (j + x) s) → OddFrom m j
     → written m j (set (tabulate (slotAt m) j n) x s) ≡ withSlot m (j + x) s
 unfolding written tabulate
 written-set m long o s x zero j h k b r = absurd (omega arith)
@@ -44,8 +45,8 @@ written-set m long o s (suc x) (suc n) j h k b r =
     ∙ ap (λ (y : ℕ). withSlot m y s) z
 
 -- the view of the bytes with one place written
-view-from : (m : List ℕ) → size ≤ length m → (k : Topic) (t since : ℕ) → Holdable k since → (i : ℕ) → i < 32
-    → (x n j : ℕ) → j + x ≡ i → x < n → j + n ≤ 32
+view-from : (m : List ℕ) → size ≤ length m → (k : Topic) (t since : ℕ) → Holdable k since → (i : ℕ) → i < entriesMax
+    → (x n j : ℕ) → j + x ≡ i → x < n → j + n ≤ entriesMax
     → tabulate (slotAt (withSlot m i (used k t since))) j n ≡ set (tabulate (slotAt m) j n) x (used k t since)
 unfolding tabulate
 view-from m long k t since w i hi x zero j e h b = absurd (omega arith)
@@ -59,7 +60,7 @@ view-from m long k t since w i hi (suc x) (suc n) j e h b =
     (same-slot m i long hi (used k t since) j (omega arith) (λ z. omega arith))
     (view-from m long k t since w i hi x n (suc j) (omega arith) (omega arith) (omega arith))
 
-pub view-set : (m : List ℕ) → size ≤ length m → (k : Topic) (t since : ℕ) → Holdable k since → (i : ℕ) → i < 32
+pub view-set : (m : List ℕ) → size ≤ length m → (k : Topic) (t since : ℕ) → Holdable k since → (i : ℕ) → i < entriesMax
     → mapOf (withSlot m i (used k t since)) ≡ set (mapOf m) i (used k t since)
 unfolding mapOf
-view-set m long k t since w i h = view-from m long k t since w i h i 32 0 (omega arith) h (omega arith)
+view-set m long k t since w i h = view-from m long k t since w i h i entriesMax 0 (omega arith) h (omega arith)

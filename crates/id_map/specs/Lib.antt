@@ -1,5 +1,5 @@
 pub mod Layout
 pub mod Setup
 pub mod Sound
-pub mod Find
 pub mod Laws
+pub mod inside

@@ -2,10 +2,11 @@
 pub mod entry;
 pub mod find;
 pub mod laws;
+pub mod layout;
 pub mod sound;
 
 ghost use mathlib.Core.Path.{_≡_};
-ghost use Rattle.id_map.specs.Layout as layout;
+ghost use Rattle.id_map.specs.Layout as specs;
 ghost use Rattle.id_map.specs.Setup.{result, afterSetup};
 
 // What setting a map up answers.
@@ -16,19 +17,19 @@ pub enum Outcome {
 
 // The bytes that a map takes.
 pub fn size() -> usize
-    ensures { λ r. ⌜ r ≡ layout.size ⌝ }
+    ensures { λ r. ⌜ r ≡ specs.size ⌝ }
 {
-    416
+    layout::SIZE
 }
 
 // Makes the lent bytes a map without an entry.
 pub fn setup(map: &mut [u8]) -> Outcome
     ensures { λ r. ⌜ result r (now (map .exit)) ≡ afterSetup (now (map .entry)) ⌝ }
 {
-    if map.len() < 416 {
+    if map.len() < layout::SIZE {
         return Outcome::Short;
     }
-    let zeros = [0u8; 416];
+    let zeros = [0u8; layout::SIZE];
     bits::part::copy_at(map, 0, &zeros);
     Outcome::Done
 }

@@ -1,9 +1,19 @@
-// The faults of a lent map that answer 20. Every send runs this first, so it stops behind the last entry and seldom counts a key.
+// The faults of a lent map that answer 20. Every send runs this first.
+use super::layout::KEYS_AT;
+use super::layout::NEXTS_AT;
+use super::layout::SIZE;
+use keys::MARKS;
+use rules::limits::MAP_ENTRIES;
+ghost use mathlib.Core.Bool.{_&&_};
 ghost use mathlib.Core.Path.{_≡_};
 ghost use Prim.Native.Nat.{_≤_, _<_};
 ghost use lib.ListN.{length};
-ghost use Rattle.id_map.specs.Layout.{size, topicOfKey};
-ghost use Rattle.id_map.specs.Sound.{soundMap, placeFits, keysOf, markAt};
+ghost use Rattle.bits.specs.Tabulate.{every};
+ghost use Rattle.id_map.specs.Layout.{size, keyAt, topicOfKey};
+ghost use Rattle.id_map.specs.Sound.{soundMap};
+ghost use Rattle.id_map.specs.inside.Sound.{emptyOrFits, keysOf};
+ghost use Rattle.keys.specs.inside.Keys.{distinct};
+ghost use Rattle.rules.specs.Limits.{entriesMax};
 ghost use Rattle.rules.specs.Map.{topicFits};
 
 // A message's key has destination 0, a request's a type below 256 and a named destination.
@@ -22,48 +32,38 @@ fn key_fits(k: u32) -> bool
     false
 }
 
-// Where a key sets its mark: like keys the same one, unlike keys mostly different ones.
-fn mark_at(k: u32) -> usize
-    ensures { λ r. ⌜ r ≡ markAt k ⌝ }
+// Place i, whose key is k, is empty, or its topic and its next transfer ID are in range.
+fn place_fits(map: &[u8], i: usize, k: u32) -> bool
+    requires { ⌜ ((i < entriesMax) × (size ≤ length (now map))) × (k ≡ keyAt (now map) i) ⌝ }
+    ensures { λ r. ⌜ r ≡ emptyOrFits (now (map .entry)) i ⌝ }
 {
-    ((k / 2 + k / 256) % 64) as usize
-}
-
-// `first`: no earlier place has the key.
-fn place_fits(map: &[u8], i: usize, keys: &[u32; 32], first: bool) -> bool
-    requires { ⌜ ((i < 32) × (size ≤ length (now map))) × (now keys ≡ keysOf (now map)) ⌝ }
-    ensures { λ r. ⌜ r ≡ placeFits (now (map .entry)) i first ⌝ }
-{
-    let k = keys[i];
     if k == 0 {
         return true;
     }
     if key_fits(k) {
-        if map[384 + i] < 32 {
-            if first {
-                return true;
-            }
-            return bits::keys::count(keys, k) == 1;
-        }
+        return map[NEXTS_AT + i] < 32;
     }
     false
 }
 
-// Place by place, up to the last entry. A key whose mark is not set stands at no earlier place; where it is set, the key is counted.
-fn places_fit(map: &[u8], keys: &[u32; 32]) -> bool
-    requires { ⌜ (size ≤ length (now map)) × (now keys ≡ keysOf (now map)) ⌝ }
-    ensures { λ r. ⌜ r ≡ soundMap (now (map .entry)) ⌝ }
+// Place by place, up to the last entry: each fits, and no key stands twice. One walk for both, since it runs at every call.
+fn places_sound(map: &[u8], table: &[u32]) -> bool
+    requires { ⌜ (size ≤ length (now map)) × (now table ≡ keysOf (now map)) ⌝ }
+    ensures { λ r. ⌜ r ≡ (every (emptyOrFits (now (map .entry))) 0 entriesMax && distinct (now (table .entry))) ⌝ }
 {
-    let mut marks = [0u8; 64];
-    let mut left = 32 - bits::keys::count(keys, 0);
-    let mut i: usize = 0;
+    let mut marks = [0u8; MARKS];
+    let mut left = table.len() as u32 - keys::count(table, 0);
+    let mut i = 0;
     while 0 < left {
-        let k = keys[i];
-        let at = mark_at(k);
-        if place_fits(map, i, keys, marks[at] == 0) {
-            marks[at] = 1;
-            left -= (k != 0) as u32;
-            i += 1;
+        let k = table[i];
+        let first = keys::mark(&mut marks, k);
+        if place_fits(map, i, k) {
+            if keys::is_alone(table, k, first) {
+                left -= (k != 0) as u32;
+                i += 1;
+            } else {
+                return false;
+            }
         } else {
             return false;
         }
@@ -75,9 +75,10 @@ fn places_fit(map: &[u8], keys: &[u32; 32]) -> bool
 pub fn is_sound(map: &[u8]) -> bool
     ensures { λ r. ⌜ r ≡ soundMap (now (map .entry)) ⌝ }
 {
-    if map.len() < 416 {
+    if map.len() < SIZE {
         return false;
     }
-    let keys = bits::keys::get(map, 0);
-    places_fit(map, &keys)
+    let mut table = [0u32; MAP_ENTRIES];
+    keys::load(&mut table, map, KEYS_AT);
+    places_sound(map, &table)
 }

@@ -19,8 +19,8 @@ use Rattle.rules.specs.Table.{Places, orElse}
 use Rattle.rules.specs.Tests.{pick}
 use Rattle.session.specs.Session.{parsedOf}
 use Rattle.session.specs.declared.Incoming.{Incoming}
-use Rattle.state.specs.Subscription.{asked}
-use Rattle.state.specs.declared.subscription.Subscribed.the-variants.{Under, Not}
+use Rattle.subscriptions.specs.inside.Subscription.{asked}
+use Rattle.subscriptions.specs.declared.Subscribed.the-variants.{Under, Not}
 
 -- ── numbers of checks ──
 

@@ -14,8 +14,9 @@ use Rattle.rules.specs.Table.{Place, empty, held, plus1, seek, holds, isFree, i
 use Rattle.rules.specs.Tests.{pick}
 use Rattle.bits.specs.Tabulate.{tabulate}
 use Rattle.state.specs.Layout.{size, keyAt, timeAt, sessionAt, placeAt, placesOf, streamOfKey}
-use Rattle.state.specs.Scan.{fitsAt, lowest}
-use Rattle.state.specs.declared.scan.Want.the-variants.{Key, Old}
+use Rattle.keys.specs.inside.Keys.{lowest}
+use Rattle.sessions.specs.inside.Scan.{fitsAt}
+use Rattle.sessions.specs.declared.scan.Want.the-variants.{Key, Old}
 use Rattle.state.proofs.Soundness.{holds-key}
 
 -- the lowest number that a scan found, if it found one

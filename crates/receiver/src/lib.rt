@@ -4,7 +4,7 @@ mod place;
 use answers::Answer;
 use rules::limits::PAYLOAD;
 use session::Incoming;
-use state::subscription::Subscribed;
+use subscriptions::Subscribed;
 ghost use mathlib.Core.Path.{_≡_};
 ghost use mathlib.Core.Bool.{true};
 ghost use Rattle.receiver.specs.Receive.{result, frameOf, arriving, lent, received, Accepted};
@@ -41,7 +41,7 @@ fn arrive(state: &mut [u8], id: u32, frame: &[u8], time: u64, out: &mut [u8]) ->
     if 0 < refused {
         return Answer::Refused(refused);
     }
-    match state::subscription::find(state, frame::check::kind(h), h.type_id as u32) {
+    match subscriptions::find(state, frame::check::kind(h), h.type_id as u32) {
         Subscribed::Not => Answer::Refused(7),
         Subscribed::Under(signature) => {
             if out.len() < PAYLOAD {
@@ -65,7 +65,7 @@ fn arrive(state: &mut [u8], id: u32, frame: &[u8], time: u64, out: &mut [u8]) ->
 pub fn receive(state: &mut [u8], id: u32, frame: &[u8], time: u64, out: &mut [u8]) -> Answer
     ensures { λ r. ⌜ result r (now (state .exit)) (now (out .exit)) ≡ received (now (state .entry)) (frameOf id (now (frame .entry)) time) (now (out .entry)) ⌝ }
 {
-    if state::sound::is_sound(state) {
+    if sessions::sound::is_sound(state) {
         return arrive(state, id, frame, time, out);
     }
     Answer::Faulty

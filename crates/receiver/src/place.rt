@@ -3,7 +3,7 @@ use answers::Answer;
 use session::Incoming;
 use session::Progress;
 use session::Session;
-use state::scan::Want;
+use sessions::scan::Want;
 ghost use mathlib.Core.Path.{_≡_};
 ghost use mathlib.Core.Bool.{true};
 ghost use Prim.Native.Nat.{_≤_, _<_};
@@ -41,8 +41,8 @@ fn session_for(state: &[u8], i: usize, way: Way, f: Incoming) -> Session
 {
     match way {
         Way::New => Session::fresh(f.head.transfer, f.time),
-        Way::Again => state::place::load(state, i).restart(f.head.transfer),
-        Way::On => state::place::load(state, i),
+        Way::Again => sessions::place::load(state, i).restart(f.head.transfer),
+        Way::On => sessions::place::load(state, i),
     }
 }
 
@@ -70,7 +70,7 @@ fn enter(
             time: q.time,
             len: q.len,
         };
-        state::place::store(state, i, k, c, &q.bytes);
+        sessions::place::store(state, i, k, c, &q.bytes);
         return answer;
     }
     let c = Progress {
@@ -79,7 +79,7 @@ fn enter(
         time: g.time,
         len: g.len,
     };
-    state::place::store(state, i, k, c, &g.bytes);
+    sessions::place::store(state, i, k, c, &g.bytes);
     Answer::Taken
 }
 
@@ -88,14 +88,14 @@ fn reset(state: &mut [u8], i: usize, k: u32, expected: u8)
     requires { ⌜ ((i < 32) × (size ≤ length (now state))) × ((countAt (now state) i ≤ 514) × (expected < 32)) ⌝ }
     ensures { λ _. ⌜ now (state .exit) ≡ withPlace (now (state .entry)) i (held (streamOfKey k) (restarted (sessionAt (now (state .entry)) i) expected)) ⌝ }
 {
-    let q = state::place::load(state, i).restart(expected);
+    let q = sessions::place::load(state, i).restart(expected);
     let c = Progress {
         expected: q.expected,
         toggle: q.toggle,
         time: q.time,
         len: q.len,
     };
-    state::place::store(state, i, k, c, &q.bytes);
+    sessions::place::store(state, i, k, c, &q.bytes);
 }
 
 // The stream's session is in place i.
@@ -104,7 +104,7 @@ fn known(state: &mut [u8], i: usize, k: u32, f: Incoming, p: &[u8], out: &mut [u
     requires { ⌜ (i < 32) × ((k ≡ keyOf (streamOf f)) × (keyAt (now state) i ≡ k)) ⌝ }
     ensures { λ r. ⌜ result r (now (state .exit)) (now (out .exit)) ≡ lent (now (state .entry)) (now (out .entry)) (store (placesOf (now (state .entry))) i (streamOf f) (react (sessionAt (now (state .entry)) i) (parsedOf f (now (p .entry))))) ⌝ }
 {
-    let c = state::place::progress(state, i);
+    let c = sessions::place::progress(state, i);
     if session::restarts(c, f) {
         if f.head.start {
             return enter(state, i, k, Way::Again, f, p, out);
@@ -128,11 +128,11 @@ fn unknown(state: &mut [u8], k: u32, f: Incoming, p: &[u8], out: &mut [u8]) -> A
     requires { ⌜ (k ≡ keyOf (streamOf f)) × (f .head .start ≡ true) ⌝ }
     ensures { λ r. ⌜ result r (now (state .exit)) (now (out .exit)) ≡ lent (now (state .entry)) (now (out .entry)) (stepNew (placeFor (f .time) (placesOf (now (state .entry)))) (placesOf (now (state .entry))) (parsedOf f (now (p .entry)))) ⌝ }
 {
-    let free = state::scan::scan(state, Want::Key(0));
+    let free = sessions::scan::scan(state, Want::Key(0));
     if free < 32 {
         return enter(state, free, k, Way::New, f, p, out);
     }
-    let old = state::scan::scan(state, Want::Old(f.time));
+    let old = sessions::scan::scan(state, Want::Old(f.time));
     if old < 32 {
         return enter(state, old, k, Way::New, f, p, out);
     }
@@ -145,7 +145,7 @@ pub fn arrive(state: &mut [u8], f: Incoming, p: &[u8], out: &mut [u8]) -> Answer
     ensures { λ r. ⌜ result r (now (state .exit)) (now (out .exit)) ≡ lent (now (state .entry)) (now (out .entry)) (stepSeek (seek (holds (streamOf f)) (placesOf (now (state .entry)))) (placesOf (now (state .entry))) (parsedOf f (now (p .entry)))) ⌝ }
 {
     let k = key(f);
-    let i = state::scan::scan(state, Want::Key(k));
+    let i = sessions::scan::scan(state, Want::Key(k));
     if i < 32 {
         return known(state, i, k, f, p, out);
     }

@@ -13,7 +13,7 @@ use Rattle.answers.specs.Sending.{told}
 use Rattle.bits.specs.Order.{Octets}
 use Rattle.bits.specs.Part.{splice}
 use Rattle.bits.proofs.Tabulate.{tab-at}
-use Rattle.id_map.specs.Find.{placeOr32}
+use Rattle.id_map.specs.inside.Find.{placeOr32}
 use Rattle.id_map.specs.Layout.{mapOf, slotAt, written, withSlot}
 use Rattle.id_map.specs.Sound.{soundMap}
 use Rattle.id_map.proofs.Places.{octets-withSlot}

@@ -6,6 +6,7 @@ use Prim.Native.Nat.{ℕ, _/_, _%_, _≤_, _<_}
 use borrow.Author.Tests.{lt-ltb, le-ltb}
 use lib.Dec.{ltb, leb, eqb}
 use lib.ListN.{length, drop}
+use Rattle.rules.specs.Limits.{subscriptionsMax, subscriptionRecord}
 use Rattle.rules.specs.Setup.{allFit, acceptable}
 use Rattle.setup.specs.Setup.{recordAt, given, accepted, stateOf, result, afterSetup}
 use Rattle.setup.specs.declared.Outcome.the-variants.{Done, Unacceptable, Short}
@@ -13,10 +14,10 @@ use Rattle.bits.proofs.Tabulate.{length-tabulate}
 use Rattle.bits.specs.Tabulate.{tabulate}
 use Rattle.state.specs.Layout.{size}
 
-pub tests : (own : ℕ) (r : List ℕ) (a b c d : Bool) → eqb (length r % 13) 0 ≡ a → ltb own 128 ≡ b → leb (length r / 13) 64 ≡ c
-    → allFit (tabulate (recordAt r) 0 (length r / 13)) ≡ d → accepted own r ≡ (a && (b && (c && d)))
+pub tests : (own : ℕ) (r : List ℕ) (a b c d : Bool) → eqb (length r % subscriptionRecord) 0 ≡ a → ltb own 128 ≡ b → leb (length r / subscriptionRecord) subscriptionsMax ≡ c
+    → allFit (tabulate (recordAt r) 0 (length r / subscriptionRecord)) ≡ d → accepted own r ≡ (a && (b && (c && d)))
 unfolding accepted acceptable given
-tests own r a b c d ea eb ec ed = rw (length-tabulate (recordAt r) 0 (length r / 13), ea, eb, ec, ed)
+tests own r a b c d ea eb ec ed = rw (length-tabulate (recordAt r) 0 (length r / subscriptionRecord), ea, eb, ec, ed)
 
 module _ (m : List ℕ) (own : ℕ) (r : List ℕ) where
   pub short : length m < size → result Short m ≡ afterSetup m own r

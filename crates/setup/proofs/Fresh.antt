@@ -8,6 +8,7 @@ use native.Mathlib.Omega.{arith}
 use borrow.Author.Tests.{eqb-true, ltb-true, leb-true, le-leb}
 use lib.Dec.{ltb, leb, eqb}
 use lib.ListN.{length, getD, replicate, length-append, length-replicate}
+use Rattle.rules.specs.Limits.{sessionsMax, subscriptionsMax, subscriptionRecord}
 use Rattle.bits.proofs.Little.{le-leBytes, le-lt, length-leBytes}
 use Rattle.bits.proofs.Octets.{octets-span}
 use Rattle.bits.proofs.Splice.{length-span, span-middle}
@@ -18,24 +19,18 @@ use Rattle.rules.specs.Setup.{Subscription, Setup, typeFits, unlike, allFit, ac
 use Rattle.rules.specs.Sound.{sound}
 use Rattle.rules.specs.Table.{empty, begun}
 use Rattle.rules.specs.Tests.{pick}
-use Rattle.setup.proofs.Laid.{zeros, laid, head, toKeys, toPlaces, at-signatures, at-keys, at-places, length-toKeys, length-signatures, length-keys, signatures-append, keys-append, laidOut, laid-last, given-laid, places-at, length-laid}
+use Rattle.subscriptions.proofs.Fit.{in-range}
+use Rattle.setup.proofs.Laid.{signaturesSize, timesSize, keysSize, placesSize, zeros, laid, head, toKeys, toPlaces, at-signatures, at-keys, at-places, length-toKeys, length-signatures, length-keys, signatures-append, keys-append, laidOut, laid-last, given-laid, places-at, length-laid}
 use Rattle.setup.specs.Laws.{Fresh}
 use Rattle.setup.specs.Setup.{recordAt, given, accepted, signatures, keys, filled, stateOf}
 use Rattle.state.proofs.Bools.{and-left, and-right}
 use Rattle.bits.proofs.Tabulate.{tab-append, length-tabulate, tab-same}
-use Rattle.state.proofs.Every.{every-true}
-use Rattle.bits.specs.Tabulate.{tabulate}
-use Rattle.state.specs.Layout.{size, subscriptionKeyAt, subscriptionAt, setupOf, keyAt, placeAt, placesOf}
-use Rattle.state.specs.Sound.{every, rawFits, soundState}
+use Rattle.bits.proofs.Every.{every-true}
+use Rattle.bits.specs.Tabulate.{tabulate, every}
+use Rattle.state.specs.Layout.{size, subscriptionKeyAt, subscriptionAt, setupOf, keyAt, placeAt, placesOf, signaturesAt, subscriptionKeysAt, streamKeysAt}
+use Rattle.state.specs.Sound.{rawFits, soundState}
 
 -- ── what is accepted ──
-
-in-range : (kind type : ℕ) → typeFits kind type ≡ true → (kind < 2) × (type < 65536)
-in-range kind type e = go (eqb kind 0) refl (eqb kind 1) refl e where
-  go : (a : Bool) → eqb kind 0 ≡ a → (b : Bool) → eqb kind 1 ≡ b → pick a (ltb type 65536) (pick b (ltb type 256) false) ≡ true → (kind < 2) × (type < 65536)
-  go true p b q e = (omega (arith, eqb-true kind 0 p), ltb-true type 65536 e)
-  go false p true q e = (omega (arith, eqb-true kind 1 q), omega (arith, ltb-true type 256 e))
-  go false p false q e = absurd (let z : _≡_ {A = ℕ} 0 1 = cc in omega arith)
 
 fit-at : (xs : List Subscription) (a : Subscription) (ys : List Subscription) → allFit (xs ++ (a ∷ ys)) ≡ true → typeFits (a .kind) (a .type) ≡ true
 fit-at [] a ys e = and-left (typeFits (a .kind) (a .type)) (unlike a ys && allFit ys) e
@@ -43,15 +38,15 @@ fit-at (x ∷ xs) a ys e =
     fit-at xs a ys (and-right (unlike x (xs ++ (a ∷ ys))) (allFit (xs ++ (a ∷ ys))) (and-right (typeFits (x .kind) (x .type)) (unlike x (xs ++ (a ∷ ys)) && allFit (xs ++ (a ∷ ys))) e))
 
 module _ (u : Setup) (ok : acceptable u ≡ true) where
-  behind-own : (leb (length (u .subscriptions)) 64 && allFit (u .subscriptions)) ≡ true
+  behind-own : (leb (length (u .subscriptions)) subscriptionsMax && allFit (u .subscriptions)) ≡ true
   unfolding acceptable
-  behind-own = and-right (ltb (u .own) 128) (leb (length (u .subscriptions)) 64 && allFit (u .subscriptions)) ok
+  behind-own = and-right (ltb (u .own) 128) (leb (length (u .subscriptions)) subscriptionsMax && allFit (u .subscriptions)) ok
 
-  few : length (u .subscriptions) ≤ 64
-  few = leb-true (length (u .subscriptions)) 64 (and-left (leb (length (u .subscriptions)) 64) (allFit (u .subscriptions)) behind-own)
+  few : length (u .subscriptions) ≤ subscriptionsMax
+  few = leb-true (length (u .subscriptions)) subscriptionsMax (and-left (leb (length (u .subscriptions)) subscriptionsMax) (allFit (u .subscriptions)) behind-own)
 
   fitting : allFit (u .subscriptions) ≡ true
-  fitting = and-right (leb (length (u .subscriptions)) 64) (allFit (u .subscriptions)) behind-own
+  fitting = and-right (leb (length (u .subscriptions)) subscriptionsMax) (allFit (u .subscriptions)) behind-own
 
   pub state-long : length (stateOf u) ≡ size
   state-long =
@@ -66,36 +61,36 @@ in-filled pre a b c post n at w e h =
     let cut : pre ++ (filled n (a ++ (b ++ c)) ++ post) ≡ (pre ++ a) ++ (b ++ (c ++ (zs ++ post))) = simp append-assoc in
     ap (λ (x : List ℕ). span x at w) cut ∙ span-middle (pre ++ a) b (c ++ (zs ++ post)) at (length-append pre a ∙ e) w h
 
-module _ (own n : ℕ) (f : ℕ → Subscription) (past : List ℕ) (atMost : n ≤ 64) (j : ℕ) (inside : j < n) where
+module _ (own n : ℕ) (f : ℕ → Subscription) (past : List ℕ) (atMost : n ≤ subscriptionsMax) (j : ℕ) (inside : j < n) where
   around : tabulate f 0 n ≡ tabulate f 0 j ++ (f j ∷ tabulate f (suc j) (n - suc j))
   unfolding tabulate
   around =
       let e : n ≡ j + suc (n - suc j) = omega arith in
       ap (tabulate f 0) e ∙ tab-append f 0 j (suc (n - suc j)) ∙ ap (λ (k : ℕ). tabulate f 0 j ++ tabulate f k (suc (n - suc j))) (zero-add j)
 
-  signature-span : span (laidOut own n (tabulate f 0 n) past) (8 + j * 8) 8 ≡ leBytes 8 (f j .signature)
+  signature-span : span (laidOut own n (tabulate f 0 n) past) (signaturesAt + j * 8) 8 ≡ leBytes 8 (f j .signature)
   unfolding signatures
   signature-span =
       let xs = tabulate f 0 n in
       let ys = tabulate f 0 j in
       let l : length (signatures ys) ≡ j * 8 = length-signatures ys ∙ ap (λ (k : ℕ). k * 8) (length-tabulate f 0 j) in
-      let post : List ℕ = replicate 256 0 ++ (filled 256 (keys xs) ++ (replicate 16704 0 ++ past)) in
-      ap (λ (x : List ℕ). span x (8 + j * 8) 8) (at-signatures own n (signatures xs) (keys xs) past)
-      ∙ ap (λ (x : List ℕ). span (head own n ++ (filled 512 x ++ post)) (8 + j * 8) 8) (ap signatures around ∙ signatures-append ys (f j ∷ tabulate f (suc j) (n - suc j)))
-      ∙ in-filled (head own n) (signatures ys) (leBytes 8 (f j .signature)) (signatures (tabulate f (suc j) (n - suc j))) post 512 (8 + j * 8) 8 (omega arith) (length-leBytes 8 (f j .signature))
+      let post : List ℕ = replicate timesSize 0 ++ (filled keysSize (keys xs) ++ (replicate placesSize 0 ++ past)) in
+      ap (λ (x : List ℕ). span x (signaturesAt + j * 8) 8) (at-signatures own n (signatures xs) (keys xs) past)
+      ∙ ap (λ (x : List ℕ). span (head own n ++ (filled signaturesSize x ++ post)) (signaturesAt + j * 8) 8) (ap signatures around ∙ signatures-append ys (f j ∷ tabulate f (suc j) (n - suc j)))
+      ∙ in-filled (head own n) (signatures ys) (leBytes 8 (f j .signature)) (signatures (tabulate f (suc j) (n - suc j))) post signaturesSize (signaturesAt + j * 8) 8 (omega arith) (length-leBytes 8 (f j .signature))
 
-  key-span : span (laidOut own n (tabulate f 0 n) past) (776 + j * 4) 4 ≡ leBytes 4 (f j .kind * 65536 + f j .type)
+  key-span : span (laidOut own n (tabulate f 0 n) past) (subscriptionKeysAt + j * 4) 4 ≡ leBytes 4 (f j .kind * 65536 + f j .type)
   unfolding keys
   key-span =
       let xs = tabulate f 0 n in
       let ys = tabulate f 0 j in
       let k = f j .kind * 65536 + f j .type in
       let l : length (keys ys) ≡ j * 4 = length-keys ys ∙ ap (λ (k : ℕ). k * 4) (length-tabulate f 0 j) in
-      let few : length (signatures xs) ≤ 512 = omega (arith, length-signatures xs, length-tabulate f 0 n) in
-      let post : List ℕ = replicate 16704 0 ++ past in
-      ap (λ (x : List ℕ). span x (776 + j * 4) 4) (at-keys own n (signatures xs) (keys xs) past)
-      ∙ ap (λ (x : List ℕ). span (toKeys own n (signatures xs) ++ (filled 256 x ++ post)) (776 + j * 4) 4) (ap keys around ∙ keys-append ys (f j ∷ tabulate f (suc j) (n - suc j)))
-      ∙ in-filled (toKeys own n (signatures xs)) (keys ys) (leBytes 4 k) (keys (tabulate f (suc j) (n - suc j))) post 256 (776 + j * 4) 4
+      let few : length (signatures xs) ≤ signaturesSize = omega (arith, length-signatures xs, length-tabulate f 0 n) in
+      let post : List ℕ = replicate placesSize 0 ++ past in
+      ap (λ (x : List ℕ). span x (subscriptionKeysAt + j * 4) 4) (at-keys own n (signatures xs) (keys xs) past)
+      ∙ ap (λ (x : List ℕ). span (toKeys own n (signatures xs) ++ (filled keysSize x ++ post)) (subscriptionKeysAt + j * 4) 4) (ap keys around ∙ keys-append ys (f j ∷ tabulate f (suc j) (n - suc j)))
+      ∙ in-filled (toKeys own n (signatures xs)) (keys ys) (leBytes 4 k) (keys (tabulate f (suc j) (n - suc j))) post keysSize (subscriptionKeysAt + j * 4) 4
       (omega (arith, length-toKeys own n (signatures xs) few)) (length-leBytes 4 k)
 
   subscription-back : typeFits (f j .kind) (f j .type) ≡ true → f j .signature < 256 ^ 8 → subscriptionAt (laidOut own n (tabulate f 0 n) past) j ≡ f j
@@ -104,44 +99,44 @@ module _ (own n : ℕ) (f : ℕ → Subscription) (past : List ℕ) (atMost : n 
       let r = in-range (f j .kind) (f j .type) e in
       let k = f j .kind * 65536 + f j .type in
       let m = laidOut own n (tabulate f 0 n) past in
-      let q : le (span m (776 + j * 4) 4) ≡ k = ap le key-span ∙ le-leBytes 4 k (omega arith) in
-      let e₁ : le (span m (776 + j * 4) 4) / 65536 ≡ f j .kind = omega arith in
-      let e₂ : le (span m (776 + j * 4) 4) % 65536 ≡ f j .type = omega arith in
-      let e₃ : le (span m (8 + j * 8) 8) ≡ f j .signature = ap le signature-span ∙ le-leBytes 8 (f j .signature) h in
+      let q : le (span m (subscriptionKeysAt + j * 4) 4) ≡ k = ap le key-span ∙ le-leBytes 4 k (omega arith) in
+      let e₁ : le (span m (subscriptionKeysAt + j * 4) 4) / 65536 ≡ f j .kind = omega arith in
+      let e₂ : le (span m (subscriptionKeysAt + j * 4) 4) % 65536 ≡ f j .type = omega arith in
+      let e₃ : le (span m (signaturesAt + j * 8) 8) ≡ f j .signature = ap le signature-span ∙ le-leBytes 8 (f j .signature) h in
       λ i. record { kind = e₁ i; type = e₂ i; signature = e₃ i }
 
 -- ── no place is held ──
 
-module _ (own n : ℕ) (xs : List Subscription) (past : List ℕ) (atMost : length xs ≤ 64) where
-  no-key : (i : ℕ) → i < 32 → keyAt (laidOut own n xs past) i ≡ 0
+module _ (own n : ℕ) (xs : List Subscription) (past : List ℕ) (atMost : length xs ≤ subscriptionsMax) where
+  no-key : (i : ℕ) → i < sessionsMax → keyAt (laidOut own n xs past) i ≡ 0
   unfolding keyAt le
   no-key i h =
       let p = toPlaces own n (signatures xs) (keys xs) in
       let zs : List ℕ = replicate (i * 4) 0 in
-      let ws : List ℕ = replicate (16700 - i * 4) 0 ++ past in
-      let a : 16704 ≡ i * 4 + (16704 - i * 4) = omega arith in
-      let b : 16704 - i * 4 ≡ 4 + (16700 - i * 4) = omega arith in
-      let cut : replicate 16704 0 ++ past ≡ zs ++ (replicate 4 0 ++ ws) =
-      zeros (i * 4) (16704 - i * 4) 16704 a past ∙ ap (λ (x : List ℕ). zs ++ x) (zeros 4 (16700 - i * 4) (16704 - i * 4) b past) in
-      let l : length (p ++ zs) ≡ 1032 + i * 4 = length-append p zs ∙ omega (arith, places-at own n xs atMost, length-replicate {A = ℕ} (i * 4) 0) in
-      ap (λ (x : List ℕ). le (span x (1032 + i * 4) 4))
+      let ws : List ℕ = replicate (placesSize - 4 - i * 4) 0 ++ past in
+      let a : placesSize ≡ i * 4 + (placesSize - i * 4) = omega arith in
+      let b : placesSize - i * 4 ≡ 4 + (placesSize - 4 - i * 4) = omega arith in
+      let cut : replicate placesSize 0 ++ past ≡ zs ++ (replicate 4 0 ++ ws) =
+      zeros (i * 4) (placesSize - i * 4) placesSize a past ∙ ap (λ (x : List ℕ). zs ++ x) (zeros 4 (placesSize - 4 - i * 4) (placesSize - i * 4) b past) in
+      let l : length (p ++ zs) ≡ streamKeysAt + i * 4 = length-append p zs ∙ omega (arith, places-at own n xs atMost, length-replicate {A = ℕ} (i * 4) 0) in
+      ap (λ (x : List ℕ). le (span x (streamKeysAt + i * 4) 4))
       (at-places own n (signatures xs) (keys xs) past ∙ ap (λ (x : List ℕ). p ++ x) cut ∙ sym (append-assoc p zs (replicate 4 0 ++ ws)))
-      ∙ ap le (span-middle (p ++ zs) (replicate 4 0) ws (1032 + i * 4) l 4 refl)
+      ∙ ap le (span-middle (p ++ zs) (replicate 4 0) ws (streamKeysAt + i * 4) l 4 refl)
 
-  free : (i : ℕ) → i < 32 → placeAt (laidOut own n xs past) i ≡ empty
+  free : (i : ℕ) → i < sessionsMax → placeAt (laidOut own n xs past) i ≡ empty
   unfolding placeAt
   free i h = rw (no-key i h)
 
-  raw : (i : ℕ) → i < 32 → rawFits (laidOut own n xs past) i ≡ true
+  raw : (i : ℕ) → i < sessionsMax → rawFits (laidOut own n xs past) i ≡ true
   unfolding rawFits
   raw i h = rw (no-key i h)
 
   none-held : placesOf (laidOut own n xs past) ≡ begun
   unfolding placesOf tabulate
-  none-held = tab-same (placeAt (laidOut own n xs past)) (λ l. empty) 32 0 (λ l h k. free l (omega arith))
+  none-held = tab-same (placeAt (laidOut own n xs past)) (λ l. empty) sessionsMax 0 (λ l h k. free l (omega arith))
 
-  all-raw : every (rawFits (laidOut own n xs past)) 0 32 ≡ true
-  all-raw = every-true (rawFits (laidOut own n xs past)) 32 0 (λ l h k. raw l (omega arith))
+  all-raw : every (rawFits (laidOut own n xs past)) 0 sessionsMax ≡ true
+  all-raw = every-true (rawFits (laidOut own n xs past)) sessionsMax 0 (λ l h k. raw l (omega arith))
 
 -- ── the whole ──
 
@@ -155,27 +150,27 @@ number-at own n ss ks rest = refl
 
 module _ (own : ℕ) (r past : List ℕ) (taken : accepted own r ≡ true) (bytes : Octets r) where
   abbrev count : ℕ
-  count = length r / 13
+  count = length r / subscriptionRecord
 
   abbrev after : List ℕ
   after = laidOut own count (tabulate (recordAt r) 0 count) past
 
   ok : acceptable (given own r) ≡ true
   unfolding accepted
-  ok = and-right (eqb (length r % 13) 0) (acceptable (given own r)) taken
+  ok = and-right (eqb (length r % subscriptionRecord) 0) (acceptable (given own r)) taken
 
   listed : given own r .subscriptions ≡ tabulate (recordAt r) 0 count
   unfolding given
   listed = refl
 
-  at-most : count ≤ 64
+  at-most : count ≤ subscriptionsMax
   at-most = omega (arith, few (given own r) ok, ap length listed, length-tabulate (recordAt r) 0 count)
 
   signature-lt : (j : ℕ) → j < count → recordAt r j .signature < 256 ^ 8
   unfolding recordAt
   signature-lt j h =
-      let n : length (span r (j * 13 + 5) 8) ≡ 8 = length-span r (j * 13 + 5) 8 (omega arith) in
-      rw n at (le-lt (span r (j * 13 + 5) 8) (octets-span r (j * 13 + 5) 8 bytes))
+      let n : length (span r (j * subscriptionRecord + 5) 8) ≡ 8 = length-span r (j * subscriptionRecord + 5) 8 (omega arith) in
+      rw n at (le-lt (span r (j * subscriptionRecord + 5) 8) (octets-span r (j * subscriptionRecord + 5) 8 bytes))
 
   fits-at : (j : ℕ) → j < count → typeFits (recordAt r j .kind) (recordAt r j .type) ≡ true
   fits-at j h =
@@ -193,7 +188,7 @@ module _ (own : ℕ) (r past : List ℕ) (taken : accepted own r ≡ true) (byte
       (λ l h k. subscription-back own count (recordAt r) past at-most l (omega arith) (fits-at l (omega arith)) (signature-lt l (omega arith))) in
       λ i. record { own = o i; subscriptions = s i }
 
-  few-listed : length (tabulate (recordAt r) 0 count) ≤ 64
+  few-listed : length (tabulate (recordAt r) 0 count) ≤ subscriptionsMax
   few-listed = omega (arith, length-tabulate (recordAt r) 0 count, at-most)
 
   held-none : placesOf after ≡ begun

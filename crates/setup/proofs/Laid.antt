@@ -6,16 +6,18 @@ use native.Mathlib.Nat.{zero-add}
 use native.Mathlib.Omega.{arith}
 use lib.ListN.{length, drop, set, replicate, length-append, length-replicate, replicate-append-replicate}
 use lib.Seq.{drop-at}
+use Rattle.rules.specs.Limits.{sessionsMax, subscriptionsMax, subscriptionRecord}
 use Rattle.bits.proofs.Little.{length-leBytes}
 use Rattle.bits.proofs.Splice.{splice-middle}
 use Rattle.bits.specs.Little.{leBytes}
 use Rattle.bits.specs.Part.{splice}
 use Rattle.rules.specs.Setup.{Subscription, Setup}
 use Rattle.setup.specs.Setup.{recordAt, given, signatures, keys, filled, stateOf}
-use Rattle.setup.specs.Subscription.{withSubscription}
+use Rattle.setup.specs.inside.Record.{written}
+use Rattle.subscriptions.specs.inside.Subscription.{withSubscription}
 use Rattle.bits.proofs.Tabulate.{tab-append, length-tabulate}
 use Rattle.bits.specs.Tabulate.{tabulate}
-use Rattle.state.specs.Layout.{size}
+use Rattle.state.specs.Layout.{size, signaturesAt, timesAt, subscriptionKeysAt, streamKeysAt}
 
 -- ── lists that are filled up with zeros ──
 
@@ -41,50 +43,66 @@ fill-more pre xs ys post n at e h =
 
 -- ── the layout ──
 
+-- the sizes of its parts: what is unused, signatures, times, kinds and types, and all that follows
+abbrev pub unused : ℕ
+unused = signaturesAt - 2
+
+abbrev pub signaturesSize : ℕ
+signaturesSize = subscriptionsMax * 8
+
+abbrev pub timesSize : ℕ
+timesSize = sessionsMax * 8
+
+abbrev pub keysSize : ℕ
+keysSize = subscriptionsMax * 4
+
+abbrev pub placesSize : ℕ
+placesSize = size - streamKeysAt
+
 -- with these bytes of signatures and of kinds and types, and the bytes past it
 unfoldable pub laid : ℕ → ℕ → List ℕ → List ℕ → List ℕ → List ℕ
-laid own n ss ks rest = own ∷ n ∷ (replicate 6 0 ++ (filled 512 ss ++ (replicate 256 0 ++ (filled 256 ks ++ (replicate 16704 0 ++ rest)))))
+laid own n ss ks rest = own ∷ n ∷ (replicate unused 0 ++ (filled signaturesSize ss ++ (replicate timesSize 0 ++ (filled keysSize ks ++ (replicate placesSize 0 ++ rest)))))
 
 -- what stands before the signatures, before the keys, and before the places
 abbrev pub head : ℕ → ℕ → List ℕ
-head own n = own ∷ n ∷ replicate 6 0
+head own n = own ∷ n ∷ replicate unused 0
 
 abbrev pub toKeys : ℕ → ℕ → List ℕ → List ℕ
-toKeys own n ss = head own n ++ (filled 512 ss ++ replicate 256 0)
+toKeys own n ss = head own n ++ (filled signaturesSize ss ++ replicate timesSize 0)
 
 abbrev pub toPlaces : ℕ → ℕ → List ℕ → List ℕ → List ℕ
-toPlaces own n ss ks = toKeys own n ss ++ filled 256 ks
+toPlaces own n ss ks = toKeys own n ss ++ filled keysSize ks
 
 module _ (own n : ℕ) (ss ks rest : List ℕ) where
-  pub at-signatures : laid own n ss ks rest ≡ head own n ++ (filled 512 ss ++ (replicate 256 0 ++ (filled 256 ks ++ (replicate 16704 0 ++ rest))))
+  pub at-signatures : laid own n ss ks rest ≡ head own n ++ (filled signaturesSize ss ++ (replicate timesSize 0 ++ (filled keysSize ks ++ (replicate placesSize 0 ++ rest))))
   unfolding laid
   at-signatures = refl
 
-  pub at-keys : laid own n ss ks rest ≡ toKeys own n ss ++ (filled 256 ks ++ (replicate 16704 0 ++ rest))
+  pub at-keys : laid own n ss ks rest ≡ toKeys own n ss ++ (filled keysSize ks ++ (replicate placesSize 0 ++ rest))
   unfolding laid
-  at-keys = ap (λ (x : List ℕ). head own n ++ x) (sym (append-assoc (filled 512 ss) (replicate 256 0) (filled 256 ks ++ (replicate 16704 0 ++ rest))))
+  at-keys = ap (λ (x : List ℕ). head own n ++ x) (sym (append-assoc (filled signaturesSize ss) (replicate timesSize 0) (filled keysSize ks ++ (replicate placesSize 0 ++ rest))))
 
-  pub at-places : laid own n ss ks rest ≡ toPlaces own n ss ks ++ (replicate 16704 0 ++ rest)
-  at-places = at-keys ∙ sym (append-assoc (toKeys own n ss) (filled 256 ks) (replicate 16704 0 ++ rest))
+  pub at-places : laid own n ss ks rest ≡ toPlaces own n ss ks ++ (replicate placesSize 0 ++ rest)
+  at-places = at-keys ∙ sym (append-assoc (toKeys own n ss) (filled keysSize ks) (replicate placesSize 0 ++ rest))
 
-pub length-toKeys : (own n : ℕ) (ss : List ℕ) → length ss ≤ 512 → length (toKeys own n ss) ≡ 776
-length-toKeys own n ss h = length-append (head own n) (filled 512 ss ++ replicate 256 0) ∙ omega (arith, length-append (filled 512 ss) (replicate 256 0), length-filled 512 ss h)
+pub length-toKeys : (own n : ℕ) (ss : List ℕ) → length ss ≤ signaturesSize → length (toKeys own n ss) ≡ subscriptionKeysAt
+length-toKeys own n ss h = length-append (head own n) (filled signaturesSize ss ++ replicate timesSize 0) ∙ omega (arith, length-append (filled signaturesSize ss) (replicate timesSize 0), length-filled signaturesSize ss h)
 
-length-toPlaces : (own n : ℕ) (ss ks : List ℕ) → length ss ≤ 512 → length ks ≤ 256 → length (toPlaces own n ss ks) ≡ 1032
-length-toPlaces own n ss ks h k = length-append (toKeys own n ss) (filled 256 ks) ∙ omega (arith, length-toKeys own n ss h, length-filled 256 ks k)
+length-toPlaces : (own n : ℕ) (ss ks : List ℕ) → length ss ≤ signaturesSize → length ks ≤ keysSize → length (toPlaces own n ss ks) ≡ streamKeysAt
+length-toPlaces own n ss ks h k = length-append (toKeys own n ss) (filled keysSize ks) ∙ omega (arith, length-toKeys own n ss h, length-filled keysSize ks k)
 
 -- ── one subscription more ──
 
-more-signatures : (own n : ℕ) (ss ks rest ys : List ℕ) (at : ℕ) → 8 + length ss ≡ at → length ss + length ys ≤ 512 → splice (laid own n ss ks rest) at ys ≡ laid own n (ss ++ ys) ks rest
+more-signatures : (own n : ℕ) (ss ks rest ys : List ℕ) (at : ℕ) → signaturesAt + length ss ≡ at → length ss + length ys ≤ signaturesSize → splice (laid own n ss ks rest) at ys ≡ laid own n (ss ++ ys) ks rest
 unfolding laid
-more-signatures own n ss ks rest ys at e h = fill-more (head own n) ss ys (replicate 256 0 ++ (filled 256 ks ++ (replicate 16704 0 ++ rest))) 512 at e h
+more-signatures own n ss ks rest ys at e h = fill-more (head own n) ss ys (replicate timesSize 0 ++ (filled keysSize ks ++ (replicate placesSize 0 ++ rest))) signaturesSize at e h
 
-more-keys : (own n : ℕ) (ss ks rest ys : List ℕ) (at : ℕ) → length ss ≤ 512 → 776 + length ks ≡ at → length ks + length ys ≤ 256
+more-keys : (own n : ℕ) (ss ks rest ys : List ℕ) (at : ℕ) → length ss ≤ signaturesSize → subscriptionKeysAt + length ks ≡ at → length ks + length ys ≤ keysSize
     → splice (laid own n ss ks rest) at ys ≡ laid own n ss (ks ++ ys) rest
 more-keys own n ss ks rest ys at few e h =
     let l = length-toKeys own n ss few in
     ap (λ (x : List ℕ). splice x at ys) (at-keys own n ss ks rest)
-    ∙ fill-more (toKeys own n ss) ks ys (replicate 16704 0 ++ rest) 256 at (omega arith) h ∙ sym (at-keys own n ss (ks ++ ys) rest)
+    ∙ fill-more (toKeys own n ss) ks ys (replicate placesSize 0 ++ rest) keysSize at (omega arith) h ∙ sym (at-keys own n ss (ks ++ ys) rest)
 
 pub length-signatures : (xs : List Subscription) → length (signatures xs) ≡ length xs * 8
 unfolding signatures
@@ -118,8 +136,8 @@ last-key xs a = ap (λ (x : List ℕ). keys xs ++ x) (sym (append-nil (leBytes 4
 abbrev pub laidOut : ℕ → ℕ → List Subscription → List ℕ → List ℕ
 laidOut own n xs rest = laid own n (signatures xs) (keys xs) rest
 
-laid-more : (own n : ℕ) (xs : List Subscription) (a : Subscription) (rest : List ℕ) (j : ℕ) → length xs ≡ j → j < 64
-    → withSubscription (laidOut own n xs rest) j a ≡ laidOut own n (xs ++ (a ∷ [])) rest
+laid-more : (own n : ℕ) (xs : List Subscription) (a : Subscription) (rest : List ℕ) (j : ℕ) → length xs ≡ j → j < subscriptionsMax
+    → written (laidOut own n xs rest) j a ≡ laidOut own n (xs ++ (a ∷ [])) rest
 unfolding withSubscription
 laid-more own n xs a rest j e h =
     let ls = length-signatures xs in
@@ -128,13 +146,13 @@ laid-more own n xs a rest j e h =
     let k = leBytes 4 (a .kind * 65536 + a .type) in
     let n₁ = length-leBytes 8 (a .signature) in
     let n₂ = length-leBytes 4 (a .kind * 65536 + a .type) in
-    ap (λ (x : List ℕ). splice x (776 + j * 4) k) (more-signatures own n (signatures xs) (keys xs) rest s (8 + j * 8) (omega arith) (omega arith))
-    ∙ more-keys own n (signatures xs ++ s) (keys xs) rest k (776 + j * 4) (omega (arith, length-append (signatures xs) s)) (omega arith) (omega arith)
+    ap (λ (x : List ℕ). splice x (subscriptionKeysAt + j * 4) k) (more-signatures own n (signatures xs) (keys xs) rest s (signaturesAt + j * 8) (omega arith) (omega arith))
+    ∙ more-keys own n (signatures xs ++ s) (keys xs) rest k (subscriptionKeysAt + j * 4) (omega (arith, length-append (signatures xs) s)) (omega arith) (omega arith)
     ∙ ap₂ (λ (x y : List ℕ). laid own n x y rest) (last-signature xs a) (last-key xs a)
 
 -- one turn of the loop
-pub laid-turn : (own n : ℕ) (f : ℕ → Subscription) (rest : List ℕ) (j : ℕ) → j < 64
-    → withSubscription (laidOut own n (tabulate f 0 j) rest) j (f j) ≡ laidOut own n (tabulate f 0 (j + 1)) rest
+pub laid-turn : (own n : ℕ) (f : ℕ → Subscription) (rest : List ℕ) (j : ℕ) → j < subscriptionsMax
+    → written (laidOut own n (tabulate f 0 j) rest) j (f j) ≡ laidOut own n (tabulate f 0 (j + 1)) rest
 unfolding tabulate
 laid-turn own n f rest j h =
     laid-more own n (tabulate f 0 j) (f j) rest j (length-tabulate f 0 j) h
@@ -147,8 +165,10 @@ pub laid-first : (own n : ℕ) (rest : List ℕ) → set (set (replicate size 0 
 unfolding laid signatures keys
 laid-first own n rest =
     ap (λ (x : List ℕ). set (set x 0 own) 1 n)
-    (zeros 8 17728 size refl rest ∙ ap (λ (x : List ℕ). replicate 8 0 ++ x) (zeros 512 17216 17728 refl rest ∙ ap (λ (x : List ℕ). replicate 512 0 ++ x)
-    (zeros 256 16960 17216 refl rest ∙ ap (λ (x : List ℕ). replicate 256 0 ++ x) (zeros 256 16704 16960 refl rest))))
+    (zeros signaturesAt (size - signaturesAt) size refl rest
+    ∙ ap (λ (x : List ℕ). replicate signaturesAt 0 ++ x) (zeros signaturesSize (size - timesAt) (size - signaturesAt) refl rest
+    ∙ ap (λ (x : List ℕ). replicate signaturesSize 0 ++ x) (zeros timesSize (size - subscriptionKeysAt) (size - timesAt) refl rest
+    ∙ ap (λ (x : List ℕ). replicate timesSize 0 ++ x) (zeros keysSize placesSize (size - subscriptionKeysAt) refl rest))))
 
 -- the state of a setup
 pub laid-last : (u : Setup) (rest : List ℕ) → stateOf u ++ rest ≡ laidOut (u .own) (length (u .subscriptions)) (u .subscriptions) rest
@@ -156,29 +176,29 @@ unfolding laid stateOf
 laid-last u rest = simp append-assoc
 
 -- the state of the setup that records give
-pub given-laid : (own : ℕ) (r rest : List ℕ) (n : ℕ) → n ≡ length r / 13 → laidOut own n (tabulate (recordAt r) 0 n) rest ≡ stateOf (given own r) ++ rest
+pub given-laid : (own : ℕ) (r rest : List ℕ) (n : ℕ) → n ≡ length r / subscriptionRecord → laidOut own n (tabulate (recordAt r) 0 n) rest ≡ stateOf (given own r) ++ rest
 unfolding given
 given-laid own r rest n e =
-    let l : n ≡ length (tabulate (recordAt r) 0 (length r / 13)) = e ∙ sym (length-tabulate (recordAt r) 0 (length r / 13)) in
-    ap (λ (k : ℕ). laidOut own n (tabulate (recordAt r) 0 k) rest) e ∙ ap (λ (k : ℕ). laidOut own k (tabulate (recordAt r) 0 (length r / 13)) rest) l
+    let l : n ≡ length (tabulate (recordAt r) 0 (length r / subscriptionRecord)) = e ∙ sym (length-tabulate (recordAt r) 0 (length r / subscriptionRecord)) in
+    ap (λ (k : ℕ). laidOut own n (tabulate (recordAt r) 0 k) rest) e ∙ ap (λ (k : ℕ). laidOut own k (tabulate (recordAt r) 0 (length r / subscriptionRecord)) rest) l
     ∙ sym (laid-last (given own r) rest)
 
 -- ── lengths ──
 
-module _ (own n : ℕ) (xs : List Subscription) (few : length xs ≤ 64) where
-  pub places-at : length (toPlaces own n (signatures xs) (keys xs)) ≡ 1032
+module _ (own n : ℕ) (xs : List Subscription) (few : length xs ≤ subscriptionsMax) where
+  pub places-at : length (toPlaces own n (signatures xs) (keys xs)) ≡ streamKeysAt
   places-at = length-toPlaces own n (signatures xs) (keys xs) (omega (arith, length-signatures xs)) (omega (arith, length-keys xs))
 
-  whole : length (toPlaces own n (signatures xs) (keys xs) ++ replicate 16704 0) ≡ size
-  whole = length-append (toPlaces own n (signatures xs) (keys xs)) (replicate 16704 0) ∙ omega (arith, places-at, length-replicate {A = ℕ} 16704 0)
+  whole : length (toPlaces own n (signatures xs) (keys xs) ++ replicate placesSize 0) ≡ size
+  whole = length-append (toPlaces own n (signatures xs) (keys xs)) (replicate placesSize 0) ∙ omega (arith, places-at, length-replicate {A = ℕ} placesSize 0)
 
-  split : (rest : List ℕ) → laidOut own n xs rest ≡ (toPlaces own n (signatures xs) (keys xs) ++ replicate 16704 0) ++ rest
+  split : (rest : List ℕ) → laidOut own n xs rest ≡ (toPlaces own n (signatures xs) (keys xs) ++ replicate placesSize 0) ++ rest
   split rest =
-      at-places own n (signatures xs) (keys xs) rest ∙ sym (append-assoc (toPlaces own n (signatures xs) (keys xs)) (replicate 16704 0) rest)
+      at-places own n (signatures xs) (keys xs) rest ∙ sym (append-assoc (toPlaces own n (signatures xs) (keys xs)) (replicate placesSize 0) rest)
 
   -- the bytes past the layout
   pub past : (rest : List ℕ) → drop size (laidOut own n xs rest) ≡ rest
-  past rest = ap (λ (x : List ℕ). drop size x) (split rest) ∙ drop-at (toPlaces own n (signatures xs) (keys xs) ++ replicate 16704 0) rest size whole
+  past rest = ap (λ (x : List ℕ). drop size x) (split rest) ∙ drop-at (toPlaces own n (signatures xs) (keys xs) ++ replicate placesSize 0) rest size whole
 
   pub length-laid : (rest : List ℕ) → length (laidOut own n xs rest) ≡ size + length rest
-  length-laid rest = ap length (split rest) ∙ length-append (toPlaces own n (signatures xs) (keys xs) ++ replicate 16704 0) rest ∙ ap (λ (k : ℕ). k + length rest) whole
+  length-laid rest = ap length (split rest) ∙ length-append (toPlaces own n (signatures xs) (keys xs) ++ replicate placesSize 0) rest ∙ ap (λ (k : ℕ). k + length rest) whole

@@ -1,3 +1,3 @@
 pub mod Setup
-pub mod Subscription
 pub mod Laws
+pub mod inside

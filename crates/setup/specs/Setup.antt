@@ -7,12 +7,13 @@ use lib.Dec.{ltb, eqb}
 use lib.ListN.{length, getD, drop, replicate}
 use Rattle.bits.specs.Little.{le, leBytes}
 use Rattle.bits.specs.Part.{span}
+use Rattle.rules.specs.Limits.{sessionsMax, subscriptionsMax, subscriptionRecord}
 use Rattle.rules.specs.Setup.{Subscription, Setup, acceptable}
 use Rattle.rules.specs.Tests.{pick}
 use Rattle.setup.specs.declared.Outcome.{Outcome}
 use Rattle.setup.specs.declared.Outcome.the-variants.{Done, Unacceptable, Short}
 use Rattle.bits.specs.Tabulate.{tabulate}
-use Rattle.state.specs.Layout.{size}
+use Rattle.state.specs.Layout.{signaturesAt, streamKeysAt, size}
 
 -- 01, Numbers answered
 abbrev pub numberOf : Outcome → ℕ
@@ -21,14 +22,19 @@ numberOf Unacceptable = 13
 numberOf Short = 20
 
 unfoldable pub recordAt : List ℕ → ℕ → Subscription
-recordAt r j = record { kind = getD r (j * 13) 0; type = le (span r (j * 13 + 1) 4); signature = le (span r (j * 13 + 5) 8) }
+recordAt r j =
+    record {
+      kind = getD r (j * subscriptionRecord) 0;
+      type = le (span r (j * subscriptionRecord + 1) 4);
+      signature = le (span r (j * subscriptionRecord + 5) 8);
+    }
 
 unfoldable pub given : ℕ → List ℕ → Setup
-given own r = record { own = own; subscriptions = tabulate (recordAt r) 0 (length r / 13) }
+given own r = record { own = own; subscriptions = tabulate (recordAt r) 0 (length r / subscriptionRecord) }
 
 -- a list that is no whole number of records is refused too
 unfoldable pub accepted : ℕ → List ℕ → Bool
-accepted own r = eqb (length r % 13) 0 && acceptable (given own r)
+accepted own r = eqb (length r % subscriptionRecord) 0 && acceptable (given own r)
 
 -- ── the state of a setup: nothing is held ──
 
@@ -46,8 +52,8 @@ filled n xs = xs ++ replicate (n - length xs) 0
 
 unfoldable pub stateOf : Setup → List ℕ
 stateOf u =
-    u .own ∷ length (u .subscriptions) ∷ (replicate 6 0 ++ (filled 512 (signatures (u .subscriptions))
-    ++ (replicate 256 0 ++ (filled 256 (keys (u .subscriptions)) ++ replicate 16704 0))))
+    u .own ∷ length (u .subscriptions) ∷ (replicate (signaturesAt - 2) 0 ++ (filled (subscriptionsMax * 8) (signatures (u .subscriptions))
+    ++ (replicate (sessionsMax * 8) 0 ++ (filled (subscriptionsMax * 4) (keys (u .subscriptions)) ++ replicate (size - streamKeysAt) 0))))
 
 -- ── the call ──
 

@@ -1,14 +1,20 @@
 // Setting a receiver up in a lent state.
 pub mod laws;
 
+use rules::limits::SUBSCRIPTION_RECORD;
+use rules::limits::SUBSCRIPTIONS;
+use state::layout::OWN_AT;
+use state::layout::SIZE;
+use state::layout::SUBSCRIPTION_COUNT_AT;
 ghost use mathlib.Core.Path.{_≡_};
 ghost use mathlib.Core.List.{_++_};
-ghost use Prim.Native.Nat.{_+_, _*_, _-_, _/_, _≤_, _<_};
+ghost use Prim.Native.Nat.{_+_, _*_, _/_, _%_, _≤_, _<_};
 ghost use lib.ListN.{length, drop, replicate};
-ghost use Rattle.rules.specs.Setup.{typeFits, unlike, allFit};
-ghost use Rattle.setup.specs.Setup.{recordAt, given, stateOf, afterSetup, result};
-ghost use Rattle.setup.specs.Subscription.{Keyed, withSubscription};
 ghost use Rattle.bits.specs.Tabulate.{tabulate};
+ghost use Rattle.rules.specs.Limits.{subscriptionsMax, subscriptionRecord};
+ghost use Rattle.rules.specs.Setup.{typeFits, allFit};
+ghost use Rattle.setup.specs.Setup.{recordAt, given, stateOf, afterSetup, result};
+ghost use Rattle.setup.specs.inside.Record.{Keyed, written};
 ghost use Rattle.state.specs.Layout.{size};
 
 // What a setup answers.
@@ -20,18 +26,23 @@ pub enum Outcome {
 
 // The kind and type of record j: its first five bytes as one number.
 fn key(records: &[u8], j: usize) -> u64
-    requires { ⌜ j * 13 + 13 ≤ length (now records) ⌝ }
+    requires { ⌜ j * subscriptionRecord + subscriptionRecord ≤ length (now records) ⌝ }
     ensures { λ k. ⌜ Keyed (recordAt (now (records .entry)) j) k ⌝ }
 {
-    bits::le::get_at(records, j * 13, 5)
+    bits::le::get_at(records, j * SUBSCRIPTION_RECORD, 5)
 }
 
-// Record j has a kind and a type in range.
-fn fits(records: &[u8], j: usize) -> bool
-    requires { ⌜ j * 13 + 13 ≤ length (now records) ⌝ }
-    ensures { λ r. ⌜ r ≡ typeFits (recordAt (now (records .entry)) j .kind) (recordAt (now (records .entry)) j .type) ⌝ }
+// The same kind and type as the state has them.
+fn state_key(k: u64) -> u64
+    ensures { λ r. ⌜ r ≡ k % 256 * 65536 + k / 256 ⌝ }
 {
-    let k = key(records, j);
+    k % 256 * 65536 + k / 256
+}
+
+// The kind and the type are in range.
+fn type_fits(k: u64) -> bool
+    ensures { λ r. ⌜ r ≡ typeFits (k % 256) (k / 256) ⌝ }
+{
     let kind = k % 256;
     let id = k / 256;
     if 1 < kind {
@@ -43,40 +54,23 @@ fn fits(records: &[u8], j: usize) -> bool
     id < 256
 }
 
-// No record behind j, of n, has its kind and type.
-fn is_unlike(records: &[u8], j: usize, n: usize) -> bool
-    requires { ⌜ (j < n) × (n * 13 ≤ length (now records)) ⌝ }
-    ensures { λ r. ⌜ r ≡ unlike (recordAt (now (records .entry)) j) (tabulate (recordAt (now (records .entry))) (j + 1) (n - (j + 1))) ⌝ }
-{
-    let k = key(records, j);
-    let mut i = j + 1;
-    while i < n {
-        if key(records, i) == k {
-            return false;
-        }
-        i += 1;
-    }
-    true
-}
-
-// Each of the n records has a kind and a type in range, and no two have the same.
+// Each of the n records has a kind and a type in range, and no two have the same. One is added to each key, as `subscriptions::all_fit` does.
 fn all_fit(records: &[u8], n: usize) -> bool
-    requires { ⌜ n * 13 ≤ length (now records) ⌝ }
+    requires { ⌜ (n * subscriptionRecord ≤ length (now records)) × (n ≤ subscriptionsMax) ⌝ }
     ensures { λ r. ⌜ r ≡ allFit (tabulate (recordAt (now (records .entry))) 0 n) ⌝ }
 {
+    let mut table = [0u32; SUBSCRIPTIONS];
     let mut j = 0;
     while j < n {
-        if fits(records, j) {
-            if is_unlike(records, j, n) {
-                j += 1;
-            } else {
-                return false;
-            }
+        let k = key(records, j);
+        if type_fits(k) {
+            table[j] = (state_key(k) + 1) as u32;
+            j += 1;
         } else {
             return false;
         }
     }
-    true
+    keys::are_distinct(&table[..n])
 }
 
 // Zeros in the first n bytes.
@@ -93,23 +87,22 @@ fn clear(state: &mut [u8], n: usize)
 
 // Subscription j, from record j.
 fn put(state: &mut [u8], records: &[u8], j: usize)
-    requires { ⌜ ((size ≤ length (now state)) × (j < 64)) × (j * 13 + 13 ≤ length (now records)) ⌝ }
-    ensures { λ _. ⌜ now (state .exit) ≡ withSubscription (now (state .entry)) j (recordAt (now (records .entry)) j) ⌝ }
+    requires { ⌜ ((size ≤ length (now state)) × (j < subscriptionsMax)) × (j * subscriptionRecord + subscriptionRecord ≤ length (now records)) ⌝ }
+    ensures { λ _. ⌜ now (state .exit) ≡ written (now (state .entry)) j (recordAt (now (records .entry)) j) ⌝ }
 {
     let k = key(records, j);
-    let signature = bits::le::get_at(records, j * 13 + 5, 8);
-    bits::le::put_at(state, 8 + j * 8, 8, signature);
-    bits::le::put_at(state, 776 + j * 4, 4, k % 256 * 65536 + k / 256);
+    let signature = bits::le::get_at(records, j * SUBSCRIPTION_RECORD + 5, 8);
+    subscriptions::put(state, j, state_key(k), signature);
 }
 
 // The whole layout, from n records.
 fn write(state: &mut [u8], own: u32, records: &[u8], n: usize)
-    requires { ⌜ ((size ≤ length (now state)) × (own < 128)) × ((n ≤ 64) × (n ≡ length (now records) / 13)) ⌝ }
+    requires { ⌜ ((size ≤ length (now state)) × (own < 128)) × ((n ≤ subscriptionsMax) × (n ≡ length (now records) / subscriptionRecord)) ⌝ }
     ensures { λ _. ⌜ now (state .exit) ≡ stateOf (given own (now (records .entry))) ++ drop size (now (state .entry)) ⌝ }
 {
-    clear(state, 17736);
-    state[0] = own as u8;
-    state[1] = n as u8;
+    clear(state, SIZE);
+    state[OWN_AT] = own as u8;
+    state[SUBSCRIPTION_COUNT_AT] = n as u8;
     let mut j = 0;
     while j < n {
         put(state, records, j);
@@ -123,17 +116,17 @@ pub fn setup(state: &mut [u8], own: u32, subscriptions: &[u8]) -> Outcome
     ensures { λ r. ⌜ result r (now (state .exit)) ≡ afterSetup (now (state .entry)) own (now (subscriptions .entry)) ⌝ }
 {
     let len = subscriptions.len();
-    let n = len / 13;
-    if state.len() < 17736 {
+    let n = len / SUBSCRIPTION_RECORD;
+    if state.len() < SIZE {
         return Outcome::Short;
     }
-    if 0 < len % 13 {
+    if 0 < len % SUBSCRIPTION_RECORD {
         return Outcome::Unacceptable;
     }
     if 127 < own {
         return Outcome::Unacceptable;
     }
-    if 64 < n {
+    if SUBSCRIPTIONS < n {
         return Outcome::Unacceptable;
     }
     if all_fit(subscriptions, n) {

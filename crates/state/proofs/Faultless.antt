@@ -7,50 +7,52 @@ use native.Mathlib.Omega.{arith}
 use borrow.Author.Tests.{leb-true, ltb-true, ne-eqb}
 use lib.Dec.{eqb, ltb, leb}
 use lib.ListN.{length}
+use Rattle.rules.specs.Limits.{sessionsMax, gatheredMax}
 use Rattle.rules.specs.Setup.{acceptable}
 use Rattle.rules.specs.Sound.{streamFits, sessionFits, placeFits, placesFit, apart, sound}
 use Rattle.rules.specs.Table.{held}
 use Rattle.state.specs.Layout.{size, setupOf, keyAt, countAt, expectedAt, toggleAt, sessionAt, placeAt, placesOf, streamOfKey}
-use Rattle.state.specs.Sound.{every, rawFits, soundState}
+use Rattle.bits.specs.Tabulate.{every}
+use Rattle.state.specs.Sound.{rawFits, soundState}
 use Rattle.state.proofs.Bools.{and-left, and-right}
 use Rattle.state.proofs.Soundness.{fit-every}
-use Rattle.state.proofs.Every.{every-at}
+use Rattle.bits.proofs.Every.{every-at}
 
 module _ (m : List ℕ) (fine : soundState m ≡ true) where
   pub long : size ≤ length m
   unfolding soundState
-  long = leb-true size (length m) (and-left (leb size (length m)) (acceptable (setupOf m) && (every (rawFits m) 0 32 && sound (placesOf m))) fine)
+  long = leb-true size (length m) (and-left (leb size (length m)) (acceptable (setupOf m) && (every (rawFits m) 0 sessionsMax && sound (placesOf m))) fine)
 
-  rest : (acceptable (setupOf m) && (every (rawFits m) 0 32 && sound (placesOf m))) ≡ true
+  rest : (acceptable (setupOf m) && (every (rawFits m) 0 sessionsMax && sound (placesOf m))) ≡ true
   unfolding soundState
-  rest = and-right (leb size (length m)) (acceptable (setupOf m) && (every (rawFits m) 0 32 && sound (placesOf m))) fine
+  rest = and-right (leb size (length m)) (acceptable (setupOf m) && (every (rawFits m) 0 sessionsMax && sound (placesOf m))) fine
 
   pub setup-fine : acceptable (setupOf m) ≡ true
-  setup-fine = and-left (acceptable (setupOf m)) (every (rawFits m) 0 32 && sound (placesOf m)) rest
+  setup-fine = and-left (acceptable (setupOf m)) (every (rawFits m) 0 sessionsMax && sound (placesOf m)) rest
 
-  tables : (every (rawFits m) 0 32 && sound (placesOf m)) ≡ true
-  tables = and-right (acceptable (setupOf m)) (every (rawFits m) 0 32 && sound (placesOf m)) rest
+  tables : (every (rawFits m) 0 sessionsMax && sound (placesOf m)) ≡ true
+  tables = and-right (acceptable (setupOf m)) (every (rawFits m) 0 sessionsMax && sound (placesOf m)) rest
 
   pub table-sound : sound (placesOf m) ≡ true
-  table-sound = and-right (every (rawFits m) 0 32) (sound (placesOf m)) tables
+  table-sound = and-right (every (rawFits m) 0 sessionsMax) (sound (placesOf m)) tables
 
-  pub raw-at : (l : ℕ) → l < 32 → rawFits m l ≡ true
-  raw-at l h = every-at (rawFits m) 32 0 (and-left (every (rawFits m) 0 32) (sound (placesOf m)) tables) l (omega arith) (omega arith)
+  pub raw-at : (l : ℕ) → l < sessionsMax → rawFits m l ≡ true
+  raw-at l h = every-at (rawFits m) sessionsMax 0 (and-left (every (rawFits m) 0 sessionsMax) (sound (placesOf m)) tables) l (omega arith) (omega arith)
 
-  pub place-at : (l : ℕ) → l < 32 → placeFits (placeAt m l) ≡ true
+  pub place-at : (l : ℕ) → l < sessionsMax → placeFits (placeAt m l) ≡ true
   unfolding sound placesOf
   place-at l h =
-      every-at (λ k. placeFits (placeAt m k)) 32 0
-      (sym (fit-every (placeAt m) 32 0) ∙ and-left (placesFit (placesOf m)) (apart (placesOf m)) (and-right (eqb (length (placesOf m)) 32) (placesFit (placesOf m) && apart (placesOf m)) table-sound))
+      every-at (λ k. placeFits (placeAt m k)) sessionsMax 0
+      (sym (fit-every (placeAt m) sessionsMax 0) ∙ and-left (placesFit (placesOf m)) (apart (placesOf m)) (and-right (eqb (length (placesOf m)) sessionsMax) (placesFit (placesOf m) && apart (placesOf m)) table-sound))
       l (omega arith) (omega arith)
 
   -- a place that is held
-  module _ (i : ℕ) (inTable : i < 32) (some : keyAt m i ≡ 0 → ⊥) where
-    pub count-le : countAt m i ≤ 514
+  module _ (i : ℕ) (inTable : i < sessionsMax) (some : keyAt m i ≡ 0 → ⊥) where
+    pub count-le : countAt m i ≤ gatheredMax
     unfolding rawFits
     count-le =
         let z : eqb (keyAt m i) 0 ≡ false = ne-eqb (keyAt m i) 0 some in
-        leb-true (countAt m i) 514 (and-left (leb (countAt m i) 514) (ltb (toggleAt m i) 2) (rw z at (raw-at i inTable)))
+        leb-true (countAt m i) gatheredMax (and-left (leb (countAt m i) gatheredMax) (ltb (toggleAt m i) 2) (rw z at (raw-at i inTable)))
 
     pub place-held : placeAt m i ≡ held (streamOfKey (keyAt m i)) (sessionAt m i)
     unfolding placeAt

@@ -1,10 +1,5 @@
 pub mod Bools
 pub mod Keys
-pub mod Stored
-pub mod Lowest
-pub mod Every
-pub mod Subscriptions
-pub mod Fits
 pub mod Soundness
 pub mod View
 pub mod Places

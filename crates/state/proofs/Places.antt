@@ -8,6 +8,7 @@ use borrow.Author.Tests.{eqb-true, ne-eqb, leb-true, le-leb, ltb-true}
 use lib.Dec.{eqb, ltb, leb}
 use lib.ListN.{length, take, drop, getD}
 use lib.Seq.{take-add, drop-cons, drop-drop}
+use Rattle.rules.specs.Limits.{sessionsMax, gatheredMax}
 use Rattle.bits.specs.Little.{le, leBytes}
 use Rattle.bits.specs.Order.{Octets}
 use Rattle.bits.specs.Part.{span, splice}
@@ -18,7 +19,7 @@ use Rattle.rules.specs.Frame.{Stream}
 use Rattle.rules.specs.Session.{Session}
 use Rattle.rules.specs.Table.{Place, empty, held}
 use Rattle.rules.specs.Tests.{pick}
-use Rattle.state.specs.Layout.{size, keyAt, countAt, expectedAt, toggleAt, timeAt, gatheredAt, sessionAt, placeAt, keyOf, streamOfKey}
+use Rattle.state.specs.Layout.{size, keyAt, countAt, expectedAt, toggleAt, timeAt, gatheredAt, sessionAt, placeAt, keyOf, streamOfKey, timesAt, streamKeysAt, controlsAt, bytesAt}
 use Rattle.state.specs.Place.{one, controlOf, withKey, withSession, withPlace}
 use Rattle.state.specs.Sound.{rawFits}
 use Rattle.state.proofs.Bools.{and-left, and-right}
@@ -29,24 +30,24 @@ use Rattle.state.proofs.View.{Clear, length-withKey, key-clear, length-
 -- what a place may be written with
 abbrev pub Few : Place → Type 0
 Few empty = Unit {0}
-Few (held d s) = length (s .gathered) ≤ 514
+Few (held d s) = length (s .gathered) ≤ gatheredMax
 
 -- a stream and a session that the layout can hold
 pub record Holdable (d : Stream) (s : Session) : Type 0 where
   pub some : keyOf d ≡ 0 → ⊥
   pub word : keyOf d < 4294967296
   pub stream : streamOfKey (keyOf d) ≡ d
-  pub few : length (s .gathered) ≤ 514
+  pub few : length (s .gathered) ≤ gatheredMax
   pub since : s .since < 2 ^ 64
 
 -- a part that no field of place i touches
 pub record Aside (i a n : ℕ) : Type 0 where
-  pub key : Clear (1032 + i * 4) 4 a n
-  pub control : Clear (1160 + i * 4) 4 a n
-  pub time : Clear (520 + i * 8) 8 a n
-  pub gathered : Clear (1288 + i * 514) 514 a n
+  pub key : Clear (streamKeysAt + i * 4) 4 a n
+  pub control : Clear (controlsAt + i * 4) 4 a n
+  pub time : Clear (timesAt + i * 8) 8 a n
+  pub gathered : Clear (bytesAt + i * gatheredMax) gatheredMax a n
 
-module _ (m : List ℕ) (i : ℕ) (long : size ≤ length m) (inTable : i < 32) where
+module _ (m : List ℕ) (i : ℕ) (long : size ≤ length m) (inTable : i < sessionsMax) where
   pub length-withPlace : (p : Place) → Few p → length (withPlace m i p) ≡ length m
   unfolding withPlace
   length-withPlace empty f = length-withKey i inTable m 0 long
@@ -63,8 +64,8 @@ module _ (m : List ℕ) (i : ℕ) (long : size ≤ length m) (inTable : i < 32) 
 
   -- ── another place ──
 
-  module _ (p : Place) (f : Few p) (j : ℕ) (inTableJ : j < 32) (other : i ≤ j → i < j) where
-    key-aside : Aside i (1032 + j * 4) 4
+  module _ (p : Place) (f : Few p) (j : ℕ) (inTableJ : j < sessionsMax) (other : i ≤ j → i < j) where
+    key-aside : Aside i (streamKeysAt + j * 4) 4
     key-aside = record {
       key = record { before = λ h. omega arith; behind = λ h. let l = other (omega arith) in omega arith };
       control = record { before = λ h. omega arith; behind = λ h. omega arith };
@@ -72,7 +73,7 @@ module _ (m : List ℕ) (i : ℕ) (long : size ≤ length m) (inTable : i < 32) 
       gathered = record { before = λ h. omega arith; behind = λ h. omega arith };
     }
 
-    control-aside : (b n : ℕ) → b < 4 → b + n ≤ 4 → Aside i (1160 + j * 4 + b) n
+    control-aside : (b n : ℕ) → b < 4 → b + n ≤ 4 → Aside i (controlsAt + j * 4 + b) n
     control-aside b n l c = record {
       key = record { before = λ h. omega arith; behind = λ h. omega arith };
       control = record { before = λ h. omega arith; behind = λ h. let o = other (omega arith) in omega arith };
@@ -80,7 +81,7 @@ module _ (m : List ℕ) (i : ℕ) (long : size ≤ length m) (inTable : i < 32) 
       gathered = record { before = λ h. omega arith; behind = λ h. omega arith };
     }
 
-    time-aside : Aside i (520 + j * 8) 8
+    time-aside : Aside i (timesAt + j * 8) 8
     time-aside = record {
       key = record { before = λ h. omega arith; behind = λ h. omega arith };
       control = record { before = λ h. omega arith; behind = λ h. omega arith };
@@ -88,7 +89,7 @@ module _ (m : List ℕ) (i : ℕ) (long : size ≤ length m) (inTable : i < 32) 
       gathered = record { before = λ h. omega arith; behind = λ h. omega arith };
     }
 
-    gathered-aside : (n : ℕ) → n ≤ 514 → Aside i (1288 + j * 514) n
+    gathered-aside : (n : ℕ) → n ≤ gatheredMax → Aside i (bytesAt + j * gatheredMax) n
     gathered-aside n l = record {
       key = record { before = λ h. omega arith; behind = λ h. omega arith };
       control = record { before = λ h. omega arith; behind = λ h. omega arith };
@@ -98,63 +99,63 @@ module _ (m : List ℕ) (i : ℕ) (long : size ≤ length m) (inTable : i < 32) 
 
     pub same-key-at : keyAt (withPlace m i p) j ≡ keyAt m j
     unfolding keyAt
-    same-key-at = ap le (aside p f (1032 + j * 4) 4 key-aside)
+    same-key-at = ap le (aside p f (streamKeysAt + j * 4) 4 key-aside)
 
     same-count : countAt (withPlace m i p) j ≡ countAt m j
     unfolding countAt
     same-count =
-        let z : 1160 + j * 4 ≡ 1160 + j * 4 + 0 = omega arith in
-        ap (λ (a : ℕ). le (span (withPlace m i p) a 2)) z ∙ ap le (aside p f (1160 + j * 4 + 0) 2 (control-aside 0 2 (omega arith) (omega arith)))
+        let z : controlsAt + j * 4 ≡ controlsAt + j * 4 + 0 = omega arith in
+        ap (λ (a : ℕ). le (span (withPlace m i p) a 2)) z ∙ ap le (aside p f (controlsAt + j * 4 + 0) 2 (control-aside 0 2 (omega arith) (omega arith)))
         ∙ ap (λ (a : ℕ). le (span m a 2)) (sym z)
 
-    same-byte : (b a : ℕ) → a ≡ 1160 + j * 4 + b → b < 4 → le (span (withPlace m i p) a 1) ≡ le (span m a 1)
+    same-byte : (b a : ℕ) → a ≡ controlsAt + j * 4 + b → b < 4 → le (span (withPlace m i p) a 1) ≡ le (span m a 1)
     same-byte b a z l =
-        ap (λ (x : ℕ). le (span (withPlace m i p) x 1)) z ∙ ap le (aside p f (1160 + j * 4 + b) 1 (control-aside b 1 l (omega arith)))
+        ap (λ (x : ℕ). le (span (withPlace m i p) x 1)) z ∙ ap le (aside p f (controlsAt + j * 4 + b) 1 (control-aside b 1 l (omega arith)))
         ∙ ap (λ (x : ℕ). le (span m x 1)) (sym z)
 
     same-expected : expectedAt (withPlace m i p) j ≡ expectedAt m j
     unfolding expectedAt
-    same-expected = same-byte 2 (1162 + j * 4) (omega arith) (omega arith)
+    same-expected = same-byte 2 (controlsAt + 2 + j * 4) (omega arith) (omega arith)
 
     same-toggle : toggleAt (withPlace m i p) j ≡ toggleAt m j
     unfolding toggleAt
-    same-toggle = same-byte 3 (1163 + j * 4) (omega arith) (omega arith)
+    same-toggle = same-byte 3 (controlsAt + 3 + j * 4) (omega arith) (omega arith)
 
     pub same-raw : rawFits (withPlace m i p) j ≡ rawFits m j
     unfolding rawFits
     same-raw = rw (same-key-at, same-count, same-toggle)
 
-    same-session : countAt m j ≤ 514 → sessionAt (withPlace m i p) j ≡ sessionAt m j
+    same-session : countAt m j ≤ gatheredMax → sessionAt (withPlace m i p) j ≡ sessionAt m j
     unfolding sessionAt timeAt gatheredAt
     same-session h =
         let e = same-expected in
-        let g : span (withPlace m i p) (1288 + j * 514) (countAt (withPlace m i p) j) ≡ span m (1288 + j * 514) (countAt m j) =
-        ap (span (withPlace m i p) (1288 + j * 514)) same-count ∙ aside p f (1288 + j * 514) (countAt m j) (gathered-aside (countAt m j) h) in
+        let g : span (withPlace m i p) (bytesAt + j * gatheredMax) (countAt (withPlace m i p) j) ≡ span m (bytesAt + j * gatheredMax) (countAt m j) =
+        ap (span (withPlace m i p) (bytesAt + j * gatheredMax)) same-count ∙ aside p f (bytesAt + j * gatheredMax) (countAt m j) (gathered-aside (countAt m j) h) in
         let t : eqb (toggleAt (withPlace m i p) j) 1 ≡ eqb (toggleAt m j) 1 = ap (λ (x : ℕ). eqb x 1) same-toggle in
-        let q : le (span (withPlace m i p) (520 + j * 8) 8) ≡ le (span m (520 + j * 8) 8) = ap le (aside p f (520 + j * 8) 8 time-aside) in
+        let q : le (span (withPlace m i p) (timesAt + j * 8) 8) ≡ le (span m (timesAt + j * 8) 8) = ap le (aside p f (timesAt + j * 8) 8 time-aside) in
         λ k. record { expected = e k; gathered = g k; toggle = t k; since = q k }
 
     pub same-place : rawFits m j ≡ true → placeAt (withPlace m i p) j ≡ placeAt m j
     unfolding placeAt rawFits
     same-place r = go (eqb (keyAt m j) 0) refl r where
-      go : (b : Bool) → eqb (keyAt m j) 0 ≡ b → (b || (leb (countAt m j) 514 && ltb (toggleAt m j) 2)) ≡ true
+      go : (b : Bool) → eqb (keyAt m j) 0 ≡ b → (b || (leb (countAt m j) gatheredMax && ltb (toggleAt m j) 2)) ≡ true
           → pick (eqb (keyAt (withPlace m i p) j) 0) empty (held (streamOfKey (keyAt (withPlace m i p) j)) (sessionAt (withPlace m i p) j))
           ≡ pick b empty (held (streamOfKey (keyAt m j)) (sessionAt m j))
       go true e h = rw (same-key-at, e)
-      go false e h = rw (same-key-at, e, same-session (leb-true (countAt m j) 514 (and-left (leb (countAt m j) 514) (ltb (toggleAt m j) 2) h)))
+      go false e h = rw (same-key-at, e, same-session (leb-true (countAt m j) gatheredMax (and-left (leb (countAt m j) gatheredMax) (ltb (toggleAt m j) 2) h)))
 
   -- ── the place itself ──
 
-  key-same : (k : ℕ) → span (withKey m i k) (1032 + i * 4) 4 ≡ leBytes 4 k
+  key-same : (k : ℕ) → span (withKey m i k) (streamKeysAt + i * 4) 4 ≡ leBytes 4 k
   unfolding withKey
-  key-same k = span-same m (1032 + i * 4) (leBytes 4 k) (omega (arith, length-leBytes 4 k)) 4 (sym (length-leBytes 4 k))
+  key-same k = span-same m (streamKeysAt + i * 4) (leBytes 4 k) (omega (arith, length-leBytes 4 k)) 4 (sym (length-leBytes 4 k))
 
   pub key-back : (d : Stream) (s : Session) → Holdable d s → keyAt (withPlace m i (held d s)) i ≡ keyOf d
   unfolding keyAt withPlace
   key-back d s w =
       let k = keyOf d in
       let l = length-withKey i inTable m k long in
-      ap le (session-clear i inTable s (w .few) (withKey m i k) (1032 + i * 4) 4 (omega arith)
+      ap le (session-clear i inTable s (w .few) (withKey m i k) (streamKeysAt + i * 4) 4 (omega arith)
       (record { before = λ h. omega arith; behind = λ h. omega arith }) (record { before = λ h. omega arith; behind = λ h. omega arith })
       (record { before = λ h. omega arith; behind = λ h. omega arith }))
       ∙ ap le (key-same k) ∙ le-leBytes 4 k (w .word)
@@ -178,7 +179,7 @@ module _ (m : List ℕ) (i : ℕ) (long : size ≤ length m) (inTable : i < 32) 
       let n = withKey m i (keyOf d) in
       let l : size ≤ length n = omega (arith, length-withKey i inTable m (keyOf d) long) in
       let k : keyAt (withSession n i s) i ≡ keyOf d = key-back d s w in
-      rw (k, ne-eqb (keyOf d) 0 (w .some), own-count i inTable s (w .few) n l, own-toggle i inTable s (w .few) n l, le-leb (length (s .gathered)) 514 (w .few), one-fits (s .toggle))
+      rw (k, ne-eqb (keyOf d) 0 (w .some), own-count i inTable s (w .few) n l, own-toggle i inTable s (w .few) n l, le-leb (length (s .gathered)) gatheredMax (w .few), one-fits (s .toggle))
 
   -- an empty place
   key-none : keyAt (withPlace m i empty) i ≡ 0
@@ -199,10 +200,10 @@ module _ (m : List ℕ) (i : ℕ) (long : size ≤ length m) (inTable : i < 32) 
     key-kept : (k : ℕ) → k ≡ keyAt m i → withKey m i k ≡ m
     unfolding withKey keyAt
     key-kept k e =
-        let l : length (span m (1032 + i * 4) 4) ≡ 4 = length-span m (1032 + i * 4) 4 (omega arith) in
-        let q : leBytes 4 k ≡ span m (1032 + i * 4) 4 =
-        ap₂ leBytes (sym l) e ∙ leBytes-le (span m (1032 + i * 4) 4) (octets-span m (1032 + i * 4) 4 bytes) in
-        splice-same m (1032 + i * 4) (leBytes 4 k) 4 (length-leBytes 4 k) q
+        let l : length (span m (streamKeysAt + i * 4) 4) ≡ 4 = length-span m (streamKeysAt + i * 4) 4 (omega arith) in
+        let q : leBytes 4 k ≡ span m (streamKeysAt + i * 4) 4 =
+        ap₂ leBytes (sym l) e ∙ leBytes-le (span m (streamKeysAt + i * 4) 4) (octets-span m (streamKeysAt + i * 4) 4 bytes) in
+        splice-same m (streamKeysAt + i * 4) (leBytes 4 k) 4 (length-leBytes 4 k) q
 
     one-byte : (a b : ℕ) → a < length m → b ≡ le (span m a 1) → b ∷ [] ≡ span m a 1
     one-byte a b h e = ap (λ (x : ℕ). x ∷ []) (e ∙ le-one m a h) ∙ sym (single a h) where
@@ -217,60 +218,60 @@ module _ (m : List ℕ) (i : ℕ) (long : size ≤ length m) (inTable : i < 32) 
     one-of (suc zero) h = refl
     one-of (suc (suc t)) h = absurd (omega arith)
 
-    expected-place : (a : ℕ) → 1162 + i * 4 ≡ a → expectedAt m i ≡ le (span m a 1)
+    expected-place : (a : ℕ) → controlsAt + 2 + i * 4 ≡ a → expectedAt m i ≡ le (span m a 1)
     unfolding expectedAt
     expected-place a e = ap (λ (x : ℕ). le (span m x 1)) e
 
-    toggle-place : (a : ℕ) → 1163 + i * 4 ≡ a → toggleAt m i ≡ le (span m a 1)
+    toggle-place : (a : ℕ) → controlsAt + 3 + i * 4 ≡ a → toggleAt m i ≡ le (span m a 1)
     unfolding toggleAt
     toggle-place a e = ap (λ (x : ℕ). le (span m x 1)) e
 
     -- the four control bytes are the count's two, the transfer ID and the toggle
-    control-kept : countAt m i ≤ 514 → toggleAt m i < 2 → controlOf (sessionAt m i) ≡ span m (1160 + i * 4) 4
+    control-kept : countAt m i ≤ gatheredMax → toggleAt m i < 2 → controlOf (sessionAt m i) ≡ span m (controlsAt + i * 4) 4
     unfolding controlOf sessionAt gatheredAt countAt
     control-kept h t =
-        let at = 1160 + i * 4 in
+        let at = controlsAt + i * 4 in
         let c = le (span m at 2) in
         let three : at + 2 + 1 ≡ at + 3 = omega arith in
-        let n : length (span m (1288 + i * 514) c) ≡ c = length-span m (1288 + i * 514) c (omega arith) in
+        let n : length (span m (bytesAt + i * gatheredMax) c) ≡ c = length-span m (bytesAt + i * gatheredMax) c (omega arith) in
         let l : length (span m at 2) ≡ 2 = length-span m at 2 (omega arith) in
-        let two : leBytes 2 (length (span m (1288 + i * 514) c)) ≡ span m at 2 = ap₂ leBytes (sym l) n ∙ leBytes-le (span m at 2) (octets-span m at 2 bytes) in
+        let two : leBytes 2 (length (span m (bytesAt + i * gatheredMax) c)) ≡ span m at 2 = ap₂ leBytes (sym l) n ∙ leBytes-le (span m at 2) (octets-span m at 2 bytes) in
         let e : expectedAt m i ∷ [] ≡ span m (at + 2) 1 = one-byte (at + 2) (expectedAt m i) (omega arith) (expected-place (at + 2) (omega arith)) in
         let g : one (eqb (toggleAt m i) 1) ∷ [] ≡ span m (at + 3) 1 = one-byte (at + 3) (one (eqb (toggleAt m i) 1)) (omega arith) (one-of (toggleAt m i) t ∙ toggle-place (at + 3) (omega arith)) in
         sym (cut at 2 2 ∙ ap (λ (x : List ℕ). span m at 2 ++ x) (cut (at + 2) 1 1 ∙ ap (λ (k : ℕ). span m (at + 2) 1 ++ span m k 1) three)
         ∙ sym (ap₂ (λ (x y : List ℕ). x ++ y) two (ap₂ (λ (x y : List ℕ). x ++ y) e g)))
 
-    time-kept : leBytes 8 (sessionAt m i .since) ≡ span m (520 + i * 8) 8
+    time-kept : leBytes 8 (sessionAt m i .since) ≡ span m (timesAt + i * 8) 8
     unfolding sessionAt timeAt
     time-kept =
-        let l : length (span m (520 + i * 8) 8) ≡ 8 = length-span m (520 + i * 8) 8 (omega arith) in
-        ap (λ (n : ℕ). leBytes n (le (span m (520 + i * 8) 8))) (sym l) ∙ leBytes-le (span m (520 + i * 8) 8) (octets-span m (520 + i * 8) 8 bytes)
+        let l : length (span m (timesAt + i * 8) 8) ≡ 8 = length-span m (timesAt + i * 8) 8 (omega arith) in
+        ap (λ (n : ℕ). leBytes n (le (span m (timesAt + i * 8) 8))) (sym l) ∙ leBytes-le (span m (timesAt + i * 8) 8) (octets-span m (timesAt + i * 8) 8 bytes)
 
-    gathered-kept : sessionAt m i .gathered ≡ span m (1288 + i * 514) (countAt m i)
+    gathered-kept : sessionAt m i .gathered ≡ span m (bytesAt + i * gatheredMax) (countAt m i)
     unfolding sessionAt gatheredAt
     gathered-kept = refl
 
-    gathered-length : countAt m i ≤ 514 → length (sessionAt m i .gathered) ≡ countAt m i
-    gathered-length h = ap length gathered-kept ∙ length-span m (1288 + i * 514) (countAt m i) (omega arith)
+    gathered-length : countAt m i ≤ gatheredMax → length (sessionAt m i .gathered) ≡ countAt m i
+    gathered-length h = ap length gathered-kept ∙ length-span m (bytesAt + i * gatheredMax) (countAt m i) (omega arith)
 
-    session-kept : countAt m i ≤ 514 → toggleAt m i < 2 → withSession m i (sessionAt m i) ≡ m
+    session-kept : countAt m i ≤ gatheredMax → toggleAt m i < 2 → withSession m i (sessionAt m i) ≡ m
     unfolding withSession
     session-kept h t =
         let s = sessionAt m i in
-        let l : length (controlOf s) ≡ 4 = ap length (control-kept h t) ∙ length-span m (1160 + i * 4) 4 (omega arith) in
-        let a : splice m (1160 + i * 4) (controlOf s) ≡ m = splice-same m (1160 + i * 4) (controlOf s) 4 l (control-kept h t) in
-        let b : splice m (520 + i * 8) (leBytes 8 (s .since)) ≡ m = splice-same m (520 + i * 8) (leBytes 8 (s .since)) 8 (length-leBytes 8 (s .since)) time-kept in
-        let c : splice m (1288 + i * 514) (s .gathered) ≡ m = splice-same m (1288 + i * 514) (s .gathered) (countAt m i) (gathered-length h) gathered-kept in
-        ap (λ (x : List ℕ). splice (splice x (520 + i * 8) (leBytes 8 (s .since))) (1288 + i * 514) (s .gathered)) a
-        ∙ ap (λ (x : List ℕ). splice x (1288 + i * 514) (s .gathered)) b ∙ c
+        let l : length (controlOf s) ≡ 4 = ap length (control-kept h t) ∙ length-span m (controlsAt + i * 4) 4 (omega arith) in
+        let a : splice m (controlsAt + i * 4) (controlOf s) ≡ m = splice-same m (controlsAt + i * 4) (controlOf s) 4 l (control-kept h t) in
+        let b : splice m (timesAt + i * 8) (leBytes 8 (s .since)) ≡ m = splice-same m (timesAt + i * 8) (leBytes 8 (s .since)) 8 (length-leBytes 8 (s .since)) time-kept in
+        let c : splice m (bytesAt + i * gatheredMax) (s .gathered) ≡ m = splice-same m (bytesAt + i * gatheredMax) (s .gathered) (countAt m i) (gathered-length h) gathered-kept in
+        ap (λ (x : List ℕ). splice (splice x (timesAt + i * 8) (leBytes 8 (s .since))) (bytesAt + i * gatheredMax) (s .gathered)) a
+        ∙ ap (λ (x : List ℕ). splice x (bytesAt + i * gatheredMax) (s .gathered)) b ∙ c
 
     pub place-kept : rawFits m i ≡ true → withPlace m i (placeAt m i) ≡ m
     unfolding placeAt rawFits withPlace
     place-kept r = go (eqb (keyAt m i) 0) refl r where
-      go : (b : Bool) → eqb (keyAt m i) 0 ≡ b → (b || (leb (countAt m i) 514 && ltb (toggleAt m i) 2)) ≡ true
+      go : (b : Bool) → eqb (keyAt m i) 0 ≡ b → (b || (leb (countAt m i) gatheredMax && ltb (toggleAt m i) 2)) ≡ true
           → withPlace m i (pick b empty (held (streamOfKey (keyAt m i)) (sessionAt m i))) ≡ m
       go true e h = key-kept 0 (sym (eqb-true (keyAt m i) 0 e))
       go false e h =
           let k : withKey m i (keyOf (streamOfKey (keyAt m i))) ≡ m = key-kept (keyOf (streamOfKey (keyAt m i))) (key-stream (keyAt m i) (key-lt m bytes long i inTable)) in
           ap (λ (x : List ℕ). withSession x i (sessionAt m i)) k
-          ∙ session-kept (leb-true (countAt m i) 514 (and-left (leb (countAt m i) 514) (ltb (toggleAt m i) 2) h)) (ltb-true (toggleAt m i) 2 (and-right (leb (countAt m i) 514) (ltb (toggleAt m i) 2) h))
+          ∙ session-kept (leb-true (countAt m i) gatheredMax (and-left (leb (countAt m i) gatheredMax) (ltb (toggleAt m i) 2) h)) (ltb-true (toggleAt m i) 2 (and-right (leb (countAt m i) gatheredMax) (ltb (toggleAt m i) 2) h))

@@ -7,11 +7,12 @@ use native.Mathlib.Omega.{arith}
 use lib.Dec.{eqb}
 use lib.ListN.{length, take, drop, length-append}
 use lib.Seq.{drop-drop, drop-at, take-at}
+use Rattle.rules.specs.Limits.{sessionsMax, gatheredMax}
 use Rattle.bits.specs.Little.{le, leBytes}
 use Rattle.bits.specs.Part.{span, splice}
 use Rattle.bits.proofs.Little.{length-leBytes, le-leBytes}
 use Rattle.bits.proofs.Splice.{length-splice, span-same, span-apart, span-inside}
-use Rattle.state.specs.Layout.{size}
+use Rattle.state.specs.Layout.{size, timesAt, streamKeysAt, controlsAt, bytesAt}
 use Rattle.state.specs.Layout.{countAt, expectedAt, toggleAt, timeAt, gatheredAt, sessionAt}
 use Rattle.state.specs.Place.{one, controlOf, withKey, withSession}
 use Rattle.rules.specs.Session.{Session}
@@ -27,24 +28,24 @@ pub record Clear (at w a n : ℕ) : Type 0 where
   pub before : a < at → a + n ≤ at
   pub behind : at ≤ a → at + w ≤ a
 
-module _ (i : ℕ) (inTable : i < 32) where
+module _ (i : ℕ) (inTable : i < sessionsMax) where
   pub length-withKey : (m : List ℕ) (k : ℕ) → size ≤ length m → length (withKey m i k) ≡ length m
   unfolding withKey
-  length-withKey m k h = length-splice m (1032 + i * 4) (leBytes 4 k) (omega (arith, length-leBytes 4 k))
+  length-withKey m k h = length-splice m (streamKeysAt + i * 4) (leBytes 4 k) (omega (arith, length-leBytes 4 k))
 
-  pub key-clear : (m : List ℕ) (k a n : ℕ) → size ≤ length m → Clear (1032 + i * 4) 4 a n → span (withKey m i k) a n ≡ span m a n
+  pub key-clear : (m : List ℕ) (k a n : ℕ) → size ≤ length m → Clear (streamKeysAt + i * 4) 4 a n → span (withKey m i k) a n ≡ span m a n
   unfolding withKey
   key-clear m k a n h c =
       let l = length-leBytes 4 k in
-      span-apart m (1032 + i * 4) (leBytes 4 k) a n (omega arith) (c .before) (λ b. let q = c .behind b in omega arith)
+      span-apart m (streamKeysAt + i * 4) (leBytes 4 k) a n (omega arith) (c .before) (λ b. let q = c .behind b in omega arith)
 
-  module _ (s : Session) (few : length (s .gathered) ≤ 514) where
+  module _ (s : Session) (few : length (s .gathered) ≤ gatheredMax) where
     -- after the control field, and after the time
     abbrev first : List ℕ → List ℕ
-    first m = splice m (1160 + i * 4) (controlOf s)
+    first m = splice m (controlsAt + i * 4) (controlOf s)
 
     abbrev second : List ℕ → List ℕ
-    second m = splice (first m) (520 + i * 8) (leBytes 8 (s .since))
+    second m = splice (first m) (timesAt + i * 8) (leBytes 8 (s .since))
 
     record Widths (m : List ℕ) : Type 0 where
       control : length (controlOf s) ≡ 4
@@ -56,44 +57,44 @@ module _ (i : ℕ) (inTable : i < 32) where
     widths m h =
         let c = length-control s in
         let t = length-leBytes 8 (s .since) in
-        let l₁ : length (first m) ≡ length m = length-splice m (1160 + i * 4) (controlOf s) (omega arith) in
-        record { control = c; time = t; long₁ = l₁; long₂ = length-splice (first m) (520 + i * 8) (leBytes 8 (s .since)) (omega arith) ∙ l₁ }
+        let l₁ : length (first m) ≡ length m = length-splice m (controlsAt + i * 4) (controlOf s) (omega arith) in
+        record { control = c; time = t; long₁ = l₁; long₂ = length-splice (first m) (timesAt + i * 8) (leBytes 8 (s .since)) (omega arith) ∙ l₁ }
 
     pub length-withSession : (m : List ℕ) → size ≤ length m → length (withSession m i s) ≡ length m
     unfolding withSession
-    length-withSession m h = let w = widths m h in length-splice (second m) (1288 + i * 514) (s .gathered) (omega arith) ∙ w .long₂
+    length-withSession m h = let w = widths m h in length-splice (second m) (bytesAt + i * gatheredMax) (s .gathered) (omega arith) ∙ w .long₂
 
-    pub session-clear : (m : List ℕ) (a n : ℕ) → size ≤ length m → Clear (1160 + i * 4) 4 a n → Clear (520 + i * 8) 8 a n → Clear (1288 + i * 514) 514 a n
+    pub session-clear : (m : List ℕ) (a n : ℕ) → size ≤ length m → Clear (controlsAt + i * 4) 4 a n → Clear (timesAt + i * 8) 8 a n → Clear (bytesAt + i * gatheredMax) gatheredMax a n
         → span (withSession m i s) a n ≡ span m a n
     unfolding withSession
     session-clear m a n h x y z =
         let w = widths m h in
-        span-apart (second m) (1288 + i * 514) (s .gathered) a n (omega arith) (z .before) (λ b. let q = z .behind b in omega arith)
-        ∙ span-apart (first m) (520 + i * 8) (leBytes 8 (s .since)) a n (omega arith) (y .before) (λ b. let q = y .behind b in omega arith)
-        ∙ span-apart m (1160 + i * 4) (controlOf s) a n (omega arith) (x .before) (λ b. let q = x .behind b in omega arith)
+        span-apart (second m) (bytesAt + i * gatheredMax) (s .gathered) a n (omega arith) (z .before) (λ b. let q = z .behind b in omega arith)
+        ∙ span-apart (first m) (timesAt + i * 8) (leBytes 8 (s .since)) a n (omega arith) (y .before) (λ b. let q = y .behind b in omega arith)
+        ∙ span-apart m (controlsAt + i * 4) (controlOf s) a n (omega arith) (x .before) (λ b. let q = x .behind b in omega arith)
 
     -- ── the place's own fields are read back ──
 
-    own-control : (m : List ℕ) (b n : ℕ) → size ≤ length m → b + n ≤ 4 → span (withSession m i s) (1160 + i * 4 + b) n ≡ span (controlOf s) b n
+    own-control : (m : List ℕ) (b n : ℕ) → size ≤ length m → b + n ≤ 4 → span (withSession m i s) (controlsAt + i * 4 + b) n ≡ span (controlOf s) b n
     unfolding withSession
     own-control m b n h l =
         let w = widths m h in
-        span-apart (second m) (1288 + i * 514) (s .gathered) (1160 + i * 4 + b) n (omega arith) (λ x. omega arith) (λ x. omega arith)
-        ∙ span-apart (first m) (520 + i * 8) (leBytes 8 (s .since)) (1160 + i * 4 + b) n (omega arith) (λ x. omega arith) (λ x. omega arith)
-        ∙ span-inside m (1160 + i * 4) (controlOf s) b n (omega arith) (omega arith)
+        span-apart (second m) (bytesAt + i * gatheredMax) (s .gathered) (controlsAt + i * 4 + b) n (omega arith) (λ x. omega arith) (λ x. omega arith)
+        ∙ span-apart (first m) (timesAt + i * 8) (leBytes 8 (s .since)) (controlsAt + i * 4 + b) n (omega arith) (λ x. omega arith) (λ x. omega arith)
+        ∙ span-inside m (controlsAt + i * 4) (controlOf s) b n (omega arith) (omega arith)
 
-    own-time : (m : List ℕ) → size ≤ length m → span (withSession m i s) (520 + i * 8) 8 ≡ leBytes 8 (s .since)
+    own-time : (m : List ℕ) → size ≤ length m → span (withSession m i s) (timesAt + i * 8) 8 ≡ leBytes 8 (s .since)
     unfolding withSession
     own-time m h =
         let w = widths m h in
-        span-apart (second m) (1288 + i * 514) (s .gathered) (520 + i * 8) 8 (omega arith) (λ x. omega arith) (λ x. omega arith)
-        ∙ span-same (first m) (520 + i * 8) (leBytes 8 (s .since)) (omega arith) 8 (omega arith)
+        span-apart (second m) (bytesAt + i * gatheredMax) (s .gathered) (timesAt + i * 8) 8 (omega arith) (λ x. omega arith) (λ x. omega arith)
+        ∙ span-same (first m) (timesAt + i * 8) (leBytes 8 (s .since)) (omega arith) 8 (omega arith)
 
-    own-gathered : (m : List ℕ) → size ≤ length m → span (withSession m i s) (1288 + i * 514) (length (s .gathered)) ≡ s .gathered
+    own-gathered : (m : List ℕ) → size ≤ length m → span (withSession m i s) (bytesAt + i * gatheredMax) (length (s .gathered)) ≡ s .gathered
     unfolding withSession
     own-gathered m h =
         let w = widths m h in
-        span-same (second m) (1288 + i * 514) (s .gathered) (omega arith) (length (s .gathered)) refl
+        span-same (second m) (bytesAt + i * gatheredMax) (s .gathered) (omega arith) (length (s .gathered)) refl
 
     one-back : (b : Bool) → eqb (one b) 1 ≡ b
     one-back true = refl
@@ -103,12 +104,12 @@ module _ (i : ℕ) (inTable : i < 32) where
       pub own-count : countAt (withSession m i s) i ≡ length (s .gathered)
       unfolding countAt controlOf
       own-count =
-          let z : 1160 + i * 4 ≡ 1160 + i * 4 + 0 = omega arith in
+          let z : controlsAt + i * 4 ≡ controlsAt + i * 4 + 0 = omega arith in
           let n = length (s .gathered) in
           ap (λ (k : ℕ). le (span (withSession m i s) k 2)) z ∙ ap le (own-control m 0 2 long (omega arith))
           ∙ ap le (take-at (leBytes 2 n) (s .expected ∷ one (s .toggle) ∷ []) 2 (length-leBytes 2 n)) ∙ le-leBytes 2 n (omega arith)
 
-      own-byte : (b : ℕ) (x : ℕ) → b < 4 → span (controlOf s) b 1 ≡ x ∷ [] → le (span (withSession m i s) (1160 + i * 4 + b) 1) ≡ x
+      own-byte : (b : ℕ) (x : ℕ) → b < 4 → span (controlOf s) b 1 ≡ x ∷ [] → le (span (withSession m i s) (controlsAt + i * 4 + b) 1) ≡ x
       unfolding le
       own-byte b x h e = ap le (own-control m b 1 long (omega arith) ∙ e) ∙ omega arith
 
@@ -123,21 +124,21 @@ module _ (i : ℕ) (inTable : i < 32) where
       own-expected : expectedAt (withSession m i s) i ≡ s .expected
       unfolding expectedAt
       own-expected =
-          let z : 1162 + i * 4 ≡ 1160 + i * 4 + 2 = omega arith in
+          let z : controlsAt + 2 + i * 4 ≡ controlsAt + i * 4 + 2 = omega arith in
           ap (λ (k : ℕ). le (span (withSession m i s) k 1)) z ∙ own-byte 2 (s .expected) (omega arith) (tail-at 0 (s .expected) refl (omega arith))
 
       pub own-toggle : toggleAt (withSession m i s) i ≡ one (s .toggle)
       unfolding toggleAt
       own-toggle =
-          let z : 1163 + i * 4 ≡ 1160 + i * 4 + 3 = omega arith in
+          let z : controlsAt + 3 + i * 4 ≡ controlsAt + i * 4 + 3 = omega arith in
           ap (λ (k : ℕ). le (span (withSession m i s) k 1)) z ∙ own-byte 3 (one (s .toggle)) (omega arith) (tail-at 1 (one (s .toggle)) refl (omega arith))
 
       pub session-back : s .since < 2 ^ 64 → sessionAt (withSession m i s) i ≡ s
       unfolding sessionAt timeAt gatheredAt
       session-back h =
           let e = own-expected in
-          let g : span (withSession m i s) (1288 + i * 514) (countAt (withSession m i s) i) ≡ s .gathered =
-          ap (span (withSession m i s) (1288 + i * 514)) own-count ∙ own-gathered m long in
+          let g : span (withSession m i s) (bytesAt + i * gatheredMax) (countAt (withSession m i s) i) ≡ s .gathered =
+          ap (span (withSession m i s) (bytesAt + i * gatheredMax)) own-count ∙ own-gathered m long in
           let t : eqb (toggleAt (withSession m i s) i) 1 ≡ s .toggle = ap (λ (x : ℕ). eqb x 1) own-toggle ∙ one-back (s .toggle) in
-          let q : le (span (withSession m i s) (520 + i * 8) 8) ≡ s .since = ap le (own-time m long) ∙ le-leBytes 8 (s .since) h in
+          let q : le (span (withSession m i s) (timesAt + i * 8) 8) ≡ s .since = ap le (own-time m long) ∙ le-leBytes 8 (s .since) h in
           λ j. record { expected = e j; gathered = g j; toggle = t j; since = q j }

@@ -8,16 +8,17 @@ use borrow.Author.Tests.{leb-true}
 use lib.Dec.{leb, ltb}
 use lib.ListN.{length, drop, getD, length-drop}
 use lib.Seq.{take-all}
+use Rattle.rules.specs.Limits.{sessionsMax, subscriptionsMax}
 use Rattle.bits.specs.Little.{le}
 use Rattle.bits.specs.Order.{Octets}
 use Rattle.bits.specs.Part.{span}
 use Rattle.bits.proofs.Little.{le-one}
 use Rattle.rules.specs.Setup.{allFit, acceptable}
 use Rattle.rules.specs.Table.{Place, empty, held, Places}
-use Rattle.bits.specs.Tabulate.{tabulate}
-use Rattle.state.specs.Layout.{size, subscriptionKeyAt, subscriptionAt, setupOf, placeAt, placesOf}
+use Rattle.bits.specs.Tabulate.{tabulate, every}
+use Rattle.state.specs.Layout.{size, subscriptionKeyAt, subscriptionAt, setupOf, placeAt, placesOf, signaturesAt, timesAt, subscriptionKeysAt, streamKeysAt, ownAt, subscriptionCountAt}
 use Rattle.state.specs.Place.{withPlace, written}
-use Rattle.state.specs.Sound.{every, rawFits}
+use Rattle.state.specs.Sound.{rawFits}
 use Rattle.state.proofs.Bools.{and-left, and-right}
 use Rattle.state.proofs.Places.{Few, Holdable, Aside, aside, length-withPlace, same-raw, same-place, place-back, raw-back, empty-back, raw-empty}
 use Rattle.state.proofs.Table.{Plain, octets-withPlace}
@@ -46,7 +47,7 @@ few : (p : Place) → Storable p → Few p
 few empty h = tt
 few (held d s) h = h .few
 
-module _ (m : List ℕ) (i : ℕ) (long : size ≤ length m) (inTable : i < 32) where
+module _ (m : List ℕ) (i : ℕ) (long : size ≤ length m) (inTable : i < sessionsMax) where
   back : (p : Place) → Storable p → placeAt (withPlace m i p) i ≡ p
   back empty h = empty-back m i long inTable
   back (held d s) h = place-back m i long inTable d s h
@@ -58,7 +59,7 @@ module _ (m : List ℕ) (i : ℕ) (long : size ≤ length m) (inTable : i < 32) 
 -- the places from j on are written
 record Writes (m : List ℕ) (j : ℕ) (ps : Places) : Type 0 where
   long : size ≤ length m
-  inTable : j + length ps ≤ 32
+  inTable : j + length ps ≤ sessionsMax
   storable : AllStorable ps
 
 -- those behind the first
@@ -75,11 +76,11 @@ length-from (p ∷ ps) m j w =
     length-from ps (withPlace m j p) (suc j) (behind m j p ps w)
     ∙ length-withPlace m j (w .long) (omega (arith, w .inTable)) p (few p (w .storable .0))
 
-aside-from : (ps : Places) (m : List ℕ) (j : ℕ) → Writes m j ps → (a n : ℕ) → ((i : ℕ) → i < 32 → Aside i a n) → span (written m j ps) a n ≡ span m a n
+aside-from : (ps : Places) (m : List ℕ) (j : ℕ) → Writes m j ps → (a n : ℕ) → ((i : ℕ) → i < sessionsMax → Aside i a n) → span (written m j ps) a n ≡ span m a n
 unfolding written
 aside-from [] m j w a n c = refl
 aside-from (p ∷ ps) m j w a n c =
-    let h : j < 32 = omega (arith, w .inTable) in
+    let h : j < sessionsMax = omega (arith, w .inTable) in
     aside-from ps (withPlace m j p) (suc j) (behind m j p ps w) a n c ∙ aside m j (w .long) h p (few p (w .storable .0)) a n (c j h)
 
 -- a place before those that are written
@@ -92,7 +93,7 @@ unfolding written
 before [] m j l w h r = record { place = refl; raw = r }
 before (p ∷ ps) m j l w h r =
     let f = few p (w .storable .0) in
-    let k : j < 32 = omega (arith, w .inTable) in
+    let k : j < sessionsMax = omega (arith, w .inTable) in
     let q = before ps (withPlace m j p) (suc j) l (behind m j p ps w) (omega arith) (same-raw m j (w .long) k p f l (omega arith) (λ x. omega arith) ∙ r) in
     record { place = q .place ∙ same-place m j (w .long) k p f l (omega arith) (λ x. omega arith) r; raw = q .raw }
 
@@ -100,7 +101,7 @@ view-from : (ps : Places) (m : List ℕ) (j : ℕ) → Writes m j ps → tabulat
 unfolding written tabulate
 view-from [] m j w = refl
 view-from (p ∷ ps) m j w =
-    let h : j < 32 = omega (arith, w .inTable) in
+    let h : j < sessionsMax = omega (arith, w .inTable) in
     let s = w .storable .0 in
     let v = behind m j p ps w in
     ap₂ (λ (x : Place) (xs : Places). x ∷ xs)
@@ -111,13 +112,13 @@ raw-from : (ps : Places) (m : List ℕ) (j : ℕ) → Writes m j ps → every (r
 unfolding written every
 raw-from [] m j w = refl
 raw-from (p ∷ ps) m j w =
-    let h : j < 32 = omega (arith, w .inTable) in
+    let h : j < sessionsMax = omega (arith, w .inTable) in
     let v = behind m j p ps w in
     ap₂ (λ (x y : Bool). x && y)
     (before ps (withPlace m j p) (suc j) j v (omega arith) (back-raw m j (w .long) h p (w .storable .0)) .raw)
     (raw-from ps (withPlace m j p) (suc j) v)
 
--- ── all 32 places ──
+-- ── all places ──
 
 -- a part before a field, and one past it
 ahead : {at w a n : ℕ} → a < at → a + n ≤ at → Clear at w a n
@@ -126,17 +127,17 @@ ahead h k = record { before = λ x. k; behind = λ x. omega arith }
 past : {at w a n : ℕ} → at + w ≤ a → Clear at w a n
 past h = record { before = λ x. omega arith; behind = λ x. h }
 
-few-subscriptions : (m : List ℕ) → acceptable (setupOf m) ≡ true → getD m 1 0 ≤ 64
+few-subscriptions : (m : List ℕ) → acceptable (setupOf m) ≡ true → getD m subscriptionCountAt 0 ≤ subscriptionsMax
 unfolding acceptable setupOf
 few-subscriptions m e =
-    let xs = tabulate (subscriptionAt m) 0 (getD m 1 0) in
+    let xs = tabulate (subscriptionAt m) 0 (getD m subscriptionCountAt 0) in
     omega (
       arith,
-      leb-true (length xs) 64 (and-left (leb (length xs) 64) (allFit xs) (and-right (ltb (getD m 0 0) 128) (leb (length xs) 64 && allFit xs) e)),
-      length-tabulate (subscriptionAt m) 0 (getD m 1 0),
+      leb-true (length xs) subscriptionsMax (and-left (leb (length xs) subscriptionsMax) (allFit xs) (and-right (ltb (getD m ownAt 0) 128) (leb (length xs) subscriptionsMax && allFit xs) e)),
+      length-tabulate (subscriptionAt m) 0 (getD m subscriptionCountAt 0),
     )
 
-module _ (m : List ℕ) (ps : Places) (long : size ≤ length m) (whole : length ps ≡ 32) (storable : AllStorable ps) where
+module _ (m : List ℕ) (ps : Places) (long : size ≤ length m) (whole : length ps ≡ sessionsMax) (storable : AllStorable ps) where
   w : Writes m 0 ps
   w = record { long = long; inTable = omega arith; storable = storable }
 
@@ -147,11 +148,11 @@ module _ (m : List ℕ) (ps : Places) (long : size ≤ length m) (whole : length
   unfolding placesOf
   view-written = ap (tabulate (placeAt (written m 0 ps)) 0) (sym whole) ∙ view-from ps m 0 w
 
-  pub raw-written : every (rawFits (written m 0 ps)) 0 32 ≡ true
+  pub raw-written : every (rawFits (written m 0 ps)) 0 sessionsMax ≡ true
   raw-written = ap (every (rawFits (written m 0 ps)) 0) (sym whole) ∙ raw-from ps m 0 w
 
   -- before the times, between the times and the keys of the places, and past all
-  low : (a n : ℕ) → a < 520 → a + n ≤ 520 → span (written m 0 ps) a n ≡ span m a n
+  low : (a n : ℕ) → a < timesAt → a + n ≤ timesAt → span (written m 0 ps) a n ≡ span m a n
   low a n l h = aside-from ps m 0 w a n (λ i k. record {
     key = ahead (omega arith) (omega arith);
     control = ahead (omega arith) (omega arith);
@@ -159,7 +160,7 @@ module _ (m : List ℕ) (ps : Places) (long : size ≤ length m) (whole : length
     gathered = ahead (omega arith) (omega arith);
   })
 
-  middle : (a n : ℕ) → 776 ≤ a → a < 1032 → a + n ≤ 1032 → span (written m 0 ps) a n ≡ span m a n
+  middle : (a n : ℕ) → subscriptionKeysAt ≤ a → a < streamKeysAt → a + n ≤ streamKeysAt → span (written m 0 ps) a n ≡ span m a n
   middle a n l b h = aside-from ps m 0 w a n (λ i k. record {
     key = ahead (omega arith) (omega arith);
     control = ahead (omega arith) (omega arith);
@@ -178,21 +179,21 @@ module _ (m : List ℕ) (ps : Places) (long : size ≤ length m) (whole : length
       sym (take-all n (drop size (written m 0 ps)) (omega (arith, length-drop size (written m 0 ps))))
       ∙ high n ∙ take-all n (drop size m) (omega (arith, length-drop size m))
 
-  byte : (a : ℕ) → a < 520 → getD (written m 0 ps) a 0 ≡ getD m a 0
+  byte : (a : ℕ) → a < timesAt → getD (written m 0 ps) a 0 ≡ getD m a 0
   byte a h =
       let l = length-written in
       sym (le-one (written m 0 ps) a (omega arith)) ∙ ap le (low a 1 h (omega arith)) ∙ le-one m a (omega arith)
 
-  subscription : (j : ℕ) → j < 64 → subscriptionAt (written m 0 ps) j ≡ subscriptionAt m j
+  subscription : (j : ℕ) → j < subscriptionsMax → subscriptionAt (written m 0 ps) j ≡ subscriptionAt m j
   unfolding subscriptionAt subscriptionKeyAt
-  subscription j h = rw (middle (776 + j * 4) 4 (omega arith) (omega arith) (omega arith), low (8 + j * 8) 8 (omega arith) (omega arith))
+  subscription j h = rw (middle (subscriptionKeysAt + j * 4) 4 (omega arith) (omega arith) (omega arith), low (signaturesAt + j * 8) 8 (omega arith) (omega arith))
 
   pub setup-written : acceptable (setupOf m) ≡ true → setupOf (written m 0 ps) ≡ setupOf m
   unfolding setupOf
   setup-written ok =
       let f = few-subscriptions m ok in
-      let o = byte 0 (omega arith) in
-      let s : tabulate (subscriptionAt (written m 0 ps)) 0 (getD (written m 0 ps) 1 0) ≡ tabulate (subscriptionAt m) 0 (getD m 1 0) =
-      ap (tabulate (subscriptionAt (written m 0 ps)) 0) (byte 1 (omega arith))
-      ∙ tab-same (subscriptionAt (written m 0 ps)) (subscriptionAt m) (getD m 1 0) 0 (λ l a b. subscription l (omega arith)) in
+      let o = byte ownAt (omega arith) in
+      let s : tabulate (subscriptionAt (written m 0 ps)) 0 (getD (written m 0 ps) subscriptionCountAt 0) ≡ tabulate (subscriptionAt m) 0 (getD m subscriptionCountAt 0) =
+      ap (tabulate (subscriptionAt (written m 0 ps)) 0) (byte subscriptionCountAt (omega arith))
+      ∙ tab-same (subscriptionAt (written m 0 ps)) (subscriptionAt m) (getD m subscriptionCountAt 0) 0 (λ l a b. subscription l (omega arith)) in
       λ i. record { own = o i; subscriptions = s i }

@@ -7,46 +7,80 @@ use Rattle.bits.specs.Little.{le}
 use Rattle.bits.specs.Part.{span}
 use Rattle.bits.specs.Tabulate.{tabulate}
 use Rattle.rules.specs.Frame.{Stream}
+use Rattle.rules.specs.Limits.{sessionsMax, subscriptionsMax, gatheredMax}
 use Rattle.rules.specs.Session.{Session}
 use Rattle.rules.specs.Setup.{Subscription, Setup}
 use Rattle.rules.specs.Table.{Place, empty, held, Places}
 use Rattle.rules.specs.Tests.{pick}
 
+-- ── where each part starts; src/layout.rt has the same for the code ──
+
+-- the own node ID and the number of subscriptions; six bytes are unused
+abbrev pub ownAt : ℕ
+ownAt = 0
+
+abbrev pub subscriptionCountAt : ℕ
+subscriptionCountAt = 1
+
+-- signatures of the subscriptions
+abbrev pub signaturesAt : ℕ
+signaturesAt = 8
+
+-- times of the sessions
+abbrev pub timesAt : ℕ
+timesAt = signaturesAt + subscriptionsMax * 8
+
+-- kinds and types of the subscriptions
+abbrev pub subscriptionKeysAt : ℕ
+subscriptionKeysAt = timesAt + sessionsMax * 8
+
+-- streams of the sessions
+abbrev pub streamKeysAt : ℕ
+streamKeysAt = subscriptionKeysAt + subscriptionsMax * 4
+
+-- of each session the number of bytes in hand (2), the expected transfer ID (1) and the toggle (1)
+abbrev pub controlsAt : ℕ
+controlsAt = streamKeysAt + sessionsMax * 4
+
+-- gathered bytes of the sessions
+abbrev pub bytesAt : ℕ
+bytesAt = controlsAt + sessionsMax * 4
+
 -- the bytes of the whole layout
 abbrev pub size : ℕ
-size = 17736
+size = bytesAt + sessionsMax * gatheredMax
 
 -- ── the setup: own ID, number of subscriptions, signatures, kinds and types ──
 
 unfoldable pub subscriptionKeyAt : List ℕ → ℕ → ℕ
-subscriptionKeyAt m j = le (span m (776 + j * 4) 4)
+subscriptionKeyAt m j = le (span m (subscriptionKeysAt + j * 4) 4)
 
 unfoldable pub subscriptionAt : List ℕ → ℕ → Subscription
 subscriptionAt m j =
-    record { kind = subscriptionKeyAt m j / 65536; type = subscriptionKeyAt m j % 65536; signature = le (span m (8 + j * 8) 8) }
+    record { kind = subscriptionKeyAt m j / 65536; type = subscriptionKeyAt m j % 65536; signature = le (span m (signaturesAt + j * 8) 8) }
 
 unfoldable pub setupOf : List ℕ → Setup
-setupOf m = record { own = getD m 0 0; subscriptions = tabulate (subscriptionAt m) 0 (getD m 1 0) }
+setupOf m = record { own = getD m ownAt 0; subscriptions = tabulate (subscriptionAt m) 0 (getD m subscriptionCountAt 0) }
 
 -- ── the places: times, stream keys, counts of bytes in hand, expected IDs, toggles, gathered bytes ──
 
 unfoldable pub timeAt : List ℕ → ℕ → ℕ
-timeAt m i = le (span m (520 + i * 8) 8)
+timeAt m i = le (span m (timesAt + i * 8) 8)
 
 unfoldable pub keyAt : List ℕ → ℕ → ℕ
-keyAt m i = le (span m (1032 + i * 4) 4)
+keyAt m i = le (span m (streamKeysAt + i * 4) 4)
 
 unfoldable pub countAt : List ℕ → ℕ → ℕ
-countAt m i = le (span m (1160 + i * 4) 2)
+countAt m i = le (span m (controlsAt + i * 4) 2)
 
 unfoldable pub expectedAt : List ℕ → ℕ → ℕ
-expectedAt m i = le (span m (1162 + i * 4) 1)
+expectedAt m i = le (span m (controlsAt + 2 + i * 4) 1)
 
 unfoldable pub toggleAt : List ℕ → ℕ → ℕ
-toggleAt m i = le (span m (1163 + i * 4) 1)
+toggleAt m i = le (span m (controlsAt + 3 + i * 4) 1)
 
 unfoldable pub gatheredAt : List ℕ → ℕ → List ℕ
-gatheredAt m i = span m (1288 + i * 514) (countAt m i)
+gatheredAt m i = span m (bytesAt + i * gatheredMax) (countAt m i)
 
 -- a stream as 32 bits; 0 is no stream, since a session's source is never 0
 unfoldable pub keyOf : Stream → ℕ
@@ -62,4 +96,4 @@ unfoldable pub placeAt : List ℕ → ℕ → Place
 placeAt m i = pick (eqb (keyAt m i) 0) empty (held (streamOfKey (keyAt m i)) (sessionAt m i))
 
 unfoldable pub placesOf : List ℕ → Places
-placesOf m = tabulate (placeAt m) 0 32
+placesOf m = tabulate (placeAt m) 0 sessionsMax

@@ -1,5 +1,3 @@
 pub mod Layout
 pub mod Place
 pub mod Sound
-pub mod Scan
-pub mod Subscription

@@ -3,11 +3,12 @@ use mathlib.Core.Bool.{Bool, true, false}
 use mathlib.Core.List.{List, [], _∷_, _++_}
 use Prim.Native.Nat.{ℕ, suc, _+_, _*_}
 use lib.ListN.{length}
+use Rattle.rules.specs.Limits.{gatheredMax}
 use Rattle.bits.specs.Little.{leBytes}
 use Rattle.bits.specs.Part.{splice}
 use Rattle.rules.specs.Session.{Session}
 use Rattle.rules.specs.Table.{Place, empty, held, Places}
-use Rattle.state.specs.Layout.{keyOf}
+use Rattle.state.specs.Layout.{keyOf, timesAt, streamKeysAt, controlsAt, bytesAt}
 
 abbrev pub one : Bool → ℕ
 one true = 1
@@ -18,11 +19,11 @@ unfoldable pub controlOf : Session → List ℕ
 controlOf s = leBytes 2 (length (s .gathered)) ++ (s .expected ∷ one (s .toggle) ∷ [])
 
 unfoldable pub withKey : List ℕ → ℕ → ℕ → List ℕ
-withKey m i k = splice m (1032 + i * 4) (leBytes 4 k)
+withKey m i k = splice m (streamKeysAt + i * 4) (leBytes 4 k)
 
 unfoldable pub withSession : List ℕ → ℕ → Session → List ℕ
 withSession m i s =
-    splice (splice (splice m (1160 + i * 4) (controlOf s)) (520 + i * 8) (leBytes 8 (s .since))) (1288 + i * 514) (s .gathered)
+    splice (splice (splice m (controlsAt + i * 4) (controlOf s)) (timesAt + i * 8) (leBytes 8 (s .since))) (bytesAt + i * gatheredMax) (s .gathered)
 
 unfoldable pub withPlace : List ℕ → ℕ → Place → List ℕ
 withPlace m i empty = withKey m i 0

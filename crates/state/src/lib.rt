@@ -1,5 +1,2 @@
-// The receiver's state in lent bytes: its layout, one place of its table, finding one, and the faults that answer 20.
-pub mod place;
-pub mod scan;
-pub mod sound;
-pub mod subscription;
+// The layout of a receiver's state in lent bytes. `subscriptions` and `sessions` have the code that reads and writes it.
+pub mod layout;

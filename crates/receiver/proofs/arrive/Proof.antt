@@ -27,8 +27,8 @@ use Rattle.rules.specs.Tests.{pick}
 use Rattle.session.specs.Session.{parsedOf}
 use Rattle.state.specs.Layout.{setupOf, placesOf}
 use Rattle.state.specs.Sound.{soundState}
-use Rattle.state.specs.Subscription.{asked}
-use Rattle.state.specs.declared.subscription.Subscribed.{Subscribed}
+use Rattle.subscriptions.specs.inside.Subscription.{asked}
+use Rattle.subscriptions.specs.declared.Subscribed.{Subscribed}
 use Rattle.state.proofs.Faultless.{long}
 use borrow.Author.Needs.{needs}
 use Rattle.receiver.proofs.arrive.Statement.{statement}

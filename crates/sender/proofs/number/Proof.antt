@@ -7,7 +7,7 @@ use lib.ListN.{length}
 use Rattle.bits.specs.Order.{Octets}
 use Rattle.bits.specs.Part.{splice}
 use Rattle.bits.proofs.Octets.{octets-all}
-use Rattle.id_map.specs.Find.{placeOr32}
+use Rattle.id_map.specs.inside.Find.{placeOr32}
 use Rattle.id_map.specs.Layout.{size, mapOf, slotAt, withSlot}
 use Rattle.id_map.proofs.Soundness.{long-enough}
 use Rattle.rules.specs.Map as rules

@@ -1,6 +1,7 @@
 -- `key` meets its contract.
 use Prim.Native.Nat.{_*_}
 use native.Mathlib.Omega.{arith}
+use Rattle.rules.specs.Limits.{subscriptionRecord}
 use Rattle.setup.proofs.Records.{keyed}
 use borrow.Author.Needs.{needs}
 use Rattle.setup.proofs.key.Statement.{statement}
@@ -15,7 +16,7 @@ get-at-requires c κs = search needs
 returns : tie.Need-returns
 returns c =
     let a = c .before .before .args in
-    let b = c .before .shared-slice-known .given (a .j * 13) in
+    let b = c .before .shared-slice-known .given (a .j * subscriptionRecord) in
     keyed (a .records .now) (a .j) (c .get-at .result) (c .before .before .pre) (omega arith) (c .get-at .ensures)
 
 pub key-spec : {M : Type 1} → statement M

@@ -1,23 +1,22 @@
 -- `put` meets its contract.
-use mathlib.Core.Path.{_≡_, ap, ap₂, _∙_}
+use mathlib.Core.Path.{_≡_, ap₂, _∙_}
 use mathlib.Core.List.{List}
 use Prim.Native.Nat.{ℕ, _+_, _*_, _/_, _%_}
-use native.Mathlib.Omega.{arith}
-use Rattle.bits.specs.Little.{le, leBytes}
-use Rattle.bits.specs.Part.{span, splice}
+use Rattle.bits.specs.Little.{le}
+use Rattle.bits.specs.Part.{span}
+use Rattle.rules.specs.Limits.{subscriptionRecord}
 use Rattle.setup.specs.Setup.{recordAt}
-use Rattle.setup.specs.Subscription.{Keyed, withSubscription}
+use Rattle.setup.specs.inside.Record.{Keyed, written}
+use Rattle.setup.proofs.Records.{same-key}
+use Rattle.subscriptions.specs.inside.Subscription.{withSubscription}
 use borrow.Author.Needs.{needs}
 use Rattle.setup.proofs.put.Statement.{statement}
 use Rattle.setup.proofs.put.Tie as tie
 
-stored : (m m₁ m₂ r : List ℕ) (j k g : ℕ) → Keyed (recordAt r j) k → g ≡ le (span r (j * 13 + 5) 8)
-    → m₁ ≡ splice m (8 + j * 8) (leBytes 8 g) → m₂ ≡ splice m₁ (776 + j * 4) (leBytes 4 (k % 256 * 65536 + k / 256))
-    → m₂ ≡ withSubscription m j (recordAt r j)
-unfolding recordAt withSubscription
-stored m m₁ m₂ r j k g e eg e₁ e₂ =
-    let n : k % 256 * 65536 + k / 256 ≡ recordAt r j .kind * 65536 + recordAt r j .type = omega arith in
-    e₂ ∙ ap₂ (λ (x : List ℕ) (y : ℕ). splice x (776 + j * 4) (leBytes 4 y)) (e₁ ∙ ap (λ (x : ℕ). splice m (8 + j * 8) (leBytes 8 x)) eg) n
+stored : (m m' r : List ℕ) (j k q g : ℕ) → Keyed (recordAt r j) k → q ≡ k % 256 * 65536 + k / 256 → g ≡ le (span r (j * subscriptionRecord + 5) 8)
+    → m' ≡ withSubscription m j q g → m' ≡ written m j (recordAt r j)
+unfolding recordAt
+stored m m' r j k q g e eq eg em = em ∙ ap₂ (withSubscription m j) (eq ∙ same-key (recordAt r j) k e) eg
 
 key-requires : tie.Need-key-requires
 key-requires c κs = search needs
@@ -31,42 +30,23 @@ add-get-at c = search needs
 get-at-requires : tie.Need-get-at-requires
 get-at-requires c κs = search needs
 
-mul-put-at : tie.Need-mul-put-at
-mul-put-at c = search needs
+state-key-requires : tie.Need-state-key-requires
+state-key-requires c κs = search needs
 
-add-put-at : tie.Need-add-put-at
-add-put-at c = search needs
-
-put-at-requires : tie.Need-put-at-requires
-put-at-requires c κs = search needs
-
-mul-put-at-2 : tie.Need-mul-put-at-2
-mul-put-at-2 c = search needs
-
-add-put-at-2 : tie.Need-add-put-at-2
-add-put-at-2 c = search needs
-
-mul-put-at-3 : tie.Need-mul-put-at-3
-mul-put-at-3 c = search needs
-
-add-put-at-3 : tie.Need-add-put-at-3
-add-put-at-3 c = search needs
-
-put-at-requires-2 : tie.Need-put-at-requires-2
-put-at-requires-2 c κs = search needs
+put-requires : tie.Need-put-requires
+put-requires c κs = search needs
 
 same-length : tie.Need-same-length
 same-length c = search needs
 
 returns : tie.Need-returns
 returns c =
-    let p₂ = c .before .before in
-    let p₁ = p₂ .before .before .before .before in
-    let g = p₁ .before .before in
+    let p = c .before .before in
+    let s = p .before in
+    let g = s .before .before in
     let k = g .before in
     let a = k .before .before .before .args in
-    stored (a .state .now) (p₁ .put-at .last .0) (p₂ .put-at2 .last .0) (a .records .now) (a .j) (k .key .result) (g .get-at .result) (k .key .ensures) (g .get-at .ensures)
-    (p₁ .put-at .ensures) (p₂ .put-at2 .ensures)
+    stored (a .state .now) (p .put .last .0) (a .records .now) (a .j) (k .key .result) (s .state-key .result) (g .get-at .result) (k .key .ensures) (s .state-key .ensures) (g .get-at .ensures) (p .put .ensures)
 
 pub put-spec : {M : Type 1} → statement M
 put-spec =
@@ -76,13 +56,7 @@ put-spec =
     mul-get-at
     add-get-at
     get-at-requires
-    mul-put-at
-    add-put-at
-    put-at-requires
-    mul-put-at-2
-    add-put-at-2
-    mul-put-at-3
-    add-put-at-3
-    put-at-requires-2
+    state-key-requires
+    put-requires
     same-length
     returns)

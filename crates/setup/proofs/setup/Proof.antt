@@ -5,6 +5,7 @@ use Prim.Native.Nat.{_/_, _%_}
 use native.Mathlib.Omega.{arith}
 use borrow.Author.Tests.{lt-ltb, le-ltb, le-leb, lt-leb, eq-eqb, ne-eqb}
 use lib.ListN.{length}
+use Rattle.rules.specs.Limits.{subscriptionsMax, subscriptionRecord}
 use Rattle.setup.proofs.Answers.{tests, short, refused, done}
 use borrow.Author.Needs.{needs}
 use Rattle.setup.proofs.setup.Statement.{statement}
@@ -20,21 +21,21 @@ returns-2 c =
     let a = c .before .before .before .before .args in
     let r = a .subscriptions .now in
     refused (a .state .now) (a .own) r (omega arith)
-    (tests (a .own) r false _ _ _ (ne-eqb (length r % 13) 0 (λ e. omega arith)) refl refl refl)
+    (tests (a .own) r false _ _ _ (ne-eqb (length r % subscriptionRecord) 0 (λ e. omega arith)) refl refl refl)
 
 returns-3 : tie.Need-returns-3
 returns-3 c =
     let a = c .before .before .before .before .before .args in
     let r = a .subscriptions .now in
     refused (a .state .now) (a .own) r (omega arith)
-    (tests (a .own) r true false _ _ (eq-eqb (length r % 13) 0 (omega arith)) (le-ltb (a .own) 128 (omega arith)) refl refl)
+    (tests (a .own) r true false _ _ (eq-eqb (length r % subscriptionRecord) 0 (omega arith)) (le-ltb (a .own) 128 (omega arith)) refl refl)
 
 returns-4 : tie.Need-returns-4
 returns-4 c =
     let a = c .before .before .before .before .before .before .args in
     let r = a .subscriptions .now in
     refused (a .state .now) (a .own) r (omega arith)
-    (tests (a .own) r true true false _ (eq-eqb (length r % 13) 0 (omega arith)) (lt-ltb (a .own) 128 (omega arith)) (lt-leb (length r / 13) 64 (omega arith)) refl)
+    (tests (a .own) r true true false _ (eq-eqb (length r % subscriptionRecord) 0 (omega arith)) (lt-ltb (a .own) 128 (omega arith)) (lt-leb (length r / subscriptionRecord) subscriptionsMax (omega arith)) refl)
 
 all-fit-requires : tie.Need-all-fit-requires
 all-fit-requires c κs = search needs
@@ -52,7 +53,7 @@ returns-5 c =
     let a = f .before .before .before .before .before .before .before .args in
     let r = a .subscriptions .now in
     done (a .state .now) (a .own) r (omega arith)
-    (tests (a .own) r true true true true (eq-eqb (length r % 13) 0 (omega arith)) (lt-ltb (a .own) 128 (omega arith)) (le-leb (length r / 13) 64 (omega arith))
+    (tests (a .own) r true true true true (eq-eqb (length r % subscriptionRecord) 0 (omega arith)) (lt-ltb (a .own) 128 (omega arith)) (le-leb (length r / subscriptionRecord) subscriptionsMax (omega arith))
     (sym (f .all-fit .ensures) ∙ w .before .before .if5 .taken)) (w .write .last .0) (w .write .ensures)
 
 returns-6 : tie.Need-returns-6
@@ -61,7 +62,7 @@ returns-6 c =
     let a = f .before .before .before .before .before .before .before .args in
     let r = a .subscriptions .now in
     refused (a .state .now) (a .own) r (omega arith)
-    (tests (a .own) r true true true false (eq-eqb (length r % 13) 0 (omega arith)) (lt-ltb (a .own) 128 (omega arith)) (le-leb (length r / 13) 64 (omega arith))
+    (tests (a .own) r true true true false (eq-eqb (length r % subscriptionRecord) 0 (omega arith)) (lt-ltb (a .own) 128 (omega arith)) (le-leb (length r / subscriptionRecord) subscriptionsMax (omega arith))
     (sym (f .all-fit .ensures) ∙ c .if5 .left))
 
 pub setup-spec : {M : Type 1} → statement M

@@ -4,8 +4,9 @@ use mathlib.Core.List.{List, [], _++_}
 use Prim.Native.Nat.{ℕ, _-_, _/_, _≤_}
 use native.Mathlib.Omega.{arith}
 use lib.ListN.{length, drop, set, replicate, length-set}
+use Rattle.rules.specs.Limits.{subscriptionRecord}
 use Rattle.setup.specs.Setup.{recordAt, given, stateOf}
-use Rattle.setup.specs.Subscription.{withSubscription}
+use Rattle.setup.specs.inside.Record.{written}
 use Rattle.setup.proofs.Laid.{laidOut, laid-turn, laid-first, given-laid, past}
 use Rattle.bits.specs.Tabulate.{tabulate}
 use Rattle.state.specs.Layout.{size}
@@ -24,7 +25,7 @@ as-long : (s : List ℕ) (own n : ℕ) → length (set (set s 0 own) 1 n) ≡ le
 as-long s own n = simp length-set
 
 -- behind the loop
-finished : (own n j : ℕ) (r s rest rest' : List ℕ) → s ≡ laidOut own n (tabulate (recordAt r) 0 j) rest → j ≡ n → n ≡ length r / 13 → rest ≡ rest'
+finished : (own n j : ℕ) (r s rest rest' : List ℕ) → s ≡ laidOut own n (tabulate (recordAt r) 0 j) rest → j ≡ n → n ≡ length r / subscriptionRecord → rest ≡ rest'
     → s ≡ stateOf (given own r) ++ rest'
 finished own n j r s rest rest' e ej en er =
     e ∙ ap₂ (λ (k : ℕ) (x : List ℕ). laidOut own n (tabulate (recordAt r) 0 k) x) ej er ∙ given-laid own r rest' n en
@@ -80,7 +81,7 @@ loop-again c =
     let r = a .records .now in (
       (omega arith, p .put .kept .0 ∙ l .loop .inv .0 .1),
       p .put .ensures
-          ∙ ap (λ (x : List ℕ). withSubscription x (l .loop .j) (recordAt r (l .loop .j))) (l .loop .inv .1)
+          ∙ ap (λ (x : List ℕ). written x (l .loop .j) (recordAt r (l .loop .j))) (l .loop .inv .1)
           ∙ laid-turn (a .own) (a .n) (recordAt r) _ (l .loop .j) (omega arith),
     )
 

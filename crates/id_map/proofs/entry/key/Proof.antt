@@ -7,6 +7,9 @@ use Rattle.id_map.proofs.entry.key.Tie as tie
 mul-get-u32 : tie.Need-mul-get-u32
 mul-get-u32 c = search needs
 
+add-get-u32 : tie.Need-add-get-u32
+add-get-u32 c = search needs
+
 get-u32-requires : tie.Need-get-u32-requires
 get-u32-requires c κs = search needs
 
@@ -15,4 +18,4 @@ unfolding keyAt
 returns c = c .get-u32 .ensures
 
 pub key-spec : {M : Type 1} → statement M
-key-spec = tie.close (tie.spec mul-get-u32 get-u32-requires returns)
+key-spec = tie.close (tie.spec mul-get-u32 add-get-u32 get-u32-requires returns)

@@ -5,15 +5,15 @@ use Prim.Native.Nat.{ℕ, _+_, _*_, _%_, _<_}
 use native.Mathlib.Omega.{arith}
 use Rattle.bits.specs.Little.{leBytes}
 use Rattle.bits.specs.Part.{splice}
-use Rattle.id_map.specs.Layout.{topicOfKey, withSlot}
+use Rattle.id_map.specs.Layout.{topicOfKey, withSlot, keysAt, timesAt, nextsAt}
 use Rattle.id_map.proofs.Keys.{key-topic}
 use Rattle.rules.specs.Map.{used}
 use borrow.Author.Needs.{needs}
 use Rattle.id_map.proofs.entry.store.Statement.{statement}
 use Rattle.id_map.proofs.entry.store.Tie as tie
 
-stored : (m m₁ m₂ m₃ : List ℕ) (i k next time : ℕ) → k % 2 ≡ 1 → next < 256 → m₁ ≡ splice m (i * 4) (leBytes 4 k) → m₂ ≡ splice m₁ (128 + i * 8) (leBytes 8 time)
-    → m₃ ≡ splice m₂ (384 + i) (leBytes 1 next) → m₃ ≡ withSlot m i (used (topicOfKey k) next time)
+stored : (m m₁ m₂ m₃ : List ℕ) (i k next time : ℕ) → k % 2 ≡ 1 → next < 256 → m₁ ≡ splice m (keysAt + i * 4) (leBytes 4 k) → m₂ ≡ splice m₁ (timesAt + i * 8) (leBytes 8 time)
+    → m₃ ≡ splice m₂ (nextsAt + i) (leBytes 1 next) → m₃ ≡ withSlot m i (used (topicOfKey k) next time)
 unfolding withSlot leBytes
 stored m m₁ m₂ m₃ i k next time odd byte e₁ e₂ e₃ =
     let b : next % 256 ≡ next = omega arith in
@@ -22,20 +22,23 @@ stored m m₁ m₂ m₃ i k next time odd byte e₁ e₂ e₃ =
 mul-put-at : tie.Need-mul-put-at
 mul-put-at c = search needs
 
+add-put-at : tie.Need-add-put-at
+add-put-at c = search needs
+
 put-at-requires : tie.Need-put-at-requires
 put-at-requires c κs = search needs
 
 mul-put-at-2 : tie.Need-mul-put-at-2
 mul-put-at-2 c = search needs
 
-add-put-at : tie.Need-add-put-at
-add-put-at c = search needs
+add-put-at-2 : tie.Need-add-put-at-2
+add-put-at-2 c = search needs
 
 put-at-requires-2 : tie.Need-put-at-requires-2
 put-at-requires-2 c κs = search needs
 
-add-put-at-2 : tie.Need-add-put-at-2
-add-put-at-2 c = search needs
+add-put-at-3 : tie.Need-add-put-at-3
+add-put-at-3 c = search needs
 
 put-at-requires-3 : tie.Need-put-at-requires-3
 put-at-requires-3 c κs = search needs
@@ -57,11 +60,12 @@ store-spec =
     tie.close
     (tie.spec
     mul-put-at
+    add-put-at
     put-at-requires
     mul-put-at-2
-    add-put-at
-    put-at-requires-2
     add-put-at-2
+    put-at-requires-2
+    add-put-at-3
     put-at-requires-3
     same-length
     returns)

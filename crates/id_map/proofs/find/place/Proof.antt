@@ -5,36 +5,37 @@ use borrow.Author.Needs.{needs}
 use Rattle.id_map.proofs.find.place.Statement.{statement}
 use Rattle.id_map.proofs.find.place.Tie as tie
 
-scan-requires : tie.Need-scan-requires
-scan-requires c κs = search needs
+find-requires : tie.Need-find-requires
+find-requires c κs = search needs
 
 returns : tie.Need-returns
 returns c =
-    let s = c .before in
-    let a = s .before .before .args in
-    place-found (a .map .now) (a .k) (a .time) (λ z. omega arith) (s .scan .result) (s .scan .ensures) (c .if1 .taken)
+    let f = c .before in
+    let a = f .before .before .args in
+    place-found (a .map .now) (a .k) (a .time) (λ z. omega arith) (f .find .result) (f .find .ensures) (c .if1 .taken)
 
-scan-requires-2 : tie.Need-scan-requires-2
-scan-requires-2 c κs = search needs
+find-requires-2 : tie.Need-find-requires-2
+find-requires-2 c κs = search needs
 
 returns-2 : tie.Need-returns-2
 returns-2 c =
-    let f = c .before in
-    let s = f .before .before in
-    let a = s .before .before .args in
-    place-free (a .map .now) (a .k) (a .time) (λ z. omega arith) (s .scan .result) (s .scan .ensures) (f .before .if1 .left) (f .scan2 .result) (f .scan2 .ensures) (c .if2 .taken)
+    let g = c .before in
+    let f = g .before .before in
+    let a = f .before .before .args in
+    place-free (a .map .now) (a .k) (a .time) (λ z. omega arith) (f .find .result) (f .find .ensures) (g .before .if1 .left) (g .find2 .result) (g .find2 .ensures) (c .if2 .taken)
 
-scan-requires-3 : tie.Need-scan-requires-3
-scan-requires-3 c κs = search needs
+lowest-unused-requires : tie.Need-lowest-unused-requires
+lowest-unused-requires c κs = search needs
 
 returns-3 : tie.Need-returns-3
 returns-3 c =
-    let f = c .before .before in
-    let s = f .before .before in
-    let a = s .before .before .args in
-    place-unused (a .map .now) (a .k) (a .time) (λ z. omega arith) (s .scan .result) (s .scan .ensures) (f .before .if1 .left) (f .scan2 .result) (f .scan2 .ensures)
-    (c .before .if2 .left) (c .scan3 .result) (c .scan3 .ensures)
+    let g = c .before .before in
+    let f = g .before .before in
+    let a = f .before .before .args in
+    place-unused (a .map .now) (a .k) (a .time) (λ z. omega arith) (f .find .result) (f .find .ensures) (g .before .if1 .left) (g .find2 .result) (g .find2 .ensures)
+    (c .before .if2 .left) (c .lowest-unused .result) (c .lowest-unused .ensures)
 
 pub place-spec : {M : Type 1} → statement M
 place-spec =
-    tie.close (tie.spec scan-requires returns scan-requires-2 returns-2 scan-requires-3 returns-3)
+    tie.close
+    (tie.spec find-requires returns find-requires-2 returns-2 lowest-unused-requires returns-3)

@@ -1,32 +1,48 @@
 -- `sound::is_sound` meets its contract.
-use mathlib.Core.Path.{sym, ap, _∙_}
-use Prim.Native.Nat.{_*_}
-use native.Mathlib.Nat.{zero-add}
+use mathlib.Core.Path.{_≡_, sym, ap, _∙_}
+use mathlib.Core.Bool.{_&&_}
 use native.Mathlib.Omega.{arith}
-use borrow.Author.Needs.{needs}
-use Rattle.bits.specs.Keys.{wordAt}
-use Rattle.bits.specs.Little.{le}
-use Rattle.bits.specs.Part.{span}
-use Rattle.bits.proofs.Tabulate.{tab-same}
+use Rattle.bits.specs.Tabulate.{every}
 use Rattle.id_map.specs.Layout.{keyAt}
-use Rattle.id_map.proofs.Soundness.{sound-short}
+use Rattle.id_map.specs.inside.Sound.{emptyOrFits}
+use Rattle.id_map.proofs.Soundness.{sound-short, whole}
+use Rattle.keys.specs.inside.Keys.{distinct}
+use Rattle.rules.specs.Limits.{entriesMax}
+use borrow.Author.Needs.{needs}
 use Rattle.id_map.proofs.sound.is_sound.Statement.{statement}
 use Rattle.id_map.proofs.sound.is_sound.Tie as tie
 
 returns : tie.Need-returns
 returns c = sym (sound-short (c .before .before .args .map .now) (c .if1 .taken))
 
-get-requires : tie.Need-get-requires
-get-requires c κs = search needs
+slice-aggregate-load : tie.Need-slice-aggregate-load
+slice-aggregate-load c = search needs
 
-places-fit-requires : tie.Need-places-fit-requires
+load-requires : tie.Need-load-requires
+load-requires c κs = search needs
+
+slice-aggregate-places-sound : tie.Need-slice-aggregate-places-sound
+slice-aggregate-places-sound c = search needs
+
+places-sound-requires : tie.Need-places-sound-requires
 unfolding keyAt
-places-fit-requires c κs =
-    let m = c .before .before .before .before .args .map .now in
-    (omega arith, c .before .get .ensures ∙ tab-same (wordAt m 0) (keyAt m) 32 0 (λ l a b. ap (λ n. le (span m n 4)) (zero-add (l * 4))))
+places-sound-requires c κs = (omega arith, c .before .before .load .ensures)
 
 returns-2 : tie.Need-returns-2
-returns-2 c = search needs
+unfolding keyAt
+returns-2 c =
+    let d = c .before .before .before in
+    let e = d .before .before in
+    let m = e .before .before .args .map .now in
+    c .places-sound .ensures ∙ ap (λ x. every (emptyOrFits m) 0 entriesMax && distinct x) (d .load .ensures) ∙ whole m (e .if1 .left)
 
 pub is-sound-spec : {M : Type 1} → statement M
-is-sound-spec = tie.close (tie.spec returns get-requires places-fit-requires returns-2)
+is-sound-spec =
+    tie.close
+    (tie.spec
+    returns
+    slice-aggregate-load
+    load-requires
+    slice-aggregate-places-sound
+    places-sound-requires
+    returns-2)

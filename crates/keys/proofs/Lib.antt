@@ -1,0 +1,5 @@
+pub mod Counts
+pub mod Distinct
+pub mod Marks
+pub mod Lowest
+pub mod Walk

@@ -1,0 +1,96 @@
+-- A walk over the keys of a table, up to the last place in use: where it stands, one turn, and its ends.
+use mathlib.Core.Path.{_≡_, refl, sym, ap, subst, _∙_}
+use mathlib.Core.Bool.{Bool, true, false, false≢true, not, _||_}
+use mathlib.Core.List.{List}
+use Prim.Native.Nat.{ℕ, suc, _+_, _-_, _≤_, _<_}
+use native.Mathlib.Omega.{arith}
+use borrow.Author.Tests.{eqb-true, eqb-false, eq-eqb, ne-eqb, ltb-true, ltb-false}
+use lib.Dec.{eqb, ltb}
+use lib.ListN.{length, drop, getD, set, length-set}
+use mir.Val.{boolByte}
+use Rattle.bits.specs.Tabulate.{tabulate}
+use Rattle.bits.proofs.Tabulate.{length-tabulate}
+use Rattle.keys.specs.inside.Keys.{count, distinct, marksMax, markAt}
+use Rattle.keys.proofs.Counts.{byte-le, left-step, rest-empty}
+use Rattle.keys.proofs.Distinct.{at, First, FirstTo, first-distinct, distinct-once, once-first, key-is}
+use Rattle.keys.proofs.Marks.{Marked, unmarked, mark, first-step}
+
+-- before place i: the keys have left their marks, and each in use is the first of its kind; `left` places in use are to come
+pub record Walked (table marks : List ℕ) (left i : ℕ) : Type 0 where
+  pub inside : i ≤ length table
+  pub marks-long : length marks ≡ marksMax
+  pub marked : Marked (at table) i marks
+  pub to-come : left + count 0 (drop i table) ≡ length table - i
+  pub first : FirstTo (at table) i
+
+-- what `is_alone` answers
+abbrev pub alone : List ℕ → ℕ → Bool → Bool
+alone table k first = first || (eqb k 0 || eqb (count k table) 1)
+
+module _ (table marks : List ℕ) (left i : ℕ) (w : Walked table marks left i) where
+  abbrev k : ℕ
+  k = at table i
+
+  module _ (some : 0 < left) where
+    pub here : i < length table
+    here = let e = w .to-come in omega arith
+
+    -- `left` does not fall below 0
+    pub left-ok : boolByte (not (eqb k 0)) ≤ left
+    left-ok = omega (arith, byte-le (not (eqb k 0)))
+
+    -- one place more
+    pub turn : (first : Bool) → first ≡ eqb (getD marks (markAt k) 0) 0 → alone table k first ≡ true → (marks' : List ℕ) → marks' ≡ set marks (markAt k) 1
+        → Walked table marks' (left - boolByte (not (eqb k 0))) (suc i)
+    turn first e t marks' em = record {
+      inside = here;
+      marks-long = ap length em ∙ simp length-set (w .marks-long);
+      marked = subst (Marked (at table) (suc i)) (sym em) (mark (at table) i marks (omega (arith, w .marks-long)) (w .marked));
+      to-come = left-step table i left here some (w .to-come);
+      first = first-step (at table) i (w .first) (own first e t);
+    }
+      where
+        own : (b : Bool) → b ≡ eqb (getD marks (markAt k) 0) 0 → alone table k b ≡ true → (k ≡ 0 → ⊥) → First (at table) i
+        own true q t z = unmarked (at table) i marks (w .marked) (markAt k) refl (sym q)
+        own false q t z = once-first table i here (eqb-true (count k table) 1 (rw (ne-eqb k 0 z) at t))
+
+    -- a key that stands twice
+    pub twice : (first : Bool) → alone table k first ≡ false → distinct table ≡ false
+    twice true e = absurd (false≢true (sym e))
+    twice false e = go (eqb k 0) refl (distinct table) refl where
+      go : (b : Bool) → eqb k 0 ≡ b → (d : Bool) → distinct table ≡ d → d ≡ false
+      go true z d q = absurd (false≢true (sym (rw z at e)))
+      go false z false q = refl
+      go false z true q =
+          let o = eq-eqb (count k table) 1 (distinct-once table q i here (eqb-false k 0 z)) in
+          absurd (false≢true (sym (rw (z, o) at e)))
+
+  -- the places from i on are empty
+  module _ (none : left ≡ 0) where
+    pub rest : (j : ℕ) → i ≤ j → j < length table → at table j ≡ 0
+    rest = rest-empty table i (let e = w .to-come in omega arith)
+
+    pub walked : distinct table ≡ true
+    walked = first-distinct table all where
+      all : FirstTo (at table) (length table)
+      all j b = there (ltb j i) refl where
+        there : (t : Bool) → ltb j i ≡ t → (at table j ≡ 0 → ⊥) → First (at table) j
+        there true q = w .first j (ltb-true j i q)
+        there false q = λ z. absurd (z (rest j (ltb-false j i q) b))
+
+-- ── a table with the keys of n places ──
+
+module _ (key : ℕ → ℕ) (n : ℕ) (table : List ℕ) (is : table ≡ tabulate key 0 n) where
+  pub as-long : length table ≡ n
+  as-long = ap length is ∙ length-tabulate key 0 n
+
+  pub table-at : (i : ℕ) → i < n → at table i ≡ key i
+  table-at i h = ap (λ (l : List ℕ). at l i) is ∙ key-is key n i h
+
+  -- a test that each place passed takes, and each empty one
+  pub passed : (test : ℕ → Bool) → ((j : ℕ) → key j ≡ 0 → test j ≡ true) → (i : ℕ) → ((j : ℕ) → i ≤ j → j < length table → at table j ≡ 0)
+      → ((l : ℕ) → l < i → test l ≡ true) → (j : ℕ) → j < n → test j ≡ true
+  passed test empty i none h j b = go (ltb j i) refl where
+    go : (t : Bool) → ltb j i ≡ t → test j ≡ true
+    go true q = h j (ltb-true j i q)
+    go false q = empty j (sym (table-at j b) ∙ none j (ltb-false j i q) (omega (arith, as-long)))

@@ -1,0 +1,127 @@
+-- The test of a lent state as the code goes, each place and then all keys, is the test of its table.
+use mathlib.Core.Path.{_≡_, refl, sym, ap, ap₂, _∙_}
+use mathlib.Core.Bool.{Bool, true, false, not, _&&_, _||_}
+use mathlib.Core.List.{List, [], _∷_}
+use Prim.Native.Nat.{ℕ, zero, suc, _+_, _*_, _≤_, _<_}
+use native.Mathlib.Nat.{zero-add}
+use native.Mathlib.Omega.{arith}
+use borrow.Author.Tests.{eq-eqb, ne-eqb, eqb-true, eqb-false, leb-true, lt-ltb, le-ltb}
+use lib.Dec.{eqb, ltb, leb}
+use lib.ListN.{length}
+use mir.Val.{boolByte}
+use Rattle.rules.specs.Limits.{sessionsMax, gatheredMax}
+use Rattle.bits.specs.Order.{Octets}
+use Rattle.bits.specs.Part.{span}
+use Rattle.bits.specs.Tabulate.{tabulate, every}
+use Rattle.bits.proofs.Every.{every-join}
+use Rattle.bits.proofs.Splice.{length-span}
+use Rattle.bits.proofs.Tabulate.{length-tabulate}
+use Rattle.keys.specs.inside.Keys.{count, distinct}
+use Rattle.rules.specs.Sound.{streamFits, sessionFits, placeFits, placesFit, noneHolds, notAgain, apart, sound}
+use Rattle.rules.specs.Table.{empty, held, holds}
+use Rattle.rules.specs.Tests.{isEmpty}
+use Rattle.sessions.specs.inside.Sound.{controlFits, emptyOrFits, keysOf}
+use Rattle.state.specs.Layout.{size, keyAt, countAt, expectedAt, toggleAt, gatheredAt, sessionAt, placeAt, placesOf, streamOfKey, bytesAt}
+use Rattle.state.specs.Sound.{rawFits}
+use Rattle.state.proofs.Soundness.{fit-every, key-lt, holds-key}
+
+-- ── Booleans ──
+
+shuffle : (a b c : Bool) → (a && (b && c)) ≡ (b && (a && c))
+shuffle true true c = refl
+shuffle true false c = refl
+shuffle false true c = refl
+shuffle false false c = refl
+
+regroup : (a b c : Bool) → ((a && b) && c) ≡ (a && (b && c))
+regroup true b c = refl
+regroup false b c = refl
+
+module _ (m : List ℕ) (bytes : Octets m) (long : size ≤ length m) where
+  -- ── no stream twice ──
+
+  none-behind : (k : ℕ) → (k ≡ 0 → ⊥) → k < 4294967296 → (n i : ℕ) → i + n ≤ sessionsMax
+      → noneHolds (streamOfKey k) (tabulate (placeAt m) i n) ≡ eqb (count k (tabulate (keyAt m) i n)) 0
+  unfolding count tabulate
+  none-behind k z hk zero i h = refl
+  none-behind k z hk (suc n) i h =
+      let e : holds (streamOfKey k) (placeAt m i) ≡ eqb (keyAt m i) k = holds-key m bytes long k i z hk (omega arith) in
+      rw (e, none-behind k z hk n (suc i) (omega arith)) (go (eqb (keyAt m i) k) (count k (tabulate (keyAt m) (suc i) n)))
+    where
+      go : (b : Bool) (t : ℕ) → (not b && eqb t 0) ≡ eqb (boolByte b + t) 0
+      go true t = sym (ne-eqb (1 + t) 0 (λ e. omega arith))
+      go false t = ap (λ (x : ℕ). eqb x 0) (sym (zero-add t))
+
+  -- ── the control fields ──
+
+  toggles : (n : ℕ) (t : ℕ) → (ltb t 2 && (not (eqb t 1) || not (eqb n 0))) ≡ (eqb t 0 || (eqb t 1 && ltb 0 n))
+  toggles n zero = refl
+  toggles zero (suc zero) = refl
+  toggles (suc n) (suc zero) =
+      let e : eqb (suc n) 0 ≡ false = ne-eqb (suc n) 0 (λ z. omega arith) in
+      let l : ltb 0 (suc n) ≡ true = lt-ltb 0 (suc n) (omega arith) in
+      rw (e, l)
+  toggles n (suc (suc t)) =
+      let a : ltb (suc (suc t)) 2 ≡ false = le-ltb (suc (suc t)) 2 (omega arith) in
+      let b : eqb (suc (suc t)) 0 ≡ false = ne-eqb (suc (suc t)) 0 (λ e. omega arith) in
+      let c : eqb (suc (suc t)) 1 ≡ false = ne-eqb (suc (suc t)) 1 (λ e. omega arith) in
+      rw (a, b, c)
+
+  empty-count : (xs : List ℕ) → isEmpty xs ≡ eqb (length xs) 0
+  empty-count [] = refl
+  empty-count (x ∷ xs) = sym (ne-eqb (suc (length xs)) 0 (λ e. omega arith))
+
+  controls : (i : ℕ) → i < sessionsMax → ((leb (countAt m i) gatheredMax && ltb (toggleAt m i) 2) && sessionFits (sessionAt m i)) ≡ controlFits m i
+  unfolding sessionFits sessionAt controlFits gatheredAt
+  controls i h = go (countAt m i) (span m (bytesAt + i * gatheredMax) (countAt m i)) (λ l. length-span m (bytesAt + i * gatheredMax) (countAt m i) (omega arith)) (leb (countAt m i) gatheredMax) refl
+    where
+      go : (n : ℕ) (g : List ℕ) → (n ≤ gatheredMax → length g ≡ n) → (b : Bool) → leb n gatheredMax ≡ b
+          → ((b && ltb (toggleAt m i) 2) && (ltb (expectedAt m i) 32 && (leb (length g) gatheredMax && (not (eqb (toggleAt m i) 1) || not (isEmpty g)))))
+          ≡ (b && (ltb (expectedAt m i) 32 && (eqb (toggleAt m i) 0 || (eqb (toggleAt m i) 1 && ltb 0 n))))
+      go n g q false e = refl
+      go n g q true e =
+          let c : length g ≡ n = q (leb-true n gatheredMax e) in
+          rw (empty-count g, c, e)
+          (shuffle (ltb (toggleAt m i) 2) (ltb (expectedAt m i) 32) (not (eqb (toggleAt m i) 1) || not (eqb n 0))
+          ∙ ap (λ (b : Bool). ltb (expectedAt m i) 32 && b) (toggles n (toggleAt m i)))
+
+  -- ── one place, and all ──
+
+  held-place : (i : ℕ) → (keyAt m i ≡ 0 → ⊥) → placeAt m i ≡ held (streamOfKey (keyAt m i)) (sessionAt m i)
+  unfolding placeAt
+  held-place i z = rw (ne-eqb (keyAt m i) 0 z)
+
+  empty-place : (i : ℕ) → keyAt m i ≡ 0 → placeAt m i ≡ empty
+  unfolding placeAt
+  empty-place i z = rw (eq-eqb (keyAt m i) 0 z)
+
+  apart-distinct : (n i : ℕ) → i + n ≤ sessionsMax → apart (tabulate (placeAt m) i n) ≡ distinct (tabulate (keyAt m) i n)
+  unfolding distinct tabulate
+  apart-distinct zero i h = refl
+  apart-distinct (suc n) i h = ap₂ (λ a b. a && b) (go (eqb (keyAt m i) 0) refl) (apart-distinct n (suc i) (omega arith)) where
+    go : (b : Bool) → eqb (keyAt m i) 0 ≡ b → notAgain (placeAt m i) (tabulate (placeAt m) (suc i) n) ≡ (b || eqb (count (keyAt m i) (tabulate (keyAt m) (suc i) n)) 0)
+    go true e = rw (empty-place i (eqb-true (keyAt m i) 0 e))
+    go false e =
+        let z = eqb-false (keyAt m i) 0 e in
+        rw (held-place i z) (none-behind (keyAt m i) z (key-lt m bytes long i (omega arith)) n (suc i) (omega arith))
+
+  fits-here : (i : ℕ) → i < sessionsMax → (rawFits m i && placeFits (placeAt m i)) ≡ emptyOrFits m i
+  unfolding rawFits emptyOrFits
+  fits-here i h = go (eqb (keyAt m i) 0) refl where
+    go : (b : Bool) → eqb (keyAt m i) 0 ≡ b
+        → ((b || (leb (countAt m i) gatheredMax && ltb (toggleAt m i) 2)) && placeFits (placeAt m i)) ≡ (b || (streamFits (streamOfKey (keyAt m i)) && controlFits m i))
+    go true e = rw (empty-place i (eqb-true (keyAt m i) 0 e))
+    go false e =
+        let s = streamFits (streamOfKey (keyAt m i)) in
+        rw (held-place i (eqb-false (keyAt m i) 0 e))
+        (shuffle (leb (countAt m i) gatheredMax && ltb (toggleAt m i) 2) s (sessionFits (sessionAt m i)) ∙ ap (λ b. s && b) (controls i h))
+
+  pub whole : (every (emptyOrFits m) 0 sessionsMax && distinct (keysOf m)) ≡ (every (rawFits m) 0 sessionsMax && sound (placesOf m))
+  unfolding sound placesOf
+  whole =
+      let raw = every (rawFits m) 0 sessionsMax in
+      let fit = every (λ i. placeFits (placeAt m i)) 0 sessionsMax in
+      ap₂ (λ a b. a && b) (sym (every-join (rawFits m) (λ i. placeFits (placeAt m i)) (emptyOrFits m) sessionsMax 0 (λ l a b. fits-here l (omega arith))))
+      (sym (apart-distinct sessionsMax 0 (omega arith)))
+      ∙ regroup raw fit (apart (placesOf m))
+      ∙ rw (length-tabulate (placeAt m) 0 sessionsMax, fit-every (placeAt m) sessionsMax 0)

@@ -1,0 +1,58 @@
+-- `place::progress` meets its contract: the fields stand where the layout says.
+use mathlib.Core.Path.{ap}
+use Prim.Native.Nat.{ℕ}
+use native.Mathlib.Omega.{arith}
+use lib.Dec.{eqb}
+use Rattle.state.specs.Layout.{countAt}
+use Rattle.sessions.proofs.Stored.{fields, progressed}
+use borrow.Author.Needs.{needs}
+use Rattle.sessions.proofs.place.progress.Statement.{statement}
+use Rattle.sessions.proofs.place.progress.Tie as tie
+
+mul-at : tie.Need-mul-at
+mul-at c = search needs
+
+add-at : tie.Need-add-at
+add-at c = search needs
+
+get-at-requires : tie.Need-get-at-requires
+get-at-requires c κs = search needs
+
+time-requires : tie.Need-time-requires
+time-requires c κs = search needs
+
+add-t6 : tie.Need-add-t6
+add-t6 c = search needs
+
+shared-slice-read-t9 : tie.Need-shared-slice-read-t9
+shared-slice-read-t9 c = search needs
+
+add-t10 : tie.Need-add-t10
+add-t10 c = search needs
+
+shared-slice-read-t12 : tie.Need-shared-slice-read-t12
+shared-slice-read-t12 c = search needs
+
+returns : tie.Need-returns
+unfolding countAt
+returns c =
+    let t = c .before .before in
+    let g = t .before in
+    let a = g .before .before .args in
+    let m = a .state .now in
+    let f = fields m (a .i) (omega arith) (omega arith) in
+    progressed m (a .i) _ _ _ _ (omega arith) (omega arith) (omega arith) (f .0) (ap (λ (x : ℕ). eqb x 1) (f .1)) (t .time .ensures) (g .get-at .ensures)
+
+pub progress-spec : {M : Type 1} → statement M
+progress-spec =
+    tie.close
+    (tie.spec
+    mul-at
+    add-at
+    get-at-requires
+    time-requires
+    add-t6
+    shared-slice-read-t9
+    add-t10
+    shared-slice-read-t12
+    returns)

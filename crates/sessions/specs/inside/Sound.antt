@@ -1,0 +1,21 @@
+-- The test for 20 as the code goes: each place by itself, and then the keys of all.
+use mathlib.Core.Bool.{Bool, _&&_, _||_}
+use mathlib.Core.List.{List}
+use Prim.Native.Nat.{ℕ}
+use lib.Dec.{ltb, leb, eqb}
+use Rattle.bits.specs.Tabulate.{tabulate}
+use Rattle.rules.specs.Limits.{sessionsMax, gatheredMax}
+use Rattle.rules.specs.Sound.{streamFits}
+use Rattle.state.specs.Layout.{keyAt, countAt, expectedAt, toggleAt, streamOfKey}
+
+-- the bytes in hand, the expected transfer ID and the toggle of place i
+unfoldable pub controlFits : List ℕ → ℕ → Bool
+controlFits m i =
+    leb (countAt m i) gatheredMax && (ltb (expectedAt m i) 32 && (eqb (toggleAt m i) 0 || (eqb (toggleAt m i) 1 && ltb 0 (countAt m i))))
+
+-- place i is empty, or its stream and its control fields are in range
+unfoldable pub emptyOrFits : List ℕ → ℕ → Bool
+emptyOrFits m i = eqb (keyAt m i) 0 || (streamFits (streamOfKey (keyAt m i)) && controlFits m i)
+
+abbrev pub keysOf : List ℕ → List ℕ
+keysOf m = tabulate (keyAt m) 0 sessionsMax
