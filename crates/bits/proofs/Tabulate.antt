@@ -8,14 +8,6 @@ use lib.ListN.{length, getD}
 use Rattle.bits.specs.Tabulate.{tabulate}
 
 module _ {A : Type 0} (f : ℕ → A) where
-  pub tab-step : (i n : ℕ) → i < n → tabulate f i (n - i) ≡ f i ∷ tabulate f (suc i) (n - suc i)
-  unfolding tabulate
-  tab-step i n h = let k : n - i ≡ suc (n - suc i) = omega arith in rw k
-
-  pub tab-end : (i n : ℕ) → n ≤ i → tabulate f i (n - i) ≡ []
-  unfolding tabulate
-  tab-end i n h = let k : n - i ≡ 0 = omega arith in rw k
-
   pub tab-append : (i a b : ℕ) → tabulate f i (a + b) ≡ tabulate f i a ++ tabulate f (i + a) b
   unfolding tabulate
   tab-append i zero b = rw (zero-add, add-zero)

@@ -2,7 +2,7 @@
 use mathlib.Core.Path.{_≡_, refl, sym, ap, ap₂, _∙_}
 use mathlib.Core.Bool.{Bool, true, false, false≢true, _&&_, _||_, and-false}
 use mathlib.Core.List.{List}
-use mathlib.Mathlib.Data.Bool.Basic.{and-intro, and-elim-left, and-elim-right}
+use mathlib.Mathlib.Data.Bool.Basic.{and-elim-left}
 use Prim.Native.Nat.{ℕ, zero, suc, _+_, _*_, _-_, _/_, _%_, _≤_, _<_}
 use native.Mathlib.Omega.{arith}
 use borrow.Author.Tests.{eq-eqb, ne-eqb, eqb-true, eqb-false, le-leb, lt-leb, leb-true, lt-ltb, le-ltb, ltb-true, ltb-false}

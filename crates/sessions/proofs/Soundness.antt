@@ -17,7 +17,7 @@ use Rattle.bits.proofs.Every.{every-join}
 use Rattle.bits.proofs.Splice.{length-span}
 use Rattle.bits.proofs.Tabulate.{length-tabulate}
 use Rattle.keys.specs.inside.Keys.{count, distinct}
-use Rattle.rules.specs.Sound.{streamFits, sessionFits, placeFits, placesFit, noneHolds, notAgain, apart, sound}
+use Rattle.rules.specs.Sound.{streamFits, sessionFits, placeFits, noneHolds, notAgain, apart, sound}
 use Rattle.rules.specs.Table.{empty, held, holds}
 use Rattle.rules.specs.Tests.{isEmpty}
 use Rattle.sessions.specs.inside.Sound.{controlFits, emptyOrFits, keysOf}

@@ -1,11 +1,11 @@
 -- The state of a setup that is accepted: it is read back, nothing is held, and it has no fault.
 use mathlib.Core.Path.{_≡_, refl, sym, ap, subst, _∙_}
-use mathlib.Core.Bool.{Bool, true, false, _&&_}
+use mathlib.Core.Bool.{true, _&&_}
 use mathlib.Core.List.{List, [], _∷_, _++_, append-assoc, append-nil}
 use Prim.Native.Nat.{ℕ, suc, _+_, _*_, _-_, _/_, _%_, _^_, _≤_, _<_}
 use native.Mathlib.Nat.{zero-add}
 use native.Mathlib.Omega.{arith}
-use borrow.Author.Tests.{eqb-true, ltb-true, leb-true, le-leb}
+use borrow.Author.Tests.{leb-true, le-leb}
 use lib.Dec.{ltb, leb, eqb}
 use lib.ListN.{length, getD, replicate, length-append, length-replicate}
 use Rattle.rules.specs.Limits.{sessionsMax, subscriptionsMax, subscriptionRecord}
@@ -18,7 +18,6 @@ use Rattle.bits.specs.Part.{span}
 use Rattle.rules.specs.Setup.{Subscription, Setup, typeFits, unlike, allFit, acceptable}
 use Rattle.rules.specs.Sound.{sound}
 use Rattle.rules.specs.Table.{empty, begun}
-use Rattle.rules.specs.Tests.{pick}
 use Rattle.subscriptions.proofs.Fit.{in-range}
 use Rattle.setup.proofs.Laid.{signaturesSize, timesSize, keysSize, placesSize, zeros, laid, head, toKeys, toPlaces, at-signatures, at-keys, at-places, length-toKeys, length-signatures, length-keys, signatures-append, keys-append, laidOut, laid-last, given-laid, places-at, length-laid}
 use Rattle.setup.specs.Laws.{Fresh}

@@ -54,7 +54,8 @@ fn type_fits(k: u64) -> bool
     id < 256
 }
 
-// Each of the n records has a kind and a type in range, and no two have the same. One is added to each key, as `subscriptions::all_fit` does.
+// Each of the n records has a kind and a type in range, and no two have the same. One is added to each key: 0 would be an empty
+// place, and key 0 is a subscription.
 fn all_fit(records: &[u8], n: usize) -> bool
     requires { ⌜ (n * subscriptionRecord ≤ length (now records)) × (n ≤ subscriptionsMax) ⌝ }
     ensures { λ r. ⌜ r ≡ allFit (tabulate (recordAt (now (records .entry))) 0 n) ⌝ }

@@ -1,10 +1,8 @@
 -- `mark` meets its contract.
-use mathlib.Core.Path.{_≡_, ap, _∙_}
-use mathlib.Core.List.{List}
+use mathlib.Core.Path.{ap}
 use Prim.Native.Nat.{ℕ}
 use lib.Dec.{eqb}
 use lib.ListN.{getD, set}
-use Rattle.keys.specs.inside.Keys.{markAt}
 use borrow.Author.Needs.{needs}
 use Rattle.keys.proofs.mark.Statement.{statement}
 use Rattle.keys.proofs.mark.Tie as tie

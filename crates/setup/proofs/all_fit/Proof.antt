@@ -1,8 +1,6 @@
 -- `all_fit` meets its contract. The invariant: the records passed are in range, and their entries are in the table.
 use mathlib.Core.Path.{_≡_, refl, sym, ap, _∙_}
-use mathlib.Core.Bool.{true, false}
-use mathlib.Core.List.{List}
-use Prim.Native.Nat.{ℕ, _+_, _*_, _-_, _/_, _%_, _≤_, _<_}
+use Prim.Native.Nat.{ℕ, _+_, _-_, _/_, _%_, _≤_, _<_}
 use native.Mathlib.Numerals.{add-one}
 use native.Mathlib.Omega.{arith}
 use borrow.Author.Count.{below-more}
@@ -11,11 +9,9 @@ use lib.Seq.{length-take-le}
 use Rattle.bits.specs.Tabulate.{tabulate}
 use Rattle.keys.specs.inside.Keys.{distinct}
 use Rattle.rules.specs.Limits.{subscriptionsMax}
-use Rattle.rules.specs.Setup.{typeFits, allFit}
 use Rattle.setup.specs.Setup.{recordAt}
-use Rattle.setup.specs.inside.Record.{Keyed}
 use Rattle.setup.proofs.Records.{same-type, same-key}
-use Rattle.subscriptions.proofs.Fit.{Fits, entryOf, in-range, entries, entries-turn, all-distinct, one-unfit}
+use Rattle.subscriptions.proofs.Fit.{Fits, in-range, entries, entries-turn, all-distinct, one-unfit}
 use Rattle.setup.proofs.all_fit.Statement.{statement}
 use Rattle.setup.proofs.all_fit.Tie as tie
 

@@ -1,8 +1,8 @@
 -- `sound::places_sound` meets its contract. The invariant: where the walk stands, and the places passed fit.
 use mathlib.Core.Path.{_≡_, refl, sym, ap, ap₂, _∙_}
-use mathlib.Core.Bool.{Bool, true, false, _&&_, and-false}
+use mathlib.Core.Bool.{true, _&&_, and-false}
 use mathlib.Core.List.{List}
-use Prim.Native.Nat.{ℕ, _-_, _≤_, _<_}
+use Prim.Native.Nat.{ℕ, _-_, _<_}
 use native.Mathlib.Numerals.{add-one}
 use native.Mathlib.Omega.{arith}
 use borrow.Author.Count.{below-more}
@@ -50,7 +50,7 @@ mul-k : tie.Need-mul-k Inv-loop μ-loop
 mul-k c = omega arith
 
 shared-slice-read-k : tie.Need-shared-slice-read-k Inv-loop μ-loop
-shared-slice-read-k c = here _ _ _ _ (c .before .before .loop .inv .0) (c .before .loop-test .taken)
+shared-slice-read-k c = here _ _ _ _ (c .before .before .loop .inv .0) (omega arith)
 
 mark-requires : tie.Need-mark-requires Inv-loop μ-loop
 mark-requires c κs = c .before .before .before .loop .inv .0 .marks-long
@@ -60,7 +60,7 @@ place-fits-requires c κs =
     let l = c .before .before .before .before in
     let s = l .before .before .before .before in
     let n = as-long _ _ _ (s .pre .1) in
-    let h = here _ _ _ _ (l .loop .inv .0) (c .before .before .before .loop-test .taken) in
+    let h = here _ _ _ _ (l .loop .inv .0) (omega arith) in
     ((omega arith, s .pre .0), table-at (keyAt (s .args .state .now)) sessionsMax (s .args .table .now) (s .pre .1) (l .loop .i) (omega arith))
 
 is-alone-requires : tie.Need-is-alone-requires Inv-loop μ-loop
@@ -70,20 +70,20 @@ cast-left-2 : tie.Need-cast-left-2 Inv-loop μ-loop
 cast-left-2 c = tt
 
 sub-left-2 : tie.Need-sub-left-2 Inv-loop μ-loop
-sub-left-2 c = left-ok _ _ _ _ (c .before .before .before .before .before .before .before .before .loop .inv .0) (c .before .before .before .before .before .before .before .loop-test .taken)
+sub-left-2 c = left-ok _ _ _ _ (c .before .before .before .before .before .before .before .before .loop .inv .0) (omega arith)
 
 add-i : tie.Need-add-i Inv-loop μ-loop
-add-i c = omega (arith, here _ _ _ _ (c .before .before .before .before .before .before .before .before .loop .inv .0) (c .before .before .before .before .before .before .before .loop-test .taken))
+add-i c = omega (arith, here _ _ _ _ (c .before .before .before .before .before .before .before .before .loop .inv .0) (omega arith))
 
 loop-less : tie.Need-loop-less Inv-loop μ-loop
-loop-less c = omega (arith, here _ _ _ _ (c .before .before .before .before .before .before .before .before .loop .inv .0) (c .before .before .before .before .before .before .before .loop-test .taken))
+loop-less c = omega (arith, here _ _ _ _ (c .before .before .before .before .before .before .before .before .loop .inv .0) (omega arith))
 
 loop-again : tie.Need-loop-again Inv-loop μ-loop
 loop-again c =
     let l = c .before .before .before .before .before .before .before .before in
     let p = c .before .before .before in
     let m = p .before .mark in (
-      rw add-one (turn _ _ _ _ (l .loop .inv .0) (p .before .before .before .before .loop-test .taken) (m .result) (m .ensures .0) (sym (c .before .is-alone .ensures) ∙ c .if2 .taken) _ (m .ensures .1)),
+      rw add-one (turn _ _ _ _ (l .loop .inv .0) (omega arith) (m .result) (m .ensures .0) (sym (c .before .is-alone .ensures) ∙ c .if2 .taken) _ (m .ensures .1)),
       below-more _ _ (l .loop .inv .1) (sym (p .place-fits .ensures) ∙ c .before .before .if1 .taken),
     )
 
@@ -93,7 +93,7 @@ returns c =
     let p = c .before .before .before in
     let a = l .before .before .before .before .args in
     sym (ap (λ b. every (emptyOrFits (a .state .now)) 0 sessionsMax && b)
-    (twice _ _ _ _ (l .loop .inv .0) (p .before .before .before .before .loop-test .taken) (p .before .mark .result) (sym (c .before .is-alone .ensures) ∙ c .if2 .left))
+    (twice _ _ _ _ (l .loop .inv .0) (omega arith) (p .before .mark .result) (sym (c .before .is-alone .ensures) ∙ c .if2 .left))
     ∙ and-false (every (emptyOrFits (a .state .now)) 0 sessionsMax))
 
 returns-2 : tie.Need-returns-2 Inv-loop μ-loop
@@ -101,7 +101,7 @@ returns-2 c =
     let l = c .before .before .before .before .before .before in
     let s = l .before .before .before .before in
     let n = as-long _ _ _ (s .pre .1) in
-    let h = here _ _ _ _ (l .loop .inv .0) (c .before .before .before .before .before .loop-test .taken) in
+    let h = here _ _ _ _ (l .loop .inv .0) (omega arith) in
     sym (ap (λ b. b && distinct (s .args .table .now))
     (every-false (emptyOrFits (s .args .state .now)) sessionsMax 0 (l .loop .i) (omega arith) (omega arith) (sym (c .before .place-fits .ensures) ∙ c .if1 .left)))
 
