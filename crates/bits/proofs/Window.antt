@@ -10,7 +10,7 @@ use lib.ListN.{length, take, drop, set, getD, length-append, length-set, take-ap
 use lib.Seq.{take-at, drop-at, length-take-le, drop-cons, drop-drop, take-set-le, drop-set-lt, getD-set-same, getD-set-other}
 use Rattle.bits.specs.Order.{digits, value, Octets, unpack, bytes, store}
 use Rattle.bits.specs.Part.{splice}
-use Rattle.bits.specs.Window.{patched}
+use Rattle.bits.specs.inside.Window.{patched}
 use Rattle.bits.proofs.Octets.{octets-set, octets-splice}
 use Rattle.bits.proofs.Splice.{length-splice}
 use Rattle.bits.proofs.Digits.{length-digits, value-digits, digits-add, digits-join, digits-middle, digits-mod-pow}

@@ -5,7 +5,7 @@ ghost use mathlib.Core.Path.{_≡_};
 ghost use Prim.Native.Nat.{_+_, _*_, _%_, _^_, _≤_, _<_};
 ghost use lib.ListN.{length, take, drop, getD};
 ghost use Rattle.bits.specs.Order.{digits, value, unpack, toBits, fromBits, store};
-ghost use Rattle.bits.specs.Window.{patched};
+ghost use Rattle.bits.specs.inside.Window.{patched};
 
 fn power(k: usize) -> u64
     requires { ⌜ k < 64 ⌝ }

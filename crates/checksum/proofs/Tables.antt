@@ -9,7 +9,8 @@ use lib.Dec.{T, eqb}
 use lib.ListN.{getD}
 use lib.Pow.{pow-pos, pow-mono, split}
 use Rattle.checksum.specs.Crc.{Crc, shift, shifts, crcByte}
-use Rattle.checksum.specs.Crc16.{ccitt, IsTable}
+use Rattle.checksum.specs.Crc16.{ccitt}
+use Rattle.checksum.specs.inside.Table.{IsTable}
 use Rattle.checksum.proofs.Below.{all, agree}
 use Rattle.checksum.proofs.Xor.{xor-assoc, xor-times}
 use Rattle.checksum.proofs.Linear.{shifts-xor}

@@ -1,9 +1,7 @@
 -- The transfer checksum (002, Transfer CRC; 01, Reception).
-use mathlib.Core.Path.{_≡_}
 use mathlib.Core.List.{List, _++_}
-use Prim.Native.Nat.{ℕ, _*_, _<_}
-use lib.ListN.{getD}
-use Rattle.checksum.specs.Crc.{Crc, shifts, crcOver}
+use Prim.Native.Nat.{ℕ}
+use Rattle.checksum.specs.Crc.{Crc, crcOver}
 use Rattle.bits.specs.Little.{leBytes}
 
 -- CRC-16-CCITT-FALSE, but for its start value
@@ -13,7 +11,3 @@ ccitt = record { width = 16; polynomial = 0x1021 }
 -- from 0xFFFF over the signature's eight bytes, lowest first, and the payload
 unfoldable pub checksum : ℕ → List ℕ → ℕ
 checksum signature p = crcOver ccitt 0xFFFF (leBytes 8 signature ++ p)
-
--- the rule of the table: entry i is what the byte i makes of an empty register
-pub record IsTable (t : List ℕ) : Type 0 where
-  pub entry : (i : ℕ) → i < 256 → getD t i 0 ≡ shifts ccitt 8 (i * 256)

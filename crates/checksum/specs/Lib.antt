@@ -2,3 +2,4 @@ pub mod Crc
 pub mod Crc16
 pub mod Signature
 pub mod Laws
+pub mod inside

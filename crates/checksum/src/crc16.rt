@@ -3,7 +3,8 @@ ghost use mathlib.Core.Path.{_≡_};
 ghost use Prim.Native.Nat.{_+_, _≤_};
 ghost use lib.ListN.{length};
 ghost use Rattle.checksum.specs.Crc.{crcByte, crcOver};
-ghost use Rattle.checksum.specs.Crc16.{ccitt, checksum, IsTable};
+ghost use Rattle.checksum.specs.Crc16.{ccitt, checksum};
+ghost use Rattle.checksum.specs.inside.Table.{IsTable};
 ghost use Rattle.bits.specs.Little.{leBytes};
 ghost use Rattle.bits.specs.Part.{span};
 

@@ -41,14 +41,14 @@ fn steps(c: u64, s: &[u8]) -> u64
     r
 }
 
-// Internal. The hash of s, continued from the hash h; from 0 it is the hash of s alone.
+// The hash of s, continued from the hash h; from 0 it is the hash of s alone.
 pub fn hash_from(h: u64, s: &[u8]) -> u64
     ensures { λ r. ⌜ r ≡ hashFrom h (now (s .entry)) ⌝ }
 {
     steps(h ^ 0xFFFFFFFFFFFFFFFF, s) ^ 0xFFFFFFFFFFFFFFFF
 }
 
-// Internal. The hash h extended by the signature of a nested type: that signature, then h itself, each lowest byte first.
+// The hash h extended by the signature of a nested type: that signature, then h itself, each lowest byte first.
 pub fn extend(h: u64, nested: u64) -> u64
     ensures { λ r. ⌜ r ≡ extended h nested ⌝ }
 {

@@ -2,7 +2,7 @@
 use super::head::Head;
 use rules::limits::FRAME_DATA;
 ghost use mathlib.Core.Path.{_≡_};
-ghost use Rattle.frame.specs.Head.{streamOf, headTestsOf};
+ghost use Rattle.frame.specs.inside.Head.{streamOf, headTestsOf};
 ghost use Rattle.rules.specs.Check as rules;
 ghost use Rattle.rules.specs.Check.{orZero, first, readTests};
 ghost use Rattle.rules.specs.Frame.{unnamed};

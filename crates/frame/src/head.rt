@@ -1,7 +1,7 @@
 // What an ID and a tail byte say.
 ghost use mathlib.Core.Path.{_≡_};
 ghost use Prim.Native.Nat.{_^_, _<_};
-ghost use Rattle.frame.specs.Head.{headOf};
+ghost use Rattle.frame.specs.inside.Head.{headOf};
 ghost use Rattle.rules.specs.Frame as rules;
 
 pub struct Head {

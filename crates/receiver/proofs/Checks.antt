@@ -8,7 +8,7 @@ use native.Mathlib.Omega.{arith}
 use borrow.Author.Tests.{leb-false, eqb-false, ltb-false, lt-ltb, le-ltb}
 use lib.Dec.{eqb, ltb}
 use lib.ListN.{length}
-use Rattle.frame.specs.Head.{headOf, headTestsOf}
+use Rattle.frame.specs.inside.Head.{headOf, headTestsOf}
 use Rattle.receiver.specs.Receive.{frameOf, arriving}
 use Rattle.rules.specs.Answer.{refused}
 use Rattle.rules.specs.Check.{Reception, Test, Parsed, check, parsed, largeId, badLength, unnamedService, badTail, forAnother, notSubscribed, readTests, headTests, first, frameCheck, orZero}
@@ -17,7 +17,7 @@ use Rattle.rules.specs.Reception.{step, stepChecked, stepAnonymous}
 use Rattle.rules.specs.Setup.{Setup, signatureFor}
 use Rattle.rules.specs.Table.{Places, orElse}
 use Rattle.rules.specs.Tests.{pick}
-use Rattle.session.specs.Session.{parsedOf}
+use Rattle.session.specs.inside.Session.{parsedOf}
 use Rattle.session.specs.declared.Incoming.{Incoming}
 use Rattle.subscriptions.specs.inside.Subscription.{asked}
 use Rattle.subscriptions.specs.declared.Subscribed.the-variants.{Under, Not}

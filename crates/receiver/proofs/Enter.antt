@@ -8,10 +8,10 @@ use lib.ListN.{length}
 use lib.Seq.{length-take-le}
 use Rattle.bits.proofs.Splice.{length-span}
 use Rattle.rules.specs.Session.{Session, restarted}
-use Rattle.receiver.specs.Place.{entered}
+use Rattle.receiver.specs.inside.Place.{entered}
 use Rattle.receiver.specs.declared.place.Way.{Way}
 use Rattle.receiver.specs.declared.place.Way.the-variants.{New, Again, On}
-use Rattle.session.specs.Session.{sessionOf, streamOf, parsedOf, freshOf, progressOf, bare}
+use Rattle.session.specs.inside.Session.{sessionOf, streamOf, parsedOf, freshOf, progressOf, bare}
 use Rattle.session.proofs.Rules.{restartsAt, awaitedAt, restarts-bare, awaited-bare}
 use Rattle.rules.specs.Session.{restarts, over}
 use Rattle.rules.specs.Tests.{isNone}

@@ -14,7 +14,7 @@ use Rattle.rules.specs.Session.{Session, Out}
 use Rattle.rules.specs.Table.{held}
 use Rattle.receiver.specs.Receive.{result, lent}
 use Rattle.answers.specs.Reception.{told, outAfter}
-use Rattle.session.specs.Session.{sessionOf, InRange}
+use Rattle.session.specs.inside.Session.{sessionOf, InRange}
 use Rattle.answers.specs.declared.Answer.{Answer}
 use Rattle.session.specs.declared.Session as coded
 use Rattle.state.specs.Layout.{keyAt, sessionAt, placeAt, placesOf, keyOf, streamOfKey}

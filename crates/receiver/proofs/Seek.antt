@@ -10,6 +10,7 @@ use lib.Dec.{ltb, eqb}
 use lib.ListN.{length}
 use Rattle.bits.specs.Order.{Octets}
 use Rattle.rules.specs.Frame.{Stream}
+use Rattle.rules.specs.Limits.{oldAge}
 use Rattle.rules.specs.Table.{Place, empty, held, plus1, seek, holds, isFree, isOld, placeFor}
 use Rattle.rules.specs.Tests.{pick}
 use Rattle.bits.specs.Tabulate.{tabulate}
@@ -99,7 +100,7 @@ module _ (m : List ℕ) where
   pub old-at : (t : ℕ) → seek (isOld t) (placesOf m) ≡ found (lowest (fitsAt m (Old t)) 0 32) 32
   unfolding fitsAt placeAt sessionAt
   old-at t = scanned m (isOld t) (fitsAt m (Old t)) (λ j b. go j (eqb (keyAt m j) 0)) where
-    go : (j : ℕ) (b : Bool) → isOld t (pick b empty (held (streamOfKey (keyAt m j)) (sessionAt m j))) ≡ (not b && ltb 2000000 (t - timeAt m j))
+    go : (j : ℕ) (b : Bool) → isOld t (pick b empty (held (streamOfKey (keyAt m j)) (sessionAt m j))) ≡ (not b && ltb oldAge (t - timeAt m j))
     go j true = refl
     go j false = refl
 

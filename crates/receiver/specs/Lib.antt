@@ -1,2 +1,2 @@
 pub mod Receive
-pub mod Place
+pub mod inside

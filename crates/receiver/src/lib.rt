@@ -7,10 +7,11 @@ use session::Incoming;
 use subscriptions::Subscribed;
 ghost use mathlib.Core.Path.{_≡_};
 ghost use mathlib.Core.Bool.{true};
-ghost use Rattle.receiver.specs.Receive.{result, frameOf, arriving, lent, received, Accepted};
+ghost use Rattle.receiver.specs.Receive.{result, frameOf, arriving, lent, received};
+ghost use Rattle.receiver.specs.inside.Called.{Accepted};
 ghost use Rattle.rules.specs.Frame.{unnamed, payloadOf};
 ghost use Rattle.rules.specs.Reception.{step, stepAnonymous};
-ghost use Rattle.session.specs.Session.{streamOf, parsedOf};
+ghost use Rattle.session.specs.inside.Session.{streamOf, parsedOf};
 ghost use Rattle.state.specs.Layout.{setupOf, placesOf};
 ghost use Rattle.state.specs.Sound.{soundState};
 

@@ -11,10 +11,11 @@ ghost use lib.ListN.{length};
 ghost use Rattle.rules.specs.Reception.{store, stepNew, stepSeek};
 ghost use Rattle.rules.specs.Session.{restarted, takes, react};
 ghost use Rattle.rules.specs.Table.{held, seek, holds, placeFor};
-ghost use Rattle.receiver.specs.Place.{entered, Enters};
-ghost use Rattle.receiver.specs.Receive.{result, lent, Called};
+ghost use Rattle.receiver.specs.inside.Place.{entered, Enters};
+ghost use Rattle.receiver.specs.Receive.{result, lent};
+ghost use Rattle.receiver.specs.inside.Called.{Called};
 ghost use Rattle.receiver.specs.declared.place.Way.the-variants.{New};
-ghost use Rattle.session.specs.Session.{sessionOf, streamOf, parsedOf};
+ghost use Rattle.session.specs.inside.Session.{sessionOf, streamOf, parsedOf};
 ghost use Rattle.state.specs.Layout.{size, keyAt, keyOf, countAt, sessionAt, placesOf, streamOfKey};
 ghost use Rattle.state.specs.Place.{withPlace};
 

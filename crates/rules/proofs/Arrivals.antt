@@ -15,6 +15,7 @@ use Rattle.rules.specs.Answer as answer
 use Rattle.rules.specs.Check.{Reception, Parsed, parsed, badTail}
 use Rattle.rules.specs.Condition3.{ofStream, startOf, keep, All, framesWith, answersTo, upTo, forward, roomy, Brings, done, next, rulesTable}
 use Rattle.rules.specs.Frame.{Frame, Stream, sameStream, streamOf, tailOf, isStart, isEnd, toggleOf}
+use Rattle.rules.specs.Limits.{oldAge}
 use Rattle.rules.specs.Reception.{stepNew, stepStart, sessionIn, stepSeek, stepAnonymous, stepChecked, step}
 use Rattle.rules.specs.Sending as sending
 use Rattle.rules.specs.Sending.{Call, any}
@@ -184,7 +185,7 @@ pub untimed-each : (id time : ℕ) (l : List (List ℕ)) → map untimed (frames
 untimed-each id time [] = refl
 untimed-each id time (c ∷ l) = ap (λ fs. frameAt id c 0 ∷ fs) (untimed-each id time l)
 
-pub soon-each : (id time : ℕ) (l : List (List ℕ)) → All (λ f. f .time ≤ time + 2000000) (framesAt id time l)
+pub soon-each : (id time : ℕ) (l : List (List ℕ)) → All (λ f. f .time ≤ time + oldAge) (framesAt id time l)
 soon-each id time [] = tt
 soon-each id time (c ∷ l) = (omega arith, soon-each id time l)
 
@@ -192,7 +193,7 @@ pub length-each : (id time : ℕ) (l : List (List ℕ)) → length (framesAt id 
 length-each id time [] = refl
 length-each id time (c ∷ l) = ap suc (length-each id time l)
 
-pub brings-each : (id time : ℕ) (l : List (List ℕ)) → Brings id (time + 2000000) l (framesAt id time l)
+pub brings-each : (id time : ℕ) (l : List (List ℕ)) → Brings id (time + oldAge) l (framesAt id time l)
 brings-each id time [] = done
 brings-each id time (c ∷ l) = next time (omega arith) (brings-each id time l)
 

@@ -13,6 +13,7 @@ use Rattle.bits.specs.Tabulate.{tabulate}
 use Rattle.rules.specs.Answer.{handed}
 use Rattle.rules.specs.Condition3.{ofStream, startOf, All, framesWith, upTo, Receiver, frames, answers, tookStart, front, While, Transfer, handouts, Past, rulesTable}
 use Rattle.rules.specs.Frame.{Frame, Stream, streamOf, isStart, tailOf}
+use Rattle.rules.specs.Limits.{oldAge}
 use Rattle.rules.specs.Reception.{step}
 use Rattle.rules.specs.Sending as sending
 use Rattle.rules.specs.Sending.{Call, done, framesOf, sendStep}
@@ -95,7 +96,7 @@ module _ (u : Setup) (c : Call) (hears : Hears u c) (m : Map) (records : List �
           fields = (ok .priority, ok .transfer);
           signature = c .signature;
           subscribed = signed u c hears id small stream named aimed;
-          brings = brings-timed id (time + 2000000) data' (x .start .frame ∷ fs) heard (omega arith, h .soon);
+          brings = brings-timed id (time + oldAge) data' (x .start .frame ∷ fs) heard (omega arith, h .soon);
         }
 
     hands-out : tookStart (rulesTable u) x ≡ true → handouts (rulesTable u) (answers (rulesTable u) d x) ≡ handed (c .payload) d (c .priority) t ∷ []
@@ -198,7 +199,7 @@ module _ (c : Call) (m : Map) (room n i : ℕ) (h : sound m ≡ true) (e : sendS
           past = past;
           heard = ap (λ fs. frameAt wire one 0 ∷ map untimed fs) plain-frames ∙ ap (λ fs. frameAt wire one 0 ∷ fs) (untimed-each wire time rest)
               ∙ sym (frames-in ∙ ap (framesAt wire 0) (opens .is));
-          soon = subst (All (λ f. f .time ≤ time + 2000000)) (sym plain-frames) (soon-each wire time rest);
+          soon = subst (All (λ f. f .time ≤ time + oldAge)) (sym plain-frames) (soon-each wire time rest);
           time = rw plain-front (forward-each u wire time space rest);
           room = wide;
           rooms = rw plain-front (roomy-each wire d' below stream-of u time space wide rest);

@@ -14,6 +14,7 @@ use Rattle.rules.specs.Answer.{Answer, taken, handed, refused, full, pas
 use Rattle.rules.specs.Check.{Parsed, orZero, parsed, badLength, badTail, frameCheck}
 use Rattle.rules.specs.Condition3.{keep, Brings, done, next as onward, again}
 use Rattle.rules.specs.Frame.{Frame, streamOf, priorityOf, isAnonymous}
+use Rattle.rules.specs.Limits.{oldAge}
 use Rattle.rules.specs.Sent.{tailByte, framed, frameAt, pieces, carrying}
 use Rattle.rules.specs.Session.{Session, Out, distance, next, restarts, overIf, over, sumOk, closing, takeEnd, takeLong, takes, proceedIf, proceed, reactIf, react, fresh}
 use Rattle.rules.specs.Setup.{Setup, signatureFor}
@@ -159,10 +160,10 @@ module _ (u : Setup) (f : Frame) (ok : Accepted u f) (named : isAnonymous (f .id
 
 -- ── a session, frame by frame ──
 
-no-restart : (s : Session) (v : Parsed) → v .time ≤ s .since + 2000000 → distance (v .transfer) (s .expected) ≤ 1 → restarts s v ≡ false
+no-restart : (s : Session) (v : Parsed) → v .time ≤ s .since + oldAge → distance (v .transfer) (s .expected) ≤ 1 → restarts s v ≡ false
 unfolding restarts
 no-restart s v h k =
-    rw (le-ltb 2000000 (v .time - s .since) (omega arith), le-ltb 1 (distance (v .transfer) (s .expected)) k) (and-false (v .start))
+    rw (le-ltb oldAge (v .time - s .since) (omega arith), le-ltb 1 (distance (v .transfer) (s .expected)) k) (and-false (v .start))
 
 react-passed : (s : Session) (v : Parsed) (r : Reason) → restarts s v ≡ false → over s v ≡ some r → react s v ≡ record { answer = passed r; session = s }
 unfolding reactIf proceed proceedIf
@@ -191,12 +192,12 @@ module _ (u : Setup) (id t since : ℕ) (small : t < 32) where
       go true g = refl
       go false g = refl
 
-  idle-passes : (v : Parsed) → v .transfer ≡ t → v .time ≤ since + 2000000
+  idle-passes : (v : Parsed) → v .transfer ≡ t → v .time ≤ since + oldAge
       → react idle v ≡ record { answer = passed (pick (v .start) wrongTransfer noTransfer); session = idle }
   idle-passes v e h = react-passed idle v (pick (v .start) wrongTransfer noTransfer) (no-restart idle v h (rw e (omega arith))) (idle-over v e)
 
   idle-run : (c : List ℕ) (g : Bool) → Copy u id t g c
-      → (more : List (List ℕ)) (fs : List Frame) → more ≡ [] → Then id (since + 2000000) c more fs → closings (refRun u idle fs) ≡ []
+      → (more : List (List ℕ)) (fs : List Frame) → more ≡ [] → Then id (since + oldAge) c more fs → closings (refRun u idle fs) ≡ []
   unfolding refRun
   idle-run c g k more fs e none-left = refl
   idle-run c g k more fs e (repeated x h b) =
@@ -239,7 +240,7 @@ verdict u id t all single = closing single (sumOk (orZero (signatureFor u id)) a
 
 module _ (u : Setup) (f : Frame) (ok : Accepted u f) (named : isAnonymous (f .id) ≡ false) (t : ℕ) (small : t < 32) (all : List ℕ) (most : length all ≤ 514) where
   abbrev till : ℕ
-  till = f .time + 2000000
+  till = f .time + oldAge
 
   abbrev gathering : List ℕ → Bool → Session
   gathering a g = record { expected = t; gathered = a; toggle = g; since = f .time }

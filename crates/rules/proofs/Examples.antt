@@ -14,6 +14,7 @@ use Rattle.rules.specs.Check.{parsed, frameCheck, check}
 use Rattle.rules.specs.Condition3.{framesWith, answersTo, upTo, frames, Premises, While, Brings, done, next, again, Transfer, fromSetup, lent, heard, rulesTable}
 use Rattle.rules.specs.Example.{setup, stream, payload, frame, start, crowd, earlier, spacious, crowded, Example}
 use Rattle.rules.specs.Frame.{sameStream, streamOf}
+use Rattle.rules.specs.Limits.{oldAge}
 use Rattle.rules.specs.Reception.{stepNew, stepStart, stepSeek, stepAnonymous, stepChecked, step, after}
 use Rattle.rules.specs.Sent.{tailByte, framed, pieces, carrying, carried, sent, idOf}
 use Rattle.rules.specs.Session.{restarts, over, closing, takeEnd, takeLong, takes, proceedIf, proceed, reactIf, react}
@@ -93,11 +94,11 @@ complete =
 
 -- frames at one time are brought in order
 brought : (l : List (List ℕ)) (c : List ℕ) (more : List (List ℕ)) → l ≡ c ∷ more
-    → Brings (idOf stream 16) (10000000 + 2000000) l (hearing l .start .frame ∷ frames (rulesTable setup) stream (hearing l))
+    → Brings (idOf stream 16) (10000000 + oldAge) l (hearing l .start .frame ∷ frames (rulesTable setup) stream (hearing l))
 unfolding idOf streamOf sameStream
 brought l c more e =
-    subst (λ k. Brings 0x103FF22A (10000000 + 2000000) k (hearing k .start .frame ∷ frames (rulesTable setup) stream (hearing k))) (sym e)
-    (subst (λ fs. Brings 0x103FF22A (10000000 + 2000000) (c ∷ more) (frame c 10000000 ∷ fs)) (sym (frames-each 0x103FF22A stream (omega arith) refl setup 10000000 512 more))
+    subst (λ k. Brings 0x103FF22A (10000000 + oldAge) k (hearing k .start .frame ∷ frames (rulesTable setup) stream (hearing k))) (sym e)
+    (subst (λ fs. Brings 0x103FF22A (10000000 + oldAge) (c ∷ more) (frame c 10000000 ∷ fs)) (sym (frames-each 0x103FF22A stream (omega arith) refl setup 10000000 512 more))
     (brings-each 0x103FF22A 10000000 (c ∷ more)))
 
 size-case : Sent (hearing (sent agreed 5 long)) agreed 5 long (false ∷ true ∷ true ∷ [])
@@ -128,7 +129,7 @@ why-premises =
       order = (record { premises = refl; fits = refl; brings = in-order }, refl, refl, refl);
     }
   where
-    in-order : Brings (idOf stream 16) (10000000 + 2000000) (sent agreed 5 degrees) (inOrder .start .frame ∷ frames (rulesTable setup) stream inOrder)
+    in-order : Brings (idOf stream 16) (10000000 + oldAge) (sent agreed 5 degrees) (inOrder .start .frame ∷ frames (rulesTable setup) stream inOrder)
     in-order =
         next 10000000 (omega arith)
         (again 10100000 (omega arith) (next 10200000 (omega arith) (next 10300000 (omega arith) (next 10400000 (omega arith) done))))

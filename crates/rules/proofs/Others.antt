@@ -12,6 +12,7 @@ use borrow.Author.Tests.{ltb-true, lt-ltb, leb-false}
 use Rattle.rules.specs.Check.{Reception, Parsed, parsed, check}
 use Rattle.rules.specs.Condition3.{ofStream}
 use Rattle.rules.specs.Frame.{Stream, sameStream, isAnonymous}
+use Rattle.rules.specs.Limits.{oldAge}
 use Rattle.rules.specs.Reception.{stepNew, stepStart, sessionIn, stepSeek, stepAnonymous, stepChecked, step}
 use Rattle.rules.specs.Session.{Session, old, fresh, proceed, react}
 use Rattle.rules.specs.Setup.{Setup}
@@ -22,13 +23,13 @@ use Rattle.rules.proofs.Table.{same-eq, Found, seek-spec, sessionsOf, f
 -- ── old sessions ──
 
 abbrev pub Old : ℕ → Session → Type 0
-Old t s = s .since + 2000000 < t
+Old t s = s .since + oldAge < t
 
 old-true : (t : ℕ) (s : Session) → old t s ≡ true → Old t s
-old-true t s e = omega (arith, ltb-true 2000000 (t - s .since) e)
+old-true t s e = omega (arith, ltb-true oldAge (t - s .since) e)
 
 pub true-old : (t : ℕ) (s : Session) → Old t s → old t s ≡ true
-true-old t s h = lt-ltb 2000000 (t - s .since) (omega arith)
+true-old t s h = lt-ltb oldAge (t - s .since) (omega arith)
 
 abbrev pub AllOld : ℕ → List Session → Type 0
 AllOld t [] = Unit {0}

@@ -15,6 +15,7 @@ use Rattle.rules.specs.Answer.{Answer, taken, handed, refused, full, pas
 use Rattle.rules.specs.Check.{Reception, parsed}
 use Rattle.rules.specs.Condition3.{Past, fromSetup, lent, heard, ofStream, startOf, keep, framesWith, answersTo, Receiver, startFrame, frames, answers, tookStart, front, While, Brings, next, again, Transfer, handouts, Condition3, rulesTable}
 use Rattle.rules.specs.Frame.{Frame, Stream, streamOf, priorityOf, isAnonymous, isStart, tailOf}
+use Rattle.rules.specs.Limits.{oldAge}
 use Rattle.rules.specs.Reception.{step, after}
 use Rattle.rules.specs.Sent.{withSum, carried, carrying, sent, idOf}
 use Rattle.rules.specs.Session.{Out, closing, takes, fresh}
@@ -146,7 +147,7 @@ module _ (u : Setup) (d : Stream) (x : Receiver (rulesTable u)) (s : Starts u d 
 
   -- of the answers to frames that carry some bytes, one alone neither takes nor passes over
   pub closes : (t : ℕ) → t < 32 → (all : List ℕ) → length all ≤ 514 → While (rulesTable u) d (length (frames (rulesTable u) d x)) x
-      → Brings (f .id) (f .time + 2000000) (carrying t all) (f ∷ frames (rulesTable u) d x)
+      → Brings (f .id) (f .time + oldAge) (carrying t all) (f ∷ frames (rulesTable u) d x)
       → closings (answers (rulesTable u) d x) ≡ verdict u (f .id) t all (leb (length all) 7) ∷ []
   closes t small all most w b = ap closings (all-answers w) ∙ closes-once u f ok not-anonymous t small all most (frames (rulesTable u) d x) b
 
@@ -159,7 +160,7 @@ module _ (u : Setup) (d : Stream) (x : Receiver (rulesTable u)) (s : Starts u d 
       handouts-closings u (answers (rulesTable u) d x)
       ∙ ap (handouts (rulesTable u))
       (closes t (tr .fields .1) (carried (tr .signature) p) (carried-most (tr .signature) p (tr .size)) w
-      (subst (λ id. Brings id (f .time + 2000000) (carrying t (carried (tr .signature) p)) (f ∷ frames (rulesTable u) d x)) (sym i) (tr .brings))
+      (subst (λ id. Brings id (f .time + oldAge) (carrying t (carried (tr .signature) p)) (f ∷ frames (rulesTable u) d x)) (sym i) (tr .brings))
       ∙ ap (λ a. a ∷ []) (unaltered u (f .id) t (tr .signature) p (ap (signatureFor u) i ∙ tr .subscribed)))
       ∙ λ j. handed p (stream-is j) (e j) t ∷ []
 

@@ -73,7 +73,7 @@ abbrev pub earlier : List Reception
 earlier =
     other 0x1001552A (1 ∷ 0 ∷ 0 ∷ 0 ∷ 0 ∷ 0 ∷ 0 ∷ 0xC0 ∷ []) 1000000 ∷
     other 0x1001552A (1 ∷ 0 ∷ 0 ∷ 0 ∷ 0 ∷ 0 ∷ 0 ∷ 0xC0 ∷ []) 1001000 ∷
-    other 0x1001552A (1 ∷ 0x81 ∷ []) 2000000 ∷ []
+    other 0x1001552A (1 ∷ 0x81 ∷ []) 3000000 ∷ []
 
 abbrev pub spacious : Receiver (rulesTable setup)
 spacious =

@@ -5,6 +5,7 @@ use mathlib.Core.Option.{Option}
 use Prim.Native.Nat.{ℕ, _+_, _-_}
 use lib.Dec.{ltb, leb, eqb}
 use lib.ListN.{length, replicate}
+use Rattle.rules.specs.Limits.{unusedAge}
 use Rattle.rules.specs.Sent.{flag}
 use Rattle.rules.specs.Table.{seek, orElse}
 use Rattle.rules.specs.Tests.{pick}
@@ -41,7 +42,7 @@ isFree (used e t since) = false
 -- "unused for 2,000,000 or more": "An earlier time counts as age 0"
 abbrev pub isUnused : ℕ → Slot → Bool
 isUnused now free = false
-isUnused now (used e t since) = leb 2000000 (now - since)
+isUnused now (used e t since) = leb unusedAge (now - since)
 
 -- the place of a topic's entry, whatever its age; "A new entry takes the lowest empty place, else replaces the lowest unused"
 unfoldable pub slotFor : Topic → ℕ → Map → Option ℕ

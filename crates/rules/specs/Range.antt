@@ -6,12 +6,13 @@ use lib.ListN.{length}
 use Rattle.rules.specs.Answer.{Answer, taken, handed, refused, full, passed, long, differs, numberOf}
 use Rattle.rules.specs.Check.{Reception}
 use Rattle.rules.specs.Frame.{Stream}
+use Rattle.rules.specs.Limits.{payloadMax}
 use Rattle.rules.specs.Reception.{step}
 use Rattle.rules.specs.Setup.{Setup}
 use Rattle.rules.specs.Table.{Places}
 
 pub record HandedRange (p : List ℕ) (d : Stream) (prio t : ℕ) : Type 0 where
-  pub length : length p ≤ 512
+  pub length : length p ≤ payloadMax
   pub transferType : d .transferType < 3
   pub type : d .type < 65536
   pub source : d .source < 128

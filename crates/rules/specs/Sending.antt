@@ -7,6 +7,7 @@ use lib.Dec.{ltb, leb, eqb}
 use lib.ListN.{length, getD, set, replicate}
 use Rattle.bits.specs.Little.{leBytes}
 use Rattle.rules.specs.Frame.{Stream}
+use Rattle.rules.specs.Limits.{frameRecord, payloadMax}
 use Rattle.rules.specs.Map.{Topic, free, used, Map, slotFor, drawn}
 use Rattle.rules.specs.Sent.{sent, idOf}
 use Rattle.rules.specs.Session.{next}
@@ -150,5 +151,5 @@ sendAs false c m = sendIn (slotFor (topicOf c) (c .time) m) c m
 unfoldable pub sendStep : Call → Map → ℕ → Step
 sendStep c m room =
     pick (notSendable c) (refuse unsendable m)
-    (pick (ltb 512 (length (c .payload))) (refuse long m)
-    (pick (ltb room (13 * frameCount (length (c .payload)))) (refuse small m) (sendAs (isResponse c) c m)))
+    (pick (ltb payloadMax (length (c .payload))) (refuse long m)
+    (pick (ltb room (frameRecord * frameCount (length (c .payload)))) (refuse small m) (sendAs (isResponse c) c m)))

@@ -15,7 +15,7 @@ use Rattle.rules.specs.Check.{Reception}
 use Rattle.rules.specs.Condition3.{All, Receiver, frames, answers, tookStart, forward, roomy, front, handouts, Past, rulesTable}
 use Rattle.rules.specs.Frame as frame
 use Rattle.rules.specs.Frame.{Frame, Stream, priorityOf}
-use Rattle.rules.specs.Limits.{payloadMax, oldAge}
+use Rattle.rules.specs.Limits.{payloadMax, oldAge, frameRecord}
 use Rattle.rules.specs.Map.{Topic, free, used, Map, blank, sameTopic, sound}
 use Rattle.rules.specs.Reception.{step}
 use Rattle.rules.specs.Sending.{Call, topicOf, streamOf, isResponse, any, notSendable, frameCount, done, numberOf, framesOf, transferOf, anonymousId, recordsOf, sendStep}
@@ -40,7 +40,7 @@ pub record InRange (c : Call) : Type 0 where
 
 -- the frame of record n, received at a time
 abbrev pub frameIn : List ℕ → ℕ → ℕ → Frame
-frameIn r time n = frameAt (le (span r (13 * n) 4)) (span r (13 * n + 5) (getD r (13 * n + 4) 0)) time
+frameIn r time n = frameAt (le (span r (frameRecord * n) 4)) (span r (frameRecord * n + 5) (getD r (frameRecord * n + 4) 0)) time
 
 pub record RecordLaws : Type 0 where
   pub fits : (c : Call) → notSendable c ≡ false → InRange c
@@ -50,7 +50,7 @@ pub record RecordLaws : Type 0 where
   pub refusal : (c : Call) (m : Map) (room : ℕ) → (numberOf (sendStep c m room .answer) ≡ 0 → ⊥)
       → (sendStep c m room .map ≡ m) × (sendStep c m room .records ≡ [])
   -- there are as many records, and they fit in the room
-  pub size : (c : Call) (m : Map) (room : ℕ) → length (sendStep c m room .records) ≡ 13 * framesOf (sendStep c m room .answer)
+  pub size : (c : Call) (m : Map) (room : ℕ) → length (sendStep c m room .records) ≡ frameRecord * framesOf (sendStep c m room .answer)
   pub room : (c : Call) (m : Map) (room : ℕ) → length (sendStep c m room .records) ≤ room
   -- no call makes more frames than a payload of 512 bytes
   pub few : (c : Call) (m : Map) (room : ℕ) → framesOf (sendStep c m room .answer) ≤ 74
@@ -87,7 +87,7 @@ transferFor c m = pick (isResponse c) (c .transfer) (offered (topicOf c) m)
 pub record Correct (c : Call) (m : Map) (records : List ℕ) : Type 0 where
   pub stream : streamFits (streamOf c) ≡ true
   pub priority : c .priority < 32
-  pub payload : length (c .payload) ≤ 512
+  pub payload : length (c .payload) ≤ payloadMax
   pub transfer : transferFor c m < 32
   pub frames : records ≡ recordsOf (idOf (streamOf c) (c .priority)) (sent (c .signature) (transferFor c m) (c .payload))
 

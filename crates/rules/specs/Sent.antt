@@ -6,6 +6,7 @@ use lib.Dec.{leb, eqb}
 use lib.ListN.{length, take, drop}
 use Rattle.checksum.specs.Crc16.{checksum}
 use Rattle.rules.specs.Frame.{Frame, Stream}
+use Rattle.rules.specs.Limits.{framePayload}
 use Rattle.rules.specs.Tests.{pick}
 
 abbrev pub flag : Bool → ℕ
@@ -25,11 +26,11 @@ framed p tail = p ++ (tail ∷ [])
 -- n frames of seven bytes, and one with what is left; toggles turn
 unfoldable pub pieces : ℕ → Bool → Bool → ℕ → List ℕ → List (List ℕ)
 pieces zero start toggle t bytes = framed bytes (tailByte start true toggle t) ∷ []
-pieces (suc n) start toggle t bytes = framed (take 7 bytes) (tailByte start false toggle t) ∷ pieces n false (not toggle) t (drop 7 bytes)
+pieces (suc n) start toggle t bytes = framed (take framePayload bytes) (tailByte start false toggle t) ∷ pieces n false (not toggle) t (drop framePayload bytes)
 
 -- the frames that carry bytes: each the next seven until the last, the first a start, toggles 0 1 0
 unfoldable pub carrying : ℕ → List ℕ → List (List ℕ)
-carrying t bytes = pieces ((length bytes - 1) / 7) true false t bytes
+carrying t bytes = pieces ((length bytes - 1) / framePayload) true false t bytes
 
 -- the checksum in front, low byte first
 abbrev pub withSum : ℕ → List ℕ → List ℕ
@@ -37,7 +38,7 @@ withSum signature p = checksum signature p % 256 ∷ checksum signature p / 256 
 
 -- what the frames of a payload carry: up to 7 bytes alone, more with the checksum
 unfoldable pub carried : ℕ → List ℕ → List ℕ
-carried signature p = pick (leb (length p) 7) p (withSum signature p)
+carried signature p = pick (leb (length p) framePayload) p (withSum signature p)
 
 -- the data of the frames of the payload p under a signature and the transfer ID t
 unfoldable pub sent : ℕ → ℕ → List ℕ → List (List ℕ)

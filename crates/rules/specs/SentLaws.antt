@@ -6,6 +6,7 @@ use Prim.Native.Nat.{ℕ, zero, suc, _+_, _*_, _/_, _%_, _^_, _≤_, _<_}
 use lib.Dec.{eqb}
 use lib.ListN.{length, getD, take, drop}
 use Rattle.rules.specs.Frame.{Stream, streamOf, priorityOf, payloadOf}
+use Rattle.rules.specs.Limits.{framePayload}
 use Rattle.rules.specs.Sent.{tailByte, framed, carried, sent, idOf}
 use Rattle.rules.specs.Sound.{streamFits}
 
@@ -17,17 +18,17 @@ joined (c ∷ more) = payloadOf c ++ joined more
 -- the first k frames of a transfer that has more
 unfoldable pub opening : ℕ → Bool → Bool → ℕ → List ℕ → List (List ℕ)
 opening zero start toggle t bytes = []
-opening (suc k) start toggle t bytes = framed (take 7 bytes) (tailByte start false toggle t) ∷ opening k false (not toggle) t (drop 7 bytes)
+opening (suc k) start toggle t bytes = framed (take framePayload bytes) (tailByte start false toggle t) ∷ opening k false (not toggle) t (drop framePayload bytes)
 
 -- of any signature, transfer ID and payload
 pub record SentLaws : Type 0 where
   -- up to 7 bytes go in one frame, start and end, toggle 0
-  pub single : (signature t : ℕ) (p : List ℕ) → length p ≤ 7 → sent signature t p ≡ framed p (tailByte true true false t) ∷ []
+  pub single : (signature t : ℕ) (p : List ℕ) → length p ≤ framePayload → sent signature t p ≡ framed p (tailByte true true false t) ∷ []
   -- n > 7 bytes make (n + 8) / 7 frames
-  pub count : (signature t : ℕ) (p : List ℕ) → 7 < length p → length (sent signature t p) ≡ (length p + 8) / 7
+  pub count : (signature t : ℕ) (p : List ℕ) → framePayload < length p → length (sent signature t p) ≡ (length p + 8) / 7
   -- frame n, counted from 0, carries the seven bytes from 7 n on, or what is left of them
   pub frame : (signature t : ℕ) (p : List ℕ) (n : ℕ) → n < length (sent signature t p) → getD (sent signature t p) n []
-      ≡ framed (take 7 (drop (7 * n) (carried signature p))) (tailByte (eqb n 0) (eqb (suc n) (length (sent signature t p))) (eqb (n % 2) 1) t)
+      ≡ framed (take framePayload (drop (framePayload * n) (carried signature p))) (tailByte (eqb n 0) (eqb (suc n) (length (sent signature t p))) (eqb (n % 2) 1) t)
   -- each has 1 to 8 data bytes
   pub size : (signature t : ℕ) (p : List ℕ) (n : ℕ) → n < length (sent signature t p)
       → (1 ≤ length (getD (sent signature t p) n [])) × (length (getD (sent signature t p) n []) ≤ 8)
@@ -35,7 +36,7 @@ pub record SentLaws : Type 0 where
   pub whole : (signature t : ℕ) (p : List ℕ) → joined (sent signature t p) ≡ carried signature p
   -- the first k frames of more are full ones, and depend on the first 7 k bytes alone
   pub front : (signature t : ℕ) (p : List ℕ) (k : ℕ) → k < length (sent signature t p)
-      → take k (sent signature t p) ≡ opening k true false t (take (7 * k) (carried signature p))
+      → take k (sent signature t p) ≡ opening k true false t (take (framePayload * k) (carried signature p))
 
 -- of any stream with a named source and any priority
 pub record IdLaws : Type 0 where

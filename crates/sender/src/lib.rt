@@ -5,12 +5,15 @@ pub mod laws;
 
 use answers::Dispatch;
 use answers::Sent;
+use rules::limits::FRAME_RECORD;
+use rules::limits::PAYLOAD;
 ghost use mathlib.Core.Path.{_≡_};
 ghost use mathlib.Core.Bool.{true};
 ghost use Prim.Native.Nat.{_*_, _≤_};
 ghost use lib.ListN.{length};
 ghost use Rattle.id_map.specs.Layout.{mapOf};
 ghost use Rattle.id_map.specs.Sound.{soundMap};
+ghost use Rattle.rules.specs.Limits.{payloadMax, frameRecord};
 ghost use Rattle.rules.specs.Map.{slotFor};
 ghost use Rattle.rules.specs.Sending.{frameCount, topicOf, sendIn, sendStep};
 ghost use Rattle.rules.specs.SendingLaws.{InRange};
@@ -32,7 +35,7 @@ pub struct Outgoing {
 // A message or a request: the transfer ID comes from the map.
 fn number(map: &mut [u8], c: Outgoing, payload: &[u8], out: &mut [u8]) -> Sent
     requires { ⌜ (soundMap (now map) ≡ true) × InRange (callOf c (now payload)) ⌝ }
-    requires { ⌜ (c .«transfer_type» ≡ 2 → ⊥) × ((length (now payload) ≤ 512) × (13 * frameCount (length (now payload)) ≤ length (now out))) ⌝ }
+    requires { ⌜ (c .«transfer_type» ≡ 2 → ⊥) × ((length (now payload) ≤ payloadMax) × (frameRecord * frameCount (length (now payload)) ≤ length (now out))) ⌝ }
     ensures { λ r. ⌜ result r (now (map .exit)) (now (out .exit)) ≡ lent (now (map .entry)) (now (out .entry)) (sendIn (slotFor (topicOf (callOf c (now (payload .entry)))) (c .time) (mapOf (now (map .entry)))) (callOf c (now (payload .entry))) (mapOf (now (map .entry)))) ⌝ }
 {
     let k = id_map::entry::key_of(c.transfer_type, c.type_id, c.destination);
@@ -58,11 +61,11 @@ fn dispatch(map: &mut [u8], c: Outgoing, payload: &[u8], out: &mut [u8]) -> Sent
     if check::not_sendable(c, payload) {
         return Sent::NotSendable;
     }
-    if 512 < n {
+    if PAYLOAD < n {
         return Sent::TooLong;
     }
     let frames = frames::count(n);
-    if out.len() < 13 * frames {
+    if out.len() < FRAME_RECORD * frames {
         return Sent::OutputSmall;
     }
     if c.transfer_type == 2 {

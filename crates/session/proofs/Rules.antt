@@ -14,8 +14,8 @@ use Rattle.rules.specs.Session as rules
 use Rattle.rules.specs.Session.{oldSince, distance, next, sumOk, over, overIf, closed, closing, takes, takeLong, takeEnd, sinceOf, proceed, proceedIf, react, reactIf, restarts, restarted, fresh}
 use Rattle.rules.specs.Tests.{pick, sameBool, isEmpty, isNone}
 use Rattle.answers.specs.Reception.{told, outAfter}
-use Rattle.session.specs.Answer.{HandsOut, Closes}
-use Rattle.session.specs.Session.{sessionOf, InRange, parsedOf, added, bare}
+use Rattle.session.specs.inside.Answer.{HandsOut, Closes}
+use Rattle.session.specs.inside.Session.{sessionOf, InRange, parsedOf, added, bare}
 use Rattle.answers.specs.declared.Answer.{Answer}
 use Rattle.answers.specs.declared.Answer.the-variants.{Passed, BadChecksum}
 use Rattle.session.specs.declared.Incoming.{Incoming}

@@ -10,12 +10,12 @@ ghost use mathlib.Core.List.{[]};
 ghost use Prim.Native.Nat.{_+_, _-_, _≤_, _<_};
 ghost use lib.ListN.{length, take};
 ghost use Rattle.bits.specs.Part.{span};
-ghost use Rattle.rules.specs.Limits.{gatheredMax};
+ghost use Rattle.rules.specs.Limits.{payloadMax, gatheredMax};
 ghost use Rattle.rules.specs.Session as rules;
 ghost use Rattle.rules.specs.Session.{next, sumOk};
 ghost use Rattle.rules.specs.Tests.{pick, isNone};
-ghost use Rattle.session.specs.Session.{sessionOf, parsedOf, freshOf, added, bare};
-ghost use Rattle.session.specs.Answer.{HandsOut, Closes};
+ghost use Rattle.session.specs.inside.Session.{sessionOf, parsedOf, freshOf, added, bare};
+ghost use Rattle.session.specs.inside.Answer.{HandsOut, Closes};
 
 // A session by value.
 pub struct Session {
@@ -42,7 +42,7 @@ pub struct Progress {
 }
 
 impl Session {
-    // A session that a start with this transfer ID begins.
+    // Internal. A session that a start with this transfer ID begins.
     pub fn fresh(transfer: u8, time: u64) -> Self
         ensures { λ r. ⌜ r ≡ freshOf transfer time ⌝ }
     {
@@ -56,7 +56,7 @@ impl Session {
         }
     }
 
-    // Nothing in hand, toggle 0, expecting this transfer ID. The time stays.
+    // Internal. Nothing in hand, toggle 0, expecting this transfer ID. The time stays.
     pub fn restart(mut self, transfer: u8) -> Self
         ensures { λ r. ⌜ r ≡ record { expected = transfer; toggle = false; time = self .time; len = 0; bytes = self .bytes } ⌝ }
     {
@@ -171,7 +171,7 @@ pub fn hand_out(s: &[u8], from: usize, len: usize, f: Incoming, out: &mut [u8]) 
 
 // Internal. An end: start and end together hand out the bytes, else the checksum in front decides.
 pub fn finish(s: &[u8], len: usize, f: Incoming, out: &mut [u8]) -> Answer
-    requires { ⌜ (len ≤ length (now s)) × ((len ≤ gatheredMax) × ((512 ≤ length (now out)) × ((f .head .start ≡ true) → len ≤ 512))) ⌝ }
+    requires { ⌜ (len ≤ length (now s)) × ((len ≤ gatheredMax) × ((payloadMax ≤ length (now out)) × ((f .head .start ≡ true) → len ≤ payloadMax))) ⌝ }
     ensures { λ r. ⌜ Closes f (take len (now (s .entry))) r (now (out .entry)) (now (out .exit)) ⌝ }
 {
     if f.head.start {

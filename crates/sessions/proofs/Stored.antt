@@ -15,7 +15,7 @@ use Rattle.bits.proofs.Little.{length-leBytes, le-one}
 use Rattle.bits.proofs.Splice.{length-splice, splice-splice, splice-all, length-span}
 use Rattle.rules.specs.Session as rules
 use Rattle.rules.specs.Table.{held}
-use Rattle.session.specs.Session.{sessionOf, progressOf, whole}
+use Rattle.session.specs.inside.Session.{sessionOf, progressOf, whole}
 use Rattle.session.specs.declared.Progress.{Progress}
 use Rattle.session.specs.declared.Session.{Session}
 use Rattle.state.specs.Layout.{size, timeAt, countAt, expectedAt, toggleAt, gatheredAt, sessionAt, keyOf, streamOfKey, timesAt, streamKeysAt, controlsAt, bytesAt}

@@ -11,7 +11,7 @@ ghost use Prim.Native.Nat.{_≤_, _<_};
 ghost use lib.ListN.{length};
 ghost use Rattle.rules.specs.Limits.{sessionsMax, gatheredMax};
 ghost use Rattle.rules.specs.Table.{held};
-ghost use Rattle.session.specs.Session.{sessionOf, progressOf, whole};
+ghost use Rattle.session.specs.inside.Session.{sessionOf, progressOf, whole};
 ghost use Rattle.state.specs.Layout.{size, keyAt, timeAt, countAt, sessionAt, streamOfKey};
 ghost use Rattle.state.specs.Place.{withPlace};
 

@@ -26,7 +26,7 @@ pub extern "C" fn tecelume_version() -> u32
 pub extern "C" fn tecelume_receiver_size() -> u64
     ensures { λ r. ⌜ r ≡ size ⌝ }
 {
-    17736
+    state::layout::SIZE as u64
 }
 
 // Sets a receiver up in a lent state: 0, 13 or 20.

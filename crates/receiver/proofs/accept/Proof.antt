@@ -10,13 +10,14 @@ use lib.Seq.{length-take-le}
 use Rattle.answers.specs.Reception.{told}
 use Rattle.bits.proofs.Octets.{octets-all}
 use Rattle.bits.specs.Part.{span, splice}
-use Rattle.receiver.specs.Receive.{lent, Accepted, Called}
+use Rattle.receiver.specs.Receive.{lent}
+use Rattle.receiver.specs.inside.Called.{Accepted, Called}
 use Rattle.receiver.proofs.Lent.{untouched}
 use Rattle.rules.specs.Answer as rules
 use Rattle.rules.specs.Frame.{unnamed, payloadOf}
 use Rattle.rules.specs.Reception.{stepAnonymous, stepSeek}
 use Rattle.rules.specs.Table.{seek, holds}
-use Rattle.session.specs.Session.{streamOf, parsedOf}
+use Rattle.session.specs.inside.Session.{streamOf, parsedOf}
 use Rattle.session.specs.declared.Incoming.{Incoming}
 use Rattle.state.specs.Layout.{placesOf}
 use borrow.Author.Needs.{needs}

@@ -10,11 +10,12 @@ use lib.ListN.{length, getD}
 use Rattle.answers.specs.declared.Answer.the-variants.{Refused}
 use Rattle.bits.specs.Order.{Octets}
 use Rattle.bits.proofs.Octets.{octets-all}
-use Rattle.frame.specs.Head.{headOf, headTestsOf}
-use Rattle.frame.specs.Head as head
+use Rattle.frame.specs.inside.Head.{headOf, headTestsOf}
+use Rattle.frame.specs.inside.Head as head
 use Rattle.frame.specs.declared.head.Head.{Head}
 use Rattle.frame.proofs.Heads.{source-is, type-lt, transfer-type-lt, destination-lt}
-use Rattle.receiver.specs.Receive.{result, frameOf, arriving, lent, Accepted}
+use Rattle.receiver.specs.Receive.{result, frameOf, arriving, lent}
+use Rattle.receiver.specs.inside.Called.{Accepted}
 use Rattle.receiver.proofs.Checks.{Readable, readable, HeadPasses, head-passes, under, not-asked, read-refuses, head-refuses, not-subscribed, no-room, accepted, heads, parsed-is, step-refused, step-accepted}
 use Rattle.receiver.proofs.Lent.{untouched}
 use Rattle.rules.specs.Answer.{refused}
@@ -24,7 +25,7 @@ use Rattle.rules.specs.Frame.{tailOf, payloadOf, isStart, isEnd, toggleOf, isAn
 use Rattle.rules.specs.Reception.{step, stepAnonymous}
 use Rattle.rules.specs.Setup.{subscribed, kindOf, signatureFor}
 use Rattle.rules.specs.Tests.{pick}
-use Rattle.session.specs.Session.{parsedOf}
+use Rattle.session.specs.inside.Session.{parsedOf}
 use Rattle.state.specs.Layout.{setupOf, placesOf}
 use Rattle.state.specs.Sound.{soundState}
 use Rattle.subscriptions.specs.inside.Subscription.{asked}

@@ -5,7 +5,7 @@ use Rattle.bits.proofs.Bytes.{bytes-unpack}
 use Rattle.bits.proofs.Octets.{octets-all}
 use Rattle.bits.proofs.Digits.{digits-mod-pow}
 use Rattle.bits.specs.Order.{Octets, digits, store}
-use Rattle.bits.specs.Window.{patched}
+use Rattle.bits.specs.inside.Window.{patched}
 use lib.ListN.{length, getD, set, length-set, take-append-drop}
 use Prim.Native.Nat.{ℕ, suc, _+_, _-_, _*_, _/_, _^_, _<_, _%_}
 use lib.Pow.{pow-pos}

@@ -3,7 +3,7 @@ use mathlib.Core.Path.{_≡_, refl, sym, ap, _∙_}
 use mathlib.Core.Bool.{Bool, true, false}
 use mathlib.Core.Option.{none, some}
 use Prim.Native.Nat.{ℕ}
-use Rattle.frame.specs.Head.{streamOf, headTestsOf}
+use Rattle.frame.specs.inside.Head.{streamOf, headTestsOf}
 use Rattle.frame.specs.declared.head.Head.{Head}
 use Rattle.rules.specs.Check.{orZero, first, unnamedService, badTail, forAnother}
 use Rattle.rules.specs.Frame.{unnamed}

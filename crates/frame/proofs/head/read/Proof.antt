@@ -5,7 +5,7 @@ use Prim.Native.Nat.{ℕ, _/_, _%_}
 use native.Mathlib.Nat.{mod-eq-of-lt}
 use native.Mathlib.Omega.{arith}
 use Rattle.rules.specs.Frame.{priorityOf}
-use Rattle.frame.specs.Head.{headOf}
+use Rattle.frame.specs.inside.Head.{headOf}
 use Rattle.frame.specs.declared.head.Head.{Head}
 use Rattle.frame.proofs.Heads.{source-is, type-lt}
 use borrow.Author.Needs.{needs}

@@ -13,7 +13,7 @@ use Rattle.rules.specs.Reception.{store, stepSeek, stepStart, sessionIn}
 use Rattle.rules.specs.Session.{Session, react}
 use Rattle.rules.specs.Table.{Place, empty}
 use Rattle.receiver.specs.Receive.{lent}
-use Rattle.session.specs.Session.{streamOf, parsedOf}
+use Rattle.session.specs.inside.Session.{streamOf, parsedOf}
 use Rattle.session.specs.declared.Incoming.{Incoming}
 use Rattle.state.specs.Layout.{keyAt, keyOf, streamOfKey, sessionAt, placeAt, placesOf}
 use Rattle.state.specs.Sound.{soundState}

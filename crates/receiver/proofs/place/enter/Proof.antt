@@ -5,9 +5,9 @@ use native.Mathlib.Omega.{arith}
 use lib.ListN.{length}
 use Rattle.bits.proofs.Octets.{octets-all}
 use Rattle.rules.specs.Session.{Session, Out, takes}
-use Rattle.receiver.specs.Place.{entered}
+use Rattle.receiver.specs.inside.Place.{entered}
 use Rattle.answers.specs.Reception.{told, outAfter}
-use Rattle.session.specs.Session.{sessionOf, streamOf, parsedOf, added, InRange}
+use Rattle.session.specs.inside.Session.{sessionOf, streamOf, parsedOf, added, InRange}
 use Rattle.session.specs.declared.Session as coded
 use Rattle.session.proofs.Rules.{shut-range, takes-on, takes-last}
 use Rattle.state.specs.Layout.{streamOfKey}

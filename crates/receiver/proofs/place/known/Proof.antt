@@ -11,7 +11,7 @@ use Rattle.rules.specs.Session.{Out, next, restarted, react}
 use Rattle.rules.specs.Table.{held}
 use Rattle.receiver.specs.Receive.{lent}
 use Rattle.answers.specs.Reception.{told, outAfter}
-use Rattle.session.specs.Session.{streamOf, parsedOf}
+use Rattle.session.specs.inside.Session.{streamOf, parsedOf}
 use Rattle.session.specs.declared.Progress.{Progress}
 use Rattle.session.proofs.Rules.{awaited-start, reacts-anew, reacts-skip, reacts-take, reacts-over, reacts-pass}
 use Rattle.state.specs.Layout.{keyAt, sessionAt, placesOf, streamOfKey}

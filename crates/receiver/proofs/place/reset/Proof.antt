@@ -3,7 +3,7 @@ use mathlib.Core.Path.{ap, _∙_}
 use native.Mathlib.Omega.{arith}
 use Rattle.rules.specs.Session.{Session, restarted}
 use Rattle.rules.specs.Table.{held}
-use Rattle.session.specs.Session.{sessionOf}
+use Rattle.session.specs.inside.Session.{sessionOf}
 use Rattle.state.specs.Layout.{streamOfKey}
 use Rattle.state.specs.Place.{withPlace}
 use borrow.Author.Needs.{needs}

@@ -7,10 +7,10 @@ use native.Mathlib.Omega.{arith}
 use Rattle.bits.proofs.Octets.{octets-all}
 use Rattle.rules.specs.Reception.{store, stepNew}
 use Rattle.rules.specs.Session.{Out, fresh, takes, proceed}
-use Rattle.receiver.specs.Place.{Enters}
+use Rattle.receiver.specs.inside.Place.{Enters}
 use Rattle.receiver.specs.Receive.{lent}
 use Rattle.receiver.specs.declared.place.Way.the-variants.{New}
-use Rattle.session.specs.Session.{streamOf, parsedOf}
+use Rattle.session.specs.inside.Session.{streamOf, parsedOf}
 use Rattle.session.proofs.Rules.{begins}
 use Rattle.session.specs.declared.Incoming.{Incoming}
 use Rattle.state.specs.Layout.{placesOf}

@@ -9,7 +9,7 @@ use borrow.Author.Needs.{needs}
 use lib.ListN.{length, getD, set}
 use lib.Seq.{paste, paste-zero, paste-suc}
 use Rattle.rules.specs.Tests.{pick}
-use Rattle.session.specs.Session.{sessionOf, added}
+use Rattle.session.specs.inside.Session.{sessionOf, added}
 use Rattle.session.specs.declared.Session.{Session}
 use Rattle.session.proofs.Gathered.{take-added}
 use Rattle.session.proofs.Session.take.Statement.{statement}

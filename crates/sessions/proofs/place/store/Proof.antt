@@ -1,6 +1,6 @@
 -- `place::store` meets its contract: its six stores, one after the other, are the place.
 use native.Mathlib.Omega.{arith}
-use Rattle.session.specs.Session.{whole}
+use Rattle.session.specs.inside.Session.{whole}
 use Rattle.sessions.proofs.Stored.{stored}
 use borrow.Author.Needs.{needs}
 use Rattle.sessions.proofs.place.store.Statement.{statement}

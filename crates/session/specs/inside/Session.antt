@@ -4,7 +4,7 @@ use mathlib.Core.Bool.{Bool, false, not, _&&_, _||_}
 use Prim.Native.Nat.{ℕ, _-_, _≤_, _<_}
 use lib.Dec.{ltb, eqb}
 use lib.ListN.{length, take, replicate}
-use Rattle.frame.specs.Head as frame
+use Rattle.frame.specs.inside.Head as frame
 use Rattle.rules.specs.Check.{Parsed}
 use Rattle.rules.specs.Frame.{Stream}
 use Rattle.rules.specs.Limits.{gatheredMax, oldAge}

@@ -5,7 +5,7 @@ use mathlib.Core.List.{List, []}
 use Prim.Native.Nat.{ℕ, _+_, _≤_, _<_}
 use lib.ListN.{length}
 use Rattle.rules.specs.Session.{Session, restarted, fresh}
-use Rattle.session.specs.Session.{parsedOf}
+use Rattle.session.specs.inside.Session.{parsedOf}
 use Rattle.receiver.specs.declared.place.Way.{Way}
 use Rattle.receiver.specs.declared.place.Way.the-variants.{New, Again, On}
 use Rattle.session.specs.declared.Incoming.{Incoming}

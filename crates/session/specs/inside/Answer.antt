@@ -6,7 +6,7 @@ use Rattle.answers.specs.Reception.{told, outAfter}
 use Rattle.bits.specs.Part.{splice}
 use Rattle.rules.specs.Answer as rules
 use Rattle.rules.specs.Session.{closing, sumOk}
-use Rattle.session.specs.Session.{streamOf, parsedOf}
+use Rattle.session.specs.inside.Session.{streamOf, parsedOf}
 use Rattle.answers.specs.declared.Answer.{Answer}
 use Rattle.session.specs.declared.Incoming.{Incoming}
 

@@ -1,0 +1,11 @@
+-- The table of the transfer checksum.
+use mathlib.Core.Path.{_≡_}
+use mathlib.Core.List.{List}
+use Prim.Native.Nat.{ℕ, _*_, _<_}
+use lib.ListN.{getD}
+use Rattle.checksum.specs.Crc.{shifts}
+use Rattle.checksum.specs.Crc16.{ccitt}
+
+-- the rule of the table: entry i is what the byte i makes of an empty register
+pub record IsTable (t : List ℕ) : Type 0 where
+  pub entry : (i : ℕ) → i < 256 → getD t i 0 ≡ shifts ccitt 8 (i * 256)
