@@ -1,2 +1,3 @@
+pub mod Setup
 pub mod Reception
 pub mod Sending

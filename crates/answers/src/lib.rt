@@ -4,6 +4,7 @@ ghost use mathlib.Core.Path.{_≡_};
 ghost use Prim.Native.Nat.{_<_};
 ghost use Rattle.answers.specs.Reception.{numberOf, noTransfer, transferIn};
 ghost use Rattle.answers.specs.Sending as sending;
+ghost use Rattle.answers.specs.Setup as setup;
 ghost use Rattle.answers.specs.Sending.{noDispatch, dispatchIn};
 
 // A transfer that was handed out: its length, stream, the closing frame's priority and transfer ID.
@@ -27,6 +28,13 @@ pub enum Answer {
     TooLong,
     BadChecksum,
     Faulty,
+}
+
+// What setting up a receiver or a transfer-ID map answers.
+pub enum Outcome {
+    Done,
+    Unacceptable,
+    Short,
 }
 
 // What a send made: how many frames, and their transfer ID.
@@ -88,6 +96,18 @@ impl Answer {
             Answer::TooLong => no_transfer(),
             Answer::BadChecksum => no_transfer(),
             Answer::Faulty => no_transfer(),
+        }
+    }
+}
+
+impl Outcome {
+    pub fn number(self) -> u32
+        ensures { λ r. ⌜ r ≡ setup.numberOf self ⌝ }
+    {
+        match self {
+            Outcome::Done => 0,
+            Outcome::Unacceptable => 13,
+            Outcome::Short => 20,
         }
     }
 }

@@ -32,7 +32,7 @@ use Rattle.rules.specs.Table.{empty, held, Places, seek, placeFor}
 use Rattle.setup.proofs.Fresh.{fresh}
 use Rattle.setup.specs.Laws.{Fresh}
 use Rattle.setup.specs.Setup.{recordAt, given, accepted, stateOf, afterSetup}
-use Rattle.setup.specs.declared.Outcome.the-variants.{Done}
+use Rattle.answers.specs.declared.Outcome.the-variants.{Done}
 use Rattle.state.specs.Layout.{size}
 use Rattle.state.proofs.Bools.{and-left, and-right}
 use Rattle.state.specs.Place.{written}

@@ -22,7 +22,7 @@ use Rattle.rules.specs.Table.{Places, begun}
 use Rattle.rules.specs.Tests.{pick}
 use Rattle.setup.proofs.Fresh.{fresh}
 use Rattle.setup.specs.Setup.{given, accepted, signatures, keys, filled, stateOf, Result, result, afterSetup}
-use Rattle.setup.specs.declared.Outcome.the-variants.{Done, Unacceptable, Short}
+use Rattle.answers.specs.declared.Outcome.the-variants.{Done, Unacceptable, Short}
 use Rattle.state.proofs.Bools.{and-left, and-right}
 use Rattle.state.specs.Layout.{size, placesOf}
 

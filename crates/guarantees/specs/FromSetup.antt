@@ -11,7 +11,7 @@ use Rattle.rules.specs.Reception.{run}
 use Rattle.rules.specs.Setup.{Setup}
 use Rattle.rules.specs.Table.{begun}
 use Rattle.setup.specs.Setup.{given, afterSetup}
-use Rattle.setup.specs.declared.Outcome.the-variants.{Done}
+use Rattle.answers.specs.declared.Outcome.the-variants.{Done}
 use Rattle.state.specs.Layout.{placesOf}
 
 -- a setup call that succeeds: the lent bytes m, the own ID and the subscription records r

@@ -5,15 +5,10 @@ pub mod laws;
 pub mod layout;
 pub mod sound;
 
+use answers::Outcome;
 ghost use mathlib.Core.Path.{_≡_};
 ghost use Rattle.id_map.specs.Layout as specs;
 ghost use Rattle.id_map.specs.Setup.{result, afterSetup};
-
-// What setting a map up answers.
-pub enum Outcome {
-    Done,
-    Short,
-}
 
 // The bytes that a map takes.
 pub fn size() -> usize

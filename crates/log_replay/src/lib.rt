@@ -1,7 +1,7 @@
 // The log program's work on one line: reading it, receiving its frame, writing the answer, counting.
 use answers::Answer;
+use answers::Outcome;
 use log_line::read::Line;
-use setup::Outcome;
 ghost use mathlib.Core.Path.{_≡_};
 ghost use mathlib.Core.Bool.{true, false};
 ghost use mathlib.Core.List.{[]};

@@ -9,7 +9,7 @@ use lib.ListN.{length, drop}
 use Rattle.rules.specs.Limits.{subscriptionsMax, subscriptionRecord}
 use Rattle.rules.specs.Setup.{allFit, acceptable}
 use Rattle.setup.specs.Setup.{recordAt, given, accepted, stateOf, result, afterSetup}
-use Rattle.setup.specs.declared.Outcome.the-variants.{Done, Unacceptable, Short}
+use Rattle.answers.specs.declared.Outcome.the-variants.{Done, Unacceptable, Short}
 use Rattle.bits.proofs.Tabulate.{length-tabulate}
 use Rattle.bits.specs.Tabulate.{tabulate}
 use Rattle.state.specs.Layout.{size}

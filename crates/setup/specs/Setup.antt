@@ -10,16 +10,10 @@ use Rattle.bits.specs.Part.{span}
 use Rattle.rules.specs.Limits.{sessionsMax, subscriptionsMax, subscriptionRecord}
 use Rattle.rules.specs.Setup.{Subscription, Setup, acceptable}
 use Rattle.rules.specs.Tests.{pick}
-use Rattle.setup.specs.declared.Outcome.{Outcome}
-use Rattle.setup.specs.declared.Outcome.the-variants.{Done, Unacceptable, Short}
+use Rattle.answers.specs.declared.Outcome.{Outcome}
+use Rattle.answers.specs.declared.Outcome.the-variants.{Done, Unacceptable, Short}
 use Rattle.bits.specs.Tabulate.{tabulate}
 use Rattle.state.specs.Layout.{signaturesAt, streamKeysAt, size}
-
--- 01, Numbers answered
-abbrev pub numberOf : Outcome → ℕ
-numberOf Done = 0
-numberOf Unacceptable = 13
-numberOf Short = 20
 
 unfoldable pub recordAt : List ℕ → ℕ → Subscription
 recordAt r j =

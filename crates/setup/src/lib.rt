@@ -1,6 +1,7 @@
 // Setting a receiver up in a lent state.
 pub mod laws;
 
+use answers::Outcome;
 use rules::limits::SUBSCRIPTION_RECORD;
 use rules::limits::SUBSCRIPTIONS;
 use state::layout::OWN_AT;
@@ -16,13 +17,6 @@ ghost use Rattle.rules.specs.Setup.{typeFits, allFit};
 ghost use Rattle.setup.specs.Setup.{recordAt, given, stateOf, afterSetup, result};
 ghost use Rattle.setup.specs.inside.Record.{Keyed, written};
 ghost use Rattle.state.specs.Layout.{size};
-
-// What a setup answers.
-pub enum Outcome {
-    Done,
-    Unacceptable,
-    Short,
-}
 
 // The kind and type of record j: its first five bytes as one number.
 fn key(records: &[u8], j: usize) -> u64

@@ -1,6 +1,7 @@
 -- What a C entry gives: its number or word, and the lent buffers after.
 use mathlib.Core.List.{List}
 use Prim.Native.Nat.{ℕ, _+_, _*_, _^_}
+use Rattle.answers.specs.Setup.{numberOf}
 use Rattle.tecelume.specs.Word.{wordOf, sentWord}
 use Rattle.id_map.specs.Setup as map
 use Rattle.receiver.specs.Receive as receive
@@ -18,10 +19,10 @@ pub record Numbered : Type 0 where
 
 -- the Rattle call's result, its outcome as a number
 abbrev pub numbered : setup.Result → Numbered
-numbered r = record { number = setup.numberOf (r .answer); state = r .state }
+numbered r = record { number = numberOf (r .answer); state = r .state }
 
 abbrev pub numberedMap : map.Result → Numbered
-numberedMap r = record { number = r .number; state = r .map }
+numberedMap r = record { number = numberOf (r .answer); state = r .map }
 
 -- of a reception or a send: the result word, the lent state or map, and the output buffer
 pub record Called : Type 0 where

@@ -34,7 +34,7 @@ pub extern "C" fn tecelume_receiver_size() -> u64
 pub extern "C" fn tecelume_setup(state: &mut [u8], own: u32, subscriptions: &[u8]) -> u32
     ensures { λ r. ⌜ record { number = r; state = now (state .exit) } ≡ numbered (afterSetup (now (state .entry)) own (now (subscriptions .entry))) ⌝ }
 {
-    word::of_outcome(transport::setup(state, own, subscriptions))
+    transport::setup(state, own, subscriptions).number()
 }
 
 // One frame on a lent state: the result word.
@@ -64,7 +64,7 @@ pub extern "C" fn tecelume_map_size() -> u64
 pub extern "C" fn tecelume_map_setup(map: &mut [u8]) -> u32
     ensures { λ r. ⌜ record { number = r; state = now (map .exit) } ≡ numberedMap (setting.afterSetup (now (map .entry))) ⌝ }
 {
-    word::of_map_outcome(transport::map_setup(map))
+    transport::map_setup(map).number()
 }
 
 // A payload as records of frames, on a lent map: the number and, from bit 8 on, how many frames.

@@ -1,13 +1,10 @@
 // Answers as numbers.
 use transport::Answer;
-use transport::Outcome;
 use transport::Sent;
 use transport::Transfer;
 ghost use mathlib.Core.Path.{_≡_};
 ghost use Prim.Native.Nat.{_≤_, _<_};
 ghost use Rattle.answers.specs.Sending.{dispatchIn};
-ghost use Rattle.id_map.specs.Setup as setting;
-ghost use Rattle.setup.specs.Setup.{numberOf};
 ghost use Rattle.tecelume.specs.Word.{transferWord, wordOf, sentWord, TransferFits, Fits};
 
 fn of_transfer(t: Transfer) -> u64
@@ -23,30 +20,11 @@ fn of_transfer(t: Transfer) -> u64
                             + t.transfer as u64 * 0x80000000000000)))))
 }
 
-pub fn of_outcome(o: Outcome) -> u32
-    ensures { λ r. ⌜ r ≡ numberOf o ⌝ }
-{
-    match o {
-        Outcome::Done => 0,
-        Outcome::Unacceptable => 13,
-        Outcome::Short => 20,
-    }
-}
-
 pub fn of_answer(a: Answer) -> u64
     requires { ⌜ Fits a ⌝ }
     ensures { λ r. ⌜ r ≡ wordOf a ⌝ }
 {
     a.number() + of_transfer(a.transfer())
-}
-
-pub fn of_map_outcome(o: id_map::Outcome) -> u32
-    ensures { λ r. ⌜ r ≡ setting.numberOf o ⌝ }
-{
-    match o {
-        id_map::Outcome::Done => 0,
-        id_map::Outcome::Short => 20,
-    }
 }
 
 pub fn of_sent(a: Sent) -> u64

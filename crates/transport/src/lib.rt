@@ -1,5 +1,6 @@
 // The transport in one place: the public calls of its crates, and their types. It decides nothing and adds nothing.
 pub use answers::Answer;
+pub use answers::Outcome;
 pub use answers::Sent;
 pub use answers::Transfer;
 pub use id_map::setup as map_setup;
@@ -7,5 +8,4 @@ pub use id_map::size as map_size;
 pub use receiver::receive;
 pub use sender::Outgoing;
 pub use sender::send;
-pub use setup::Outcome;
 pub use setup::setup;

@@ -7,7 +7,7 @@ use lib.ListN.{length, replicate}
 use Rattle.bits.specs.Part.{splice}
 use Rattle.id_map.specs.Layout.{size}
 use Rattle.id_map.specs.Setup.{result, afterSetup}
-use Rattle.id_map.specs.declared.Outcome.the-variants.{Done, Short}
+use Rattle.answers.specs.declared.Outcome.the-variants.{Done, Short}
 use borrow.Author.Needs.{needs}
 use Rattle.id_map.proofs.setup.Statement.{statement}
 use Rattle.id_map.proofs.setup.Tie as tie

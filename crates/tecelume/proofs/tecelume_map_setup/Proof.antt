@@ -9,8 +9,8 @@ use Rattle.tecelume.proofs.tecelume_map_setup.Tie as tie
 setup-requires : tie.Need-setup-requires
 setup-requires c κs = search needs
 
-of-map-outcome-requires : tie.Need-of-map-outcome-requires
-of-map-outcome-requires c κs = search needs
+number-requires : tie.Need-number-requires
+number-requires c κs = search needs
 
 same-length : tie.Need-same-length
 same-length c = search needs
@@ -18,7 +18,7 @@ same-length c = search needs
 returns : tie.Need-returns
 returns c =
     let s = c .before .before .before in
-    ap (λ (n : ℕ). record { number = n; state = s .setup .last .0 }) (c .of-map-outcome .ensures) ∙ ap numberedMap (s .setup .ensures)
+    ap (λ (n : ℕ). record { number = n; state = s .setup .last .0 }) (c .number .ensures) ∙ ap numberedMap (s .setup .ensures)
 
 pub tecelume-map-setup-spec : {M : Type 1} → statement M
-tecelume-map-setup-spec = tie.close (tie.spec setup-requires of-map-outcome-requires same-length returns)
+tecelume-map-setup-spec = tie.close (tie.spec setup-requires number-requires same-length returns)

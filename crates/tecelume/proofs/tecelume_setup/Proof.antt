@@ -9,8 +9,8 @@ use Rattle.tecelume.proofs.tecelume_setup.Tie as tie
 setup-requires : tie.Need-setup-requires
 setup-requires c κs = search needs
 
-of-outcome-requires : tie.Need-of-outcome-requires
-of-outcome-requires c κs = search needs
+number-requires : tie.Need-number-requires
+number-requires c κs = search needs
 
 same-length : tie.Need-same-length
 same-length c = search needs
@@ -18,7 +18,7 @@ same-length c = search needs
 returns : tie.Need-returns
 returns c =
     let s = c .before .before .before in
-    ap (λ (n : ℕ). record { number = n; state = s .setup .last .0 }) (c .of-outcome .ensures) ∙ ap numbered (s .setup .ensures)
+    ap (λ (n : ℕ). record { number = n; state = s .setup .last .0 }) (c .number .ensures) ∙ ap numbered (s .setup .ensures)
 
 pub tecelume-setup-spec : {M : Type 1} → statement M
-tecelume-setup-spec = tie.close (tie.spec setup-requires of-outcome-requires same-length returns)
+tecelume-setup-spec = tie.close (tie.spec setup-requires number-requires same-length returns)
