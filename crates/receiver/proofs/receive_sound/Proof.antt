@@ -1,4 +1,4 @@
--- `arrive` meets its contract: the first check that refuses answers, and a frame that passes is accepted.
+-- `receive_sound` meets its contract: the first check that refuses answers, and a frame that passes is accepted.
 use mathlib.Core.Path.{_≡_, refl, sym, ap, ap₂, _∙_}
 use mathlib.Core.Bool.{Bool, true, false}
 use mathlib.Core.List.{List}
@@ -25,8 +25,8 @@ use Rattle.receiver.proofs.Checks.{under, not-asked, shape-refuses, not
 use Rattle.receiver.proofs.Heads.{type-lt}
 use Rattle.receiver.proofs.Lent.{untouched}
 use borrow.Author.Needs.{needs}
-use Rattle.receiver.proofs.arrive.Statement.{statement}
-use Rattle.receiver.proofs.arrive.Tie as tie
+use Rattle.receiver.proofs.receive_sound.Statement.{statement}
+use Rattle.receiver.proofs.receive_sound.Tie as tie
 
 -- a frame that is refused leaves everything as it was
 refusing : (m out : List ℕ) → soundState m ≡ true → Octets m → (f : rules.Frame) (n : ℕ) → check (setupOf m) (arriving f out) ≡ some n
@@ -186,8 +186,8 @@ returns-4 c =
     ∙ ap (lent m out) (sym (step-accepted u (placesOf m) (arriving (frameOf (a .id) bs (a .time)) out)
     (accepted u (a .id) (a .time) bs out (r .refusal .result) (r .refusal .ensures) (e .if1 .left) _ (under (signatureFor u (a .id)) _ (l ∙ g .signature .given .1)) (i .if2 .left))))
 
-pub arrive-spec : {M : Type 1} → statement M
-arrive-spec =
+pub receive-sound-spec : {M : Type 1} → statement M
+receive-sound-spec =
     tie.close
     (tie.spec
     slice-read-refusal
