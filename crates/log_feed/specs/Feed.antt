@@ -8,7 +8,7 @@ use Rattle.state.specs.Sound.{soundState}
 use Rattle.log_replay.specs.declared.Counts.{Counts}
 use Rattle.log_feed.specs.Log.{heading, cut, lastLine, replay, closed, begun, zero, logOf}
 use Rattle.log_feed.specs.declared.Fed as fed
-use Rattle.log_feed.specs.declared.Lines as lines
+use Rattle.log_feed.specs.declared.Ran as ran
 
 -- the text for the lines that are whole, the receiver's state and the counts after them, and what is kept of the unfinished line: 48 bytes are
 -- enough, since no line of that many is well formed
@@ -37,7 +37,7 @@ abbrev pub seen : fed.Fed → List ℕ → List ℕ → List ℕ → Feed
 seen r m block out = record { text = take (r .len) out; state = m; counts = r .counts; kept = take (r .kept) block }
 
 -- what the loop over the lines leaves: n is the length of the output buffer
-pub record Lined (m : List ℕ) (c : Counts) (p : List ℕ) (n : ℕ) (r : lines.Lines) (m' out' : List ℕ) : Type 0 where
+pub record Lined (m : List ℕ) (c : Counts) (p : List ℕ) (n : ℕ) (r : ran.Ran) (m' out' : List ℕ) : Type 0 where
   pub run : replay m c (cut p .whole) ≡ record { text = take (r .at) out'; state = m'; counts = r .counts }
   pub rest : cut p .rest ≡ drop (r .from) p
   pub sound : soundState m' ≡ true

@@ -20,7 +20,7 @@ pub struct Fed {
 }
 
 // Where the unfinished line begins, where the text ends, and the counts.
-struct Lines {
+struct Ran {
     from: usize,
     at: usize,
     counts: Counts,
@@ -39,7 +39,7 @@ pub fn start(state: &mut [u8], out: &mut [u8]) -> usize
 }
 
 // Each line of a block that has its line feed.
-fn lines(state: &mut [u8], block: &[u8], out: &mut [u8], counts: Counts) -> Lines
+fn lines(state: &mut [u8], block: &[u8], out: &mut [u8], counts: Counts) -> Ran
     requires { ⌜ (soundState (now state) ≡ true) × (length (now block) * 80 + 1200 ≤ length (now out)) ⌝ }
     ensures { λ r. ⌜ Lined (now (state .entry)) counts (now (block .entry)) (length (now (out .entry))) r (now (state .exit)) (now (out .exit)) ⌝ }
 {
@@ -54,11 +54,22 @@ fn lines(state: &mut [u8], block: &[u8], out: &mut [u8], counts: Counts) -> Line
         from = end + 1;
         end = digits::find(block, from, b'\n');
     }
-    Lines {
+    Ran {
         from: from,
         at: at,
         counts: c,
     }
+}
+
+// The n bytes from `from` on are moved to the front.
+fn moved(block: &mut [u8], from: usize, n: usize) -> usize
+    requires { ⌜ (n ≤ 48) × (from + n ≤ length (now block)) ⌝ }
+    ensures { λ r. ⌜ (take r (now (block .exit)) ≡ span (now (block .entry)) from n) × (r ≡ n) ⌝ }
+{
+    let mut rest = [0u8; 48];
+    bits::part::copy_span(&mut rest, 0, block, from, n);
+    bits::part::copy_span(block, 0, &rest, 0, n);
+    n
 }
 
 // The bytes from `from` up to `to`, 48 of them at most, are moved to the front; how many.
@@ -66,14 +77,10 @@ fn keep(block: &mut [u8], from: usize, to: usize) -> usize
     requires { ⌜ (from ≤ to) × (to ≤ length (now block)) ⌝ }
     ensures { λ r. ⌜ (take r (now (block .exit)) ≡ take 48 (span (now (block .entry)) from (to - from))) × (r ≤ 48) ⌝ }
 {
-    let mut n = to - from;
-    if 48 < n {
-        n = 48;
+    if to - from < 48 {
+        return moved(block, from, to - from);
     }
-    let mut rest = [0u8; 48];
-    bits::part::copy_at(&mut rest, 0, &block[from..from + n]);
-    bits::part::copy_at(block, 0, &rest[0..n]);
-    n
+    moved(block, from, 48)
 }
 
 // Internal. The first n bytes of the block's buffer: what was kept, and a block of input behind it.
