@@ -9,11 +9,16 @@ const COUNT: usize = 5;
 
 // Kind (0 message, 1 service) and data type ID of each.
 const TYPES: [u32; 10] = [
-    0, 341, // NodeStatus
-    1, 1, // GetNodeInfo
-    0, 1, // Allocation
-    0, 16370, // KeyValue
-    0, 16383, // LogMessage
+    0,
+    341, // NodeStatus
+    1,
+    1, // GetNodeInfo
+    0,
+    1, // Allocation
+    0,
+    16370, // KeyValue
+    0,
+    16383, // LogMessage
 ];
 
 // A type as a record for a receiver's setup: kind (1), type ID (4), signature (8), low byte first.

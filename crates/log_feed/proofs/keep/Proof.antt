@@ -29,9 +29,10 @@ returns c =
     let a = s .args in
     let b = a .block .now in
     let n = a .to - a .from in
-    let l = length-take-le n (drop (a .from) b) (omega (arith, s .pre .0, s .pre .1, length-drop (a .from) b)) in
-    (r .moved .ensures .0 ∙ sym (take-all 48 (span b (a .from) n) (omega (arith, l, r .before .before .if1 .taken))),
-    omega (arith, r .moved .ensures .1, r .before .before .if1 .taken))
+    let l = length-take-le n (drop (a .from) b) (omega (arith, s .pre .0, s .pre .1, length-drop (a .from) b)) in (
+      r .moved .ensures .0 ∙ sym (take-all 48 (span b (a .from) n) (omega (arith, l, r .before .before .if1 .taken))),
+      omega (arith, r .moved .ensures .1, r .before .before .if1 .taken),
+    )
 
 moved-requires-2 : tie.Need-moved-requires-2
 moved-requires-2 c κs = search needs
@@ -43,9 +44,10 @@ returns-2 : tie.Need-returns-2
 returns-2 c =
     let r = c .before .before in
     let s = r .before .before .before .before in
-    let a = s .args in
-    (r .moved2 .ensures .0 ∙ sym (take-take 48 (a .to - a .from) (drop (a .from) (a .block .now)) (omega (arith, r .before .before .if1 .left))),
-    omega (arith, r .moved2 .ensures .1))
+    let a = s .args in (
+      r .moved2 .ensures .0 ∙ sym (take-take 48 (a .to - a .from) (drop (a .from) (a .block .now)) (omega (arith, r .before .before .if1 .left))),
+      omega (arith, r .moved2 .ensures .1),
+    )
 
 pub keep-spec : {M : Type 1} → statement M
 keep-spec =

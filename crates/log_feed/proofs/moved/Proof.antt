@@ -39,9 +39,11 @@ returns c =
     let w = c .before .before in
     let v = w .before .before .before .before in
     let s = v .before .before .before .before in
-    let a = s .args in
-    (through (a .block .now) (replicate 48 0) (v .copy-span .last .0) (w .copy-span2 .last .0) (a .from) (a .n) (s .pre .1) (s .pre .0) (v .copy-span .ensures)
-    (w .copy-span2 .ensures), refl)
+    let a = s .args in (
+      through (a .block .now) (replicate 48 0) (v .copy-span .last .0) (w .copy-span2 .last .0) (a .from) (a .n) (s .pre .1) (s .pre .0) (v .copy-span .ensures)
+          (w .copy-span2 .ensures),
+      refl,
+    )
 
 pub moved-spec : {M : Type 1} → statement M
 moved-spec =

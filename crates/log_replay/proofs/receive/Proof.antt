@@ -110,7 +110,7 @@ returns c =
     let l = a .line .now in
     let m = a .state .now in
     let e : receive.result (r-receive .receive-sound .result) (r-receive .receive-sound .last .0) (r-receive .receive-sound .last .1 .1 .1 .1 .0)
-      ≡ receive.received m (frameSaid (a .l)) (replicate 512 0) =
+    ≡ receive.received m (frameSaid (a .l)) (replicate 512 0) =
     r-receive .receive-sound .ensures
     ∙ ap (λ (n : ℕ). lent m (replicate 512 0) (step (setupOf m) (placesOf m) (arriving (frameOf (a .l .id) (take n (a .l .bytes)) (a .l .time)) (replicate 512 0))))
     (sub-zero (a .l .len))
