@@ -7,17 +7,14 @@ ghost use Rattle.log_subscriptions.specs.Subscriptions.{record13, subscr
 
 const COUNT: usize = 5;
 
-// Kind (0 message, 1 service) and data type ID of each.
-const TYPES: [u32; 10] = [
-    0,
+const SERVICE: u32 = 65536;
+
+// The data type ID of each, a service's with `SERVICE` added.
+const TYPES: [u32; COUNT] = [
     341, // NodeStatus
-    1,
-    1, // GetNodeInfo
-    0,
+    SERVICE + 1, // GetNodeInfo
     1, // Allocation
-    0,
     16370, // KeyValue
-    0,
     16383, // LogMessage
 ];
 
@@ -39,7 +36,7 @@ pub fn subscriptions() -> [u8; 65]
     let mut out = [0u8; 65];
     let mut j = 0;
     while j < COUNT {
-        put(&mut out, j, types[j * 2], types[j * 2 + 1]);
+        put(&mut out, j, types[j] / SERVICE, types[j] % SERVICE);
         j += 1;
     }
     out

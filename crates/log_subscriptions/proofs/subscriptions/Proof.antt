@@ -2,7 +2,7 @@
 use borrow.Author.Needs.{needs}
 use mathlib.Core.Path.{_≡_, refl, ap, _∙_}
 use mathlib.Core.List.{List, [], _∷_}
-use Prim.Native.Nat.{ℕ, zero, suc, _+_, _*_, _-_, _≤_}
+use Prim.Native.Nat.{ℕ, zero, suc, _+_, _*_, _-_, _/_, _%_, _≤_}
 use native.Mathlib.Numerals.{add-one}
 use native.Mathlib.Omega.{arith}
 use lib.ListN.{length, getD, replicate}
@@ -17,13 +17,13 @@ use Rattle.log_subscriptions.proofs.subscriptions.Tie as tie
 -- the first j records
 filled : List ℕ → ℕ → List ℕ
 filled ts zero = replicate 65 0
-filled ts (suc j) = splice (filled ts j) (j * 13) (record13 (getD ts (j * 2) 0) (getD ts (j * 2 + 1) 0))
+filled ts (suc j) = splice (filled ts j) (j * 13) (record13 (getD ts j 0 / 65536) (getD ts j 0 % 65536))
 
-more : (ts m m' : List ℕ) (j : ℕ) → m ≡ filled ts j → m' ≡ splice m (j * 13) (record13 (getD ts (j * 2) 0) (getD ts (j * 2 + 1) 0)) → m' ≡ filled ts (j + 1)
+more : (ts m m' : List ℕ) (j : ℕ) → m ≡ filled ts j → m' ≡ splice m (j * 13) (record13 (getD ts j 0 / 65536) (getD ts j 0 % 65536)) → m' ≡ filled ts (j + 1)
 unfolding filled
-more ts m m' j e f = rw (add-one j) (f ∙ ap (λ (x : List ℕ). splice x (j * 13) (record13 (getD ts (j * 2) 0) (getD ts (j * 2 + 1) 0))) e)
+more ts m m' j e f = rw (add-one j) (f ∙ ap (λ (x : List ℕ). splice x (j * 13) (record13 (getD ts j 0 / 65536) (getD ts j 0 % 65536))) e)
 
-all : (ts m : List ℕ) (j : ℕ) → ts ≡ 0 ∷ 341 ∷ 1 ∷ 1 ∷ 0 ∷ 1 ∷ 0 ∷ 16370 ∷ 0 ∷ 16383 ∷ [] → j ≡ 5 → m ≡ filled ts j → m ≡ subscriptions
+all : (ts m : List ℕ) (j : ℕ) → ts ≡ 341 ∷ 65537 ∷ 1 ∷ 16370 ∷ 16383 ∷ [] → j ≡ 5 → m ≡ filled ts j → m ≡ subscriptions
 unfolding filled record13 records signatureOf subscribed leBytes
 all ts m j t e f = f ∙ ap (filled ts) e ∙ ap (λ (x : List ℕ). filled x 5) t
 
@@ -48,15 +48,6 @@ mul-put-2 c = search needs
 
 array-read-put : tie.Need-array-read-put Inv-loop μ-loop
 array-read-put c = search needs
-
-mul-put-3 : tie.Need-mul-put-3 Inv-loop μ-loop
-mul-put-3 c = search needs
-
-add-put : tie.Need-add-put Inv-loop μ-loop
-add-put c = search needs
-
-mul-put-4 : tie.Need-mul-put-4 Inv-loop μ-loop
-mul-put-4 c = search needs
 
 array-read-put-2 : tie.Need-array-read-put-2 Inv-loop μ-loop
 array-read-put-2 c = search needs
@@ -88,11 +79,8 @@ subscriptions-spec =
     loop-holds
     slice-aggregate-put
     mul-put
-    mul-put-2
     array-read-put
-    mul-put-3
-    add-put
-    mul-put-4
+    mul-put-2
     array-read-put-2
     put-requires
     add-j
