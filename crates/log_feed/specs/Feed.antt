@@ -1,14 +1,11 @@
 -- The input comes in blocks. What one block gives, what is left at the end, and the law: the blocks' texts are the output, however the input is cut.
 use mathlib.Core.Path.{_≡_}
 use mathlib.Core.List.{List, [], _∷_, _++_}
-use mathlib.Core.Bool.{true}
-use Prim.Native.Nat.{ℕ, _≤_}
-use lib.ListN.{length, take, drop}
-use Rattle.state.specs.Sound.{soundState}
+use Prim.Native.Nat.{ℕ}
+use lib.ListN.{take}
 use Rattle.log_replay.specs.declared.Counts.{Counts}
 use Rattle.log_feed.specs.Log.{heading, cut, lastLine, replay, closed, begun, zero, logOf}
 use Rattle.log_feed.specs.declared.Fed as fed
-use Rattle.log_feed.specs.declared.Ran as ran
 
 -- the text for the lines that are whole, the receiver's state and the counts after them, and what is kept of the unfinished line: 48 bytes are
 -- enough, since no line of that many is well formed
@@ -35,14 +32,6 @@ finish m c kept = closed (replay m c (lastLine kept))
 -- what the call leaves in the caller's buffers
 abbrev pub seen : fed.Fed → List ℕ → List ℕ → List ℕ → Feed
 seen r m block out = record { text = take (r .len) out; state = m; counts = r .counts; kept = take (r .kept) block }
-
--- what the loop over the lines leaves: n is the length of the output buffer
-pub record Lined (m : List ℕ) (c : Counts) (p : List ℕ) (n : ℕ) (r : ran.Ran) (m' out' : List ℕ) : Type 0 where
-  pub run : replay m c (cut p .whole) ≡ record { text = take (r .at) out'; state = m'; counts = r .counts }
-  pub rest : cut p .rest ≡ drop (r .from) p
-  pub sound : soundState m' ≡ true
-  pub from : r .from ≤ length p
-  pub room : r .at ≤ n
 
 -- ── all blocks ──
 

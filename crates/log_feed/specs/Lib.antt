@@ -1,2 +1,3 @@
 pub mod Log
 pub mod Feed
+pub mod inside

@@ -17,7 +17,8 @@ use Rattle.digits.specs.Digits.{countOf, number, asNumber}
 use Rattle.digits.specs.declared.Parsed.{Parsed}
 use Rattle.digits.specs.declared.Parsed.the-variants.{Is, Not}
 use Rattle.digits.proofs.Digits.{number-lt}
-use Rattle.log_line.specs.Reading.{pairOf, paired, pairs, shaped, framed, fieldsOf, orBad, lineWith}
+use Rattle.log_line.specs.Reading.{pairOf, paired, pairs, shaped, framed, fieldsOf, lineWith}
+use Rattle.log_line.specs.inside.Bytes.{orBad}
 use Rattle.log_line.specs.declared.read.Line.{Line}
 use Rattle.rules.specs.Frame.{Frame}
 

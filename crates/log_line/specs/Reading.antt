@@ -6,7 +6,6 @@ use Prim.Native.Nat.{ℕ, zero, suc, _+_, _*_, _-_, _/_, _%_}
 use lib.Dec.{ltb, leb, eqb}
 use lib.ListN.{length, getD, take, drop, replicate}
 use Rattle.bits.specs.Part.{span}
-use Rattle.log_line.specs.declared.read.Bytes.{Bytes}
 use Rattle.log_line.specs.declared.read.Line.{Line}
 use Rattle.rules.specs.Frame.{Frame}
 use Rattle.rules.specs.Tests.{pick}
@@ -55,14 +54,6 @@ unfoldable pub said : List ℕ → Option Frame
 said l = pick (shaped (before 46 l) l) (fieldsOf (before 46 l) l) none
 
 -- ── as the code tells it ──
-
--- 256 for none
-abbrev pub orBad : Option ℕ → ℕ
-orBad none = 256
-orBad (some b) = b
-
-abbrev pub bytesIn : Bytes → ℕ → Option (List ℕ)
-bytesIn r k = pick (r .ok) (some (take k (r .bytes))) none
 
 -- the reader's struct, where s characters stand before the dot: the frame, its bytes filled up with zeros, and how many characters its time takes
 abbrev pub lineWith : ℕ → Option Frame → Line

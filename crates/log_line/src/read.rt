@@ -6,7 +6,8 @@ ghost use mathlib.Core.Option.{none};
 ghost use Prim.Native.Nat.{_+_, _*_, _-_, _≤_};
 ghost use lib.ListN.{length, drop, replicate};
 ghost use Rattle.bits.specs.Part.{span};
-ghost use Rattle.log_line.specs.Reading.{pairOf, pairs as pairsOf, shaped, fieldsOf, orBad, bytesIn, lineWith, lineIn};
+ghost use Rattle.log_line.specs.Reading.{pairOf, pairs as pairsOf, shaped, fieldsOf, lineWith, lineIn};
+ghost use Rattle.log_line.specs.inside.Bytes.{orBad, bytesIn};
 ghost use Rattle.digits.specs.Digits.{number as numberOf, asNumber};
 
 // A line that was read: whether it is well formed, how many characters its time takes, and the frame.
