@@ -1,36 +1,39 @@
 // The response of GetNodeInfo under C names, with the same results as those of NodeStatus.
-use messages::status::NodeStatus;
-use node_info::response;
-use node_info::response::NodeInfo;
-use node_info::response::Read;
+use protocol::get_node_info_response;
+use protocol::get_node_info_response::Numbers;
+use protocol::get_node_info_response::Read;
+use protocol::get_node_info_response::SoftwareVersion;
+use protocol::node_status::NodeStatus;
 use shape::answer::Written;
 
-fn of_numbers(m: NodeInfo) -> u64 {
-    let s = m.status;
-    let status = s.uptime
+fn of_status(s: NodeStatus) -> u64 {
+    s.uptime_sec
         ^ (s.health << 32)
         ^ (s.mode << 34)
         ^ (s.sub_mode << 37)
-        ^ (s.vendor << 40);
-    let software = (m.software_major << 8)
-        ^ (m.software_minor << 16)
-        ^ (m.software_flags << 24)
-        ^ (m.software_commit << 32);
-    status ^ software ^ m.image_crc ^ (m.hardware_major << 48) ^ (m.hardware_minor << 56)
+        ^ (s.vendor_specific_status_code << 40)
+}
+
+fn of_software(v: SoftwareVersion) -> u64 {
+    let version = (v.major << 8) ^ (v.minor << 16) ^ (v.optional_field_flags << 24);
+    version ^ (v.vcs_commit << 32) ^ v.image_crc
 }
 
 #[no_mangle]
 pub extern "C" fn bench_info_decode(payload: &[u8]) -> u64 {
-    match response::decode(payload) {
+    match get_node_info_response::decode(payload) {
         Read::Refused(n) => u64::MAX - n as u64,
         Read::Got(x) => {
-            let u = x.unique_id;
-            let c = x.certificate;
+            let s = x.status;
+            let v = x.software_version;
+            let h = x.hardware_version;
+            let u = h.unique_id;
+            let c = h.certificate_of_authenticity;
             let n = x.name;
             let places = (u.at ^ (u.len << 9))
                 ^ ((c.at << 18) ^ (c.len << 27))
                 ^ ((n.at << 36) ^ (n.len << 45));
-            of_numbers(x.info) ^ places as u64
+            of_status(s) ^ of_software(v) ^ (h.major << 48) ^ (h.minor << 56) ^ places as u64
         }
     }
 }
@@ -43,23 +46,25 @@ pub extern "C" fn bench_info_encode(
     name: &[u8],
     out: &mut [u8],
 ) -> u64 {
-    let m = NodeInfo {
+    let m = Numbers {
         status: NodeStatus {
-            uptime: v[0],
+            uptime_sec: v[0],
             health: v[1],
             mode: v[2],
             sub_mode: v[3],
-            vendor: v[4],
+            vendor_specific_status_code: v[4],
         },
-        software_major: v[5],
-        software_minor: v[6],
-        software_flags: v[7],
-        software_commit: v[8],
-        image_crc: v[9],
-        hardware_major: v[10],
-        hardware_minor: v[11],
+        software_version: SoftwareVersion {
+            major: v[5],
+            minor: v[6],
+            optional_field_flags: v[7],
+            vcs_commit: v[8],
+            image_crc: v[9],
+        },
+        hardware_version_major: v[10],
+        hardware_version_minor: v[11],
     };
-    match response::encode(m, unique_id, certificate, name, out) {
+    match get_node_info_response::encode(m, unique_id, certificate, name, out) {
         Written::Refused(n) => u64::MAX - n as u64,
         Written::Wrote(n) => n as u64,
     }

@@ -1,13 +1,16 @@
 // Messages by hand: one request a line on standard input, decode or encode, and one answer a line on standard output.
 // Lines are gathered from large reads, and answers are gathered for large writes.
+mod allocation;
 mod decode;
 mod encode;
-mod hex;
-mod names;
-mod number;
-mod put;
+mod get_node_info_request;
+mod get_node_info_response;
+mod key_value;
+mod log_message;
+mod node_status;
 mod request;
 
+use codec_text::put;
 ghost use Prim.Native.Nat.{_≤_};
 ghost use lib.ListN.{length};
 

@@ -19,7 +19,7 @@ fn put(out: &mut [u8], at: usize, c: u8) -> usize
 // Internal. A sign and a number.
 pub fn numbered(out: &mut [u8], at: usize, sign: u8, n: u64) -> usize
     requires { ⌜ at + 24 ≤ length (now out) ⌝ }
-    ensures { λ r. ⌜ (Puts (now (out .entry)) (now (out .exit)) at r (numberedText sign n)) × (r ≤ length (now (out .entry))) ⌝ }
+    ensures { λ r. ⌜ (Puts (now (out .entry)) (now (out .exit)) at r (numberedText sign n)) × (r ≤ at + 24) ⌝ }
 {
     let vs = [n];
     let a = put(out, at, 32);
@@ -50,7 +50,7 @@ fn put_payload(out: &mut [u8], at: usize, payload: &[u8]) -> usize
 
 fn put_transfer(out: &mut [u8], at: usize, t: Transfer, payload: &[u8]) -> usize
     requires { ⌜ at + 131 + length (now payload) * 2 ≤ length (now out) ⌝ }
-    ensures { λ r. ⌜ (Puts (now (out .entry)) (now (out .exit)) at r (transferText t (now (payload .entry)))) × (r ≤ length (now (out .entry))) ⌝ }
+    ensures { λ r. ⌜ (Puts (now (out .entry)) (now (out .exit)) at r (transferText t (now (payload .entry)))) × (r ≤ at + 131 + length (now (payload .entry)) * 2) ⌝ }
 {
     let vs = [
         t.type_id as u64,
@@ -71,7 +71,7 @@ fn put_transfer(out: &mut [u8], at: usize, t: Transfer, payload: &[u8]) -> usize
 // Internal. The answer of a reception; `payload` is the receiver's output buffer.
 pub fn put_answer(out: &mut [u8], at: usize, a: Answer, payload: &[u8]) -> usize
     requires { ⌜ at + 131 + length (now payload) * 2 ≤ length (now out) ⌝ }
-    ensures { λ r. ⌜ (Puts (now (out .entry)) (now (out .exit)) at r (answerText a (now (payload .entry)))) × (r ≤ length (now (out .entry))) ⌝ }
+    ensures { λ r. ⌜ (Puts (now (out .entry)) (now (out .exit)) at r (answerText a (now (payload .entry)))) × (r ≤ at + 131 + length (now (payload .entry)) * 2) ⌝ }
 {
     match a {
         Answer::Taken => numbered(out, at, b'+', 0),

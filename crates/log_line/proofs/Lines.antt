@@ -346,6 +346,7 @@ pub record Timed (l : List ℕ) (f : Frame) : Type 0 where
   pub text : take (before 46 l + 4) l ≡ timeText (f .time)
   pub long : before 46 l + 4 ≤ length l
   pub few : before 46 l ≤ 9
+  pub least : 15 ≤ length l
 
 pub timed : (l : List ℕ) (f : Frame) → said l ≡ some f → Timed l f
 unfolding lineOf timeText decimal s
@@ -367,4 +368,13 @@ timed l f e =
           ∙ take-at t (32 ∷ (digits 16 8 (f .id) ++ (dataText (f .bytes) ++ (10 ∷ [])))) (w + 4) n;
       long = omega (arith, d, ap length (r .line), long f fine);
       few = omega (arith, d, s-few f fine);
+      least = omega (arith, ap length (r .line), long f fine, s-some f fine);
     }
+
+-- ── a line that is too long ──
+
+pub too-long : (l : List ℕ) → 48 ≤ length l → said l ≡ none
+too-long l h = go (said l) refl where
+  go : (o : Option Frame) → said l ≡ o → said l ≡ none
+  go none e = e
+  go (some f) e = let r = read l f e in absurd (omega (arith, ap length (r .line), line-short f (r .carried)))

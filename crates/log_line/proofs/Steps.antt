@@ -3,13 +3,13 @@ use mathlib.Core.Path.{_≡_, refl, sym, ap, _∙_}
 use mathlib.Core.Bool.{Bool, true, false, false≢true, _&&_}
 use mathlib.Core.List.{List, [], _∷_, _++_, append-nil}
 use mathlib.Core.Option.{Option, none, some}
-use Prim.Native.Nat.{ℕ, suc, _+_, _*_, _-_, _/_, _%_, _^_, _≤_, _<_}
+use Prim.Native.Nat.{ℕ, zero, suc, _+_, _*_, _-_, _/_, _%_, _^_, _≤_, _<_}
 use native.Mathlib.Nat.{add-zero, sub-zero, pow-le-pow-right}
 use native.Mathlib.Omega.{arith}
 use borrow.Author.Tests.{lt-ltb, le-leb, eq-eqb, ne-eqb, ltb-true, leb-true, eqb-true}
 use lib.Dec.{lit<, ltb, leb, eqb}
-use lib.ListN.{replicate, length, getD, take, drop, set, length-drop}
-use lib.Seq.{drop-drop, getD-drop, append-snoc, take-suc-set}
+use lib.ListN.{replicate, length, getD, take, drop, set, length-drop, take-append-drop}
+use lib.Seq.{drop-drop, getD-drop, append-snoc, take-suc-set, length-take-le}
 use Rattle.bits.specs.Part.{span}
 use Rattle.bits.proofs.Splice.{length-span}
 use Rattle.rules.specs.Tests.{pick}
@@ -17,7 +17,8 @@ use Rattle.digits.specs.Digits.{countOf, number, asNumber}
 use Rattle.digits.specs.declared.Parsed.{Parsed}
 use Rattle.digits.specs.declared.Parsed.the-variants.{Is, Not}
 use Rattle.digits.proofs.Digits.{number-lt}
-use Rattle.log_line.specs.Reading.{pairOf, paired, pairs, shaped, framed, fieldsOf, orBad, Reads}
+use Rattle.log_line.specs.Reading.{pairOf, paired, pairs, shaped, framed, fieldsOf, lineWith}
+use Rattle.log_line.specs.inside.Bytes.{orBad}
 use Rattle.log_line.specs.declared.read.Line.{Line}
 use Rattle.rules.specs.Frame.{Frame}
 
@@ -166,9 +167,22 @@ reshape s l h =
 
 -- ── the numbers ──
 
-pub unread : (s : ℕ) (says : Option Frame) (r : Line) → r ≡ record { ok = false; head = 0; id = 0; time = 0; len = 0; bytes = replicate 8 0 }
-    → says ≡ none → Reads s says r
-unread s says r e n = rw (e, n) (record { frame = refl; head = λ q. absurd (false≢true q); few = omega arith })
+pub unread : (s : ℕ) (says : Option Frame) (r : Line) → r ≡ lineWith 0 none → says ≡ none → r ≡ lineWith s says
+unread s says r e n = rw (e, n)
+
+pub drop-zeros : (k n : ℕ) → drop {A = ℕ} k (replicate n 0) ≡ replicate (n - k) 0
+drop-zeros zero n = ap (λ (i : ℕ). replicate i 0) (sym (sub-zero n))
+drop-zeros (suc k) zero = let z : 0 - suc k ≡ 0 = omega arith in ap (λ (i : ℕ). replicate i 0) (sym z)
+drop-zeros (suc k) (suc n) = let z : n - k ≡ suc n - suc k = omega arith in drop-zeros k n ∙ ap (λ (i : ℕ). replicate i 0) z
+
+-- a frame that was read, in the struct
+pub told : (s k id time : ℕ) (bytes : List ℕ) (says : Option Frame) → length bytes ≡ 8 → k ≤ 8 → drop k bytes ≡ replicate (8 - k) 0
+    → some (record { id = id; bytes = take k bytes; time = time }) ≡ says
+    → _≡_ {A = Line} (record { ok = true; head = s + 4; id = id; time = time; len = k; bytes = bytes }) (lineWith s says)
+told s k id time bytes says n h z e =
+    let l : length (take k bytes) ≡ k = length-take-le k bytes (omega arith) in
+    let b : take k bytes ++ replicate (8 - k) 0 ≡ bytes = rw (← z) (take-append-drop k bytes) in
+    rw (← e, l, b)
 
 module _ (s : ℕ) (l : List ℕ) where
   pub no-seconds : number 10 (span l 0 s) ≡ none → fieldsOf s l ≡ none
@@ -198,17 +212,16 @@ module _ (s : ℕ) (l : List ℕ) where
       no-id e = rw (e₁, e₂, e)
 
       module _ (id : ℕ) (e₃ : number 16 (span l (s + 5) 8) ≡ some id) where
-        kept : countOf sec ≡ s → (ok : Bool) (bs : List ℕ)
-            → pick ok (some (record { id = id; bytes = bs; time = sec * 1000000 + ms * 1000 })) none ≡ framed s (some sec) (some ms) (some id)
-            (pick ok (some bs) none)
-        unfolding framed
-        kept h true bs = rw (eq-eqb (countOf sec) s h)
-        kept h false bs = refl
+        pub no-data : (ok : Bool) (bs : List ℕ) → ok ≡ false → pick ok (some bs) none ≡ pairs ((length l - (s + 14)) / 3) (drop (s + 13) l)
+            → fieldsOf s l ≡ none
+        unfolding fieldsOf framed
+        no-data ok bs n e = rw (e₁, e₂, e₃, ← e, n)
 
-        pub read-all : countOf sec ≡ s → (ok : Bool) (bs : List ℕ) → pick ok (some bs) none ≡ pairs ((length l - (s + 14)) / 3) (drop (s + 13) l)
-            → pick ok (some (record { id = id; bytes = bs; time = sec * 1000000 + ms * 1000 })) none ≡ fieldsOf s l
-        unfolding fieldsOf
-        read-all h ok bs e = rw (e₁, e₂, e₃) (kept h ok bs ∙ ap (framed s (some sec) (some ms) (some id)) e)
+        pub read-all : countOf sec ≡ s → (ok : Bool) (bs : List ℕ) → ok ≡ true
+            → pick ok (some bs) none ≡ pairs ((length l - (s + 14)) / 3) (drop (s + 13) l)
+            → some (record { id = id; bytes = bs; time = sec * 1000000 + ms * 1000 }) ≡ fieldsOf s l
+        unfolding fieldsOf framed
+        read-all h ok bs y e = rw (e₁, e₂, e₃, ← e, y, eq-eqb (countOf sec) s h)
 
 -- a field of n digits in base b
 pub field-lt : (b : ℕ) → b ≤ 16 → 0 < b → (l : List ℕ) (at n v : ℕ) → at + n ≤ length l → number b (span l at n) ≡ some v → v < b ^ n

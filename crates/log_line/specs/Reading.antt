@@ -1,13 +1,11 @@
 -- Reading a line, in the steps that the code takes. specs/Laws.antt says what it comes to: a line that reads is the line of what was read.
-use mathlib.Core.Path.{_≡_}
-use mathlib.Core.Bool.{Bool, true, _&&_}
-use mathlib.Core.List.{List, [], _∷_}
+use mathlib.Core.Bool.{Bool, true, false, _&&_}
+use mathlib.Core.List.{List, [], _∷_, _++_}
 use mathlib.Core.Option.{Option, none, some}
-use Prim.Native.Nat.{ℕ, zero, suc, _+_, _*_, _-_, _/_, _%_, _≤_}
+use Prim.Native.Nat.{ℕ, zero, suc, _+_, _*_, _-_, _/_, _%_}
 use lib.Dec.{ltb, leb, eqb}
-use lib.ListN.{length, getD, take, drop}
+use lib.ListN.{length, getD, take, drop, replicate}
 use Rattle.bits.specs.Part.{span}
-use Rattle.log_line.specs.declared.read.Bytes.{Bytes}
 use Rattle.log_line.specs.declared.read.Line.{Line}
 use Rattle.rules.specs.Frame.{Frame}
 use Rattle.rules.specs.Tests.{pick}
@@ -57,19 +55,18 @@ said l = pick (shaped (before 46 l) l) (fieldsOf (before 46 l) l) none
 
 -- ── as the code tells it ──
 
--- 256 for none
-abbrev pub orBad : Option ℕ → ℕ
-orBad none = 256
-orBad (some b) = b
+-- the reader's struct, where s characters stand before the dot: the frame, its bytes filled up with zeros, and how many characters its time takes
+abbrev pub lineWith : ℕ → Option Frame → Line
+lineWith s none = record { ok = false; head = 0; id = 0; time = 0; len = 0; bytes = replicate 8 0 }
+lineWith s (some f) =
+    record {
+      ok = true;
+      head = s + 4;
+      id = f .id;
+      time = f .time;
+      len = length (f .bytes);
+      bytes = f .bytes ++ replicate (8 - length (f .bytes)) 0;
+    }
 
-abbrev pub bytesIn : Bytes → ℕ → Option (List ℕ)
-bytesIn r k = pick (r .ok) (some (take k (r .bytes))) none
-
-abbrev pub frameIn : Line → Option Frame
-frameIn r = pick (r .ok) (some (record { id = r .id; bytes = take (r .len) (r .bytes); time = r .time })) none
-
--- the frame, and how many characters its time takes; the bytes lie in the array
-pub record Reads (s : ℕ) (says : Option Frame) (r : Line) : Type 0 where
-  pub frame : frameIn r ≡ says
-  pub head : r .ok ≡ true → r .head ≡ s + 4
-  pub few : r .len ≤ length (r .bytes)
+abbrev pub lineIn : List ℕ → Line
+lineIn l = lineWith (before 46 l) (said l)

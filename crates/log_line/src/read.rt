@@ -1,13 +1,14 @@
 // One line of a log, read into a frame and its time.
 use digits::Parsed;
 ghost use mathlib.Core.Path.{_≡_};
-ghost use mathlib.Core.Bool.{true, false};
-ghost use Prim.Native.Nat.{_+_, _*_, _≤_};
+ghost use mathlib.Core.Bool.{true};
+ghost use mathlib.Core.Option.{none};
+ghost use Prim.Native.Nat.{_+_, _*_, _-_, _≤_};
 ghost use lib.ListN.{length, drop, replicate};
 ghost use Rattle.bits.specs.Part.{span};
-ghost use Rattle.log_line.specs.Reading.{pairOf, pairs as pairsOf, shaped, fieldsOf, said, orBad, bytesIn, Reads};
+ghost use Rattle.log_line.specs.Reading.{pairOf, pairs as pairsOf, shaped, fieldsOf, lineWith, lineIn};
+ghost use Rattle.log_line.specs.inside.Bytes.{orBad, bytesIn};
 ghost use Rattle.digits.specs.Digits.{number as numberOf, asNumber};
-ghost use Rattle.digits.specs.Find.{before};
 
 // A line that was read: whether it is well formed, how many characters its time takes, and the frame.
 pub struct Line {
@@ -26,7 +27,7 @@ struct Bytes {
 }
 
 fn ill_formed() -> Line
-    ensures { λ r. ⌜ r ≡ record { ok = false; head = 0; id = 0; time = 0; len = 0; bytes = replicate 8 0 } ⌝ }
+    ensures { λ r. ⌜ r ≡ lineWith 0 none ⌝ }
 {
     let bytes = [0u8; 8];
     Line {
@@ -63,7 +64,7 @@ fn pair(line: &[u8], at: usize) -> u64
 
 fn pairs(line: &[u8], at: usize, k: usize) -> Bytes
     requires { ⌜ (k ≤ 8) × (at + k * 3 ≤ length (now line)) ⌝ }
-    ensures { λ r. ⌜ (bytesIn r k ≡ pairsOf k (drop at (now (line .entry)))) × (length (r .bytes) ≡ 8) ⌝ }
+    ensures { λ r. ⌜ (bytesIn r k ≡ pairsOf k (drop at (now (line .entry)))) × ((length (r .bytes) ≡ 8) × (drop k (r .bytes) ≡ replicate (8 - k) 0)) ⌝ }
 {
     let mut bytes = [0u8; 8];
     let mut j = 0;
@@ -114,7 +115,7 @@ fn is_shaped(line: &[u8], s: usize) -> bool
 // The numbers of a line of that shape.
 fn fields(line: &[u8], s: usize) -> Line
     requires { ⌜ shaped s (now line) ≡ true ⌝ }
-    ensures { λ r. ⌜ Reads s (fieldsOf s (now (line .entry))) r ⌝ }
+    ensures { λ r. ⌜ r ≡ lineWith s (fieldsOf s (now (line .entry))) ⌝ }
 {
     let Parsed::Is(sec) = number(line, 0, s, 10) else {
         return ill_formed();
@@ -128,9 +129,12 @@ fn fields(line: &[u8], s: usize) -> Line
         };
         let k = (line.len() - (s + 14)) / 3;
         let b = pairs(line, s + 13, k);
+        if !b.ok {
+            return ill_formed();
+        }
         let bytes = b.bytes;
         return Line {
-            ok: b.ok,
+            ok: true,
             head: s + 4,
             id: id as u32,
             time: sec * 1_000_000 + ms * 1_000,
@@ -141,9 +145,9 @@ fn fields(line: &[u8], s: usize) -> Line
     ill_formed()
 }
 
-// Reads a line, its line feed included.
+// Reads a line, its line feed included. One that is not well formed gives zeros.
 pub fn read(line: &[u8]) -> Line
-    ensures { λ r. ⌜ Reads (before 46 (now (line .entry))) (said (now (line .entry))) r ⌝ }
+    ensures { λ r. ⌜ r ≡ lineIn (now (line .entry)) ⌝ }
 {
     let s = digits::find(line, 0, 46);
     if is_shaped(line, s) {

@@ -13,8 +13,7 @@ use Rattle.rules.specs.Tests.{pick}
 use Rattle.receiver.specs.Receive as receive
 use Rattle.receiver.specs.Receive.{received}
 use Rattle.log_replay.specs.declared.Counts.{Counts}
-use Rattle.log_replay.specs.declared.Told.{Told}
-use Rattle.log_replay.specs.declared.Told.the-variants.{Small, Line}
+use Rattle.log_replay.specs.declared.Said.{Said}
 use Rattle.log_answer.specs.Answer.{numbered, answerText}
 use Rattle.answers.specs.declared.Answer.{Answer}
 use Rattle.answers.specs.declared.Answer.the-variants.{Taken, Handed, Refused, Full, Passed, TooLong, BadChecksum, Faulty}
@@ -60,33 +59,23 @@ unfoldable pub reply : List ℕ → Option Frame → Reply
 reply m none = record { text = 63 ∷ numbered 45 18; state = m; handed = false }
 reply m (some f) = answered (f .time) (received m f (replicate 512 0))
 
--- ── the call ──
+-- ── the call: the text goes into a buffer from `at` on ──
 
--- 01, Numbers answered
-abbrev pub numberOf : Told → ℕ
-numberOf Small = 8
-numberOf (Line s) = 0
-
--- how many bytes of text there are
-abbrev pub lenOf : Told → ℕ
-lenOf Small = 0
-lenOf (Line s) = s .len
-
--- room for the longest text, with some to spare
+-- room for the longest text of a line
 abbrev pub room : ℕ
 room = 1200
 
 pub record Result : Type 0 where
-  pub number : ℕ
-  pub answer : Told
+  pub said : Said
   pub state : List ℕ
   pub out : List ℕ
 
-abbrev pub result : Told → List ℕ → List ℕ → Result
-result a m out = record { number = numberOf a; answer = a; state = m; out = out }
+abbrev pub result : Said → List ℕ → List ℕ → Result
+result s m out = record { said = s; state = m; out = out }
 
-abbrev pub given : Counts → List ℕ → Reply → Result
-given c out r = result (Line (record { len = length (r .text); counts = counted c (r .handed) })) (r .state) (splice out 0 (r .text))
+-- the place past the text and the counts, the receiver's state, and the buffer
+abbrev pub given : Counts → List ℕ → ℕ → Reply → Result
+given c out at r = result (record { past = at + length (r .text); counts = counted c (r .handed) }) (r .state) (splice out at (r .text))
 
-unfoldable pub replayed : List ℕ → List ℕ → Counts → List ℕ → Result
-replayed m l c out = pick (ltb (length out) room) (result Small m out) (given c out (reply m (said l)))
+abbrev pub replayed : List ℕ → List ℕ → Counts → List ℕ → ℕ → Result
+replayed m l c out at = given c out at (reply m (said l))

@@ -1,19 +1,16 @@
 // The log program's work on one line: reading it, receiving its frame, writing the answer, counting.
 use answers::Answer;
-use answers::Outcome;
 use log_line::read::Line;
 ghost use mathlib.Core.Path.{_≡_};
-ghost use mathlib.Core.Bool.{true, false};
+ghost use mathlib.Core.Bool.{true};
 ghost use mathlib.Core.List.{[]};
 ghost use mathlib.Core.Option.{none};
-ghost use Prim.Native.Nat.{_≤_};
+ghost use Prim.Native.Nat.{_+_, _*_, _≤_, _<_};
 ghost use lib.ListN.{length};
-ghost use Rattle.log_line.specs.Reading.{said, Reads};
-ghost use Rattle.log_replay.specs.Replay.{up as upOf, counted as countedOf, isHanded, endText, reply, lenOf, room, result, given, replayed};
-ghost use Rattle.setup.specs.Setup.{afterSetup, result as setupResult};
+ghost use Rattle.log_line.specs.Reading.{said, lineIn};
+ghost use Rattle.log_replay.specs.Replay.{up as upOf, counted as countedOf, isHanded, endText, reply, room, result, given, replayed};
 ghost use Rattle.digits.specs.Digits.{Puts};
-ghost use Rattle.digits.specs.Find.{before};
-ghost use Rattle.types.specs.Types.{records, standard};
+ghost use Rattle.state.specs.Sound.{soundState};
 
 // Lines read and transfers handed out.
 pub struct Counts {
@@ -21,24 +18,10 @@ pub struct Counts {
     pub transfers: u64,
 }
 
-// The length of the text for a line, and the counts after it.
+// Where the text for a line ends, and the counts after it.
 pub struct Said {
-    pub len: usize,
+    pub past: usize,
     pub counts: Counts,
-}
-
-// `Small`: the output buffer has less than 1,200 bytes.
-pub enum Told {
-    Small,
-    Line(Said),
-}
-
-// Sets the receiver up: own ID 1, subscribed to the standard types.
-pub fn setup(state: &mut [u8]) -> Outcome
-    ensures { λ r. ⌜ setupResult r (now (state .exit)) ≡ afterSetup (now (state .entry)) 1 (records standard) ⌝ }
-{
-    let types = types::subscriptions();
-    setup::setup(state, 1, &types)
 }
 
 fn up(n: u64) -> u64
@@ -82,62 +65,62 @@ fn is_handed(a: Answer) -> bool
 }
 
 // A line that is not well formed: "? - 18".
-fn refuse(out: &mut [u8], c: Counts) -> Told
-    requires { ⌜ room ≤ length (now out) ⌝ }
-    ensures { λ r. ⌜ (r ≡ given c (now (out .entry)) (reply [] none) .answer) × ((now (out .exit) ≡ given c (now (out .entry)) (reply [] none) .out) × (lenOf r ≤ length (now (out .entry)))) ⌝ }
+fn refuse(out: &mut [u8], at: usize, c: Counts) -> Said
+    requires { ⌜ at + room ≤ length (now out) ⌝ }
+    ensures { λ r. ⌜ (r ≡ given c (now (out .entry)) at (reply [] none) .said) × ((now (out .exit) ≡ given c (now (out .entry)) at (reply [] none) .out) × (r .past ≤ at + 80)) ⌝ }
 {
-    out[0] = b'?';
-    let p = log_answer::numbered(out, 1, b'-', 18);
-    Told::Line(Said {
-        len: p,
+    out[at] = b'?';
+    let past = log_answer::numbered(out, at + 1, b'-', 18);
+    Said {
+        past: past,
         counts: counted(c, false),
-    })
+    }
 }
 
-// A well-formed line.
-fn receive(state: &mut [u8], l: Line, line: &[u8], c: Counts, out: &mut [u8]) -> Told
-    requires { ⌜ (Reads (before 46 (now line)) (said (now line)) l) × ((l .ok ≡ true) × (room ≤ length (now out))) ⌝ }
-    ensures { λ r. ⌜ (result r (now (state .exit)) (now (out .exit)) ≡ given c (now (out .entry)) (reply (now (state .entry)) (said (now (line .entry))))) × (lenOf r ≤ length (now (out .entry))) ⌝ }
+// A well-formed line. The receiver's state has no fault, and has none after.
+fn receive(state: &mut [u8], l: Line, line: &[u8], c: Counts, out: &mut [u8], at: usize) -> Said
+    requires { ⌜ (l ≡ lineIn (now line)) × ((l .ok ≡ true) × ((soundState (now state) ≡ true) × (at + room ≤ length (now out)))) ⌝ }
+    ensures { λ r. ⌜ result r (now (state .exit)) (now (out .exit)) ≡ replayed (now (state .entry)) (now (line .entry)) c (now (out .entry)) at ⌝ }
+    ensures { λ r. ⌜ (soundState (now (state .exit)) ≡ true) × (r .past ≤ at + length (now (line .entry)) * 80) ⌝ }
 {
+    guarantees::state_lasts();
     let bytes = l.bytes;
     let n = l.len;
     let head = l.head;
     let mut payload = [0u8; 512];
-    let a = receiver::receive(state, l.id, &bytes[0..n], l.time, &mut payload);
-    bits::part::copy_at(out, 0, &line[0..head]);
-    let p = log_answer::put_answer(out, head, a, &payload);
-    Told::Line(Said {
-        len: p,
+    let a = receiver::receive_sound(state, l.id, &bytes[0..n], l.time, &mut payload);
+    bits::part::copy_at(out, at, &line[0..head]);
+    let past = log_answer::put_answer(out, at + head, a, &payload);
+    Said {
+        past: past,
         counts: counted(c, is_handed(a)),
-    })
+    }
 }
 
-// One line of a log, its line feed included: the text for it at the front of the output buffer, the receiver's state after it, and the
-// counts. A line that is not well formed is answered in the text (18) and leaves the receiver as it was.
-pub fn line(state: &mut [u8], line: &[u8], c: Counts, out: &mut [u8]) -> Told
-    ensures { λ r. ⌜ result r (now (state .exit)) (now (out .exit)) ≡ replayed (now (state .entry)) (now (line .entry)) c (now (out .entry)) ⌝ }
-    ensures { λ r. ⌜ lenOf r ≤ length (now (out .entry)) ⌝ }
+// Internal. One line of a log, its line feed included: the text for it in the output buffer from `at` on, the receiver's state after it, and
+// the counts. A line that is not well formed is answered in the text (18) and leaves the receiver as it was.
+pub fn line(state: &mut [u8], line: &[u8], c: Counts, out: &mut [u8], at: usize) -> Said
+    requires { ⌜ (soundState (now state) ≡ true) × ((0 < length (now line)) × (at + room ≤ length (now out))) ⌝ }
+    ensures { λ r. ⌜ result r (now (state .exit)) (now (out .exit)) ≡ replayed (now (state .entry)) (now (line .entry)) c (now (out .entry)) at ⌝ }
+    ensures { λ r. ⌜ (soundState (now (state .exit)) ≡ true) × (r .past ≤ at + length (now (line .entry)) * 80) ⌝ }
 {
-    if out.len() < 1200 {
-        return Told::Small;
-    }
     let l = log_line::read::read(line);
     if l.ok {
-        return receive(state, l, line, c, out);
+        return receive(state, l, line, c, out, at);
     }
-    refuse(out, c)
+    refuse(out, at, c)
 }
 
 // Internal. The last line.
-pub fn end(out: &mut [u8], c: Counts) -> usize
-    requires { ⌜ room ≤ length (now out) ⌝ }
-    ensures { λ r. ⌜ (Puts (now (out .entry)) (now (out .exit)) 0 r (endText c)) × (r ≤ length (now (out .entry))) ⌝ }
+pub fn end(out: &mut [u8], at: usize, c: Counts) -> usize
+    requires { ⌜ at + room ≤ length (now out) ⌝ }
+    ensures { λ r. ⌜ (Puts (now (out .entry)) (now (out .exit)) at r (endText c)) × (r ≤ at + 46) ⌝ }
 {
-    out[0] = b'e';
-    out[1] = b'n';
-    out[2] = b'd';
+    out[at] = b'e';
+    out[at + 1] = b'n';
+    out[at + 2] = b'd';
     let vs = [c.lines, c.transfers];
-    let p = digits::put_words(out, 3, &vs);
+    let p = digits::put_words(out, at + 3, &vs);
     out[p] = 10;
     p + 1
 }

@@ -27,8 +27,8 @@ fn accept(state: &mut [u8], f: Incoming, frame: &[u8], out: &mut [u8]) -> Answer
     place::arrive(state, f, &frame[0..last], out)
 }
 
-// On a state without a fault: the frame is read once, then checked.
-fn arrive(state: &mut [u8], id: u32, frame: &[u8], time: u64, out: &mut [u8]) -> Answer
+// Internal. `receive` on a state without a fault, which is not tested again: the frame is read once, then checked.
+pub fn receive_sound(state: &mut [u8], id: u32, frame: &[u8], time: u64, out: &mut [u8]) -> Answer
     requires { ⌜ soundState (now state) ≡ true ⌝ }
     ensures { λ r. ⌜ result r (now (state .exit)) (now (out .exit)) ≡ lent (now (state .entry)) (now (out .entry)) (step (setupOf (now (state .entry))) (placesOf (now (state .entry))) (arriving (frameOf id (now (frame .entry)) time) (now (out .entry)))) ⌝ }
 {
@@ -67,7 +67,7 @@ pub fn receive(state: &mut [u8], id: u32, frame: &[u8], time: u64, out: &mut [u8
     ensures { λ r. ⌜ result r (now (state .exit)) (now (out .exit)) ≡ received (now (state .entry)) (frameOf id (now (frame .entry)) time) (now (out .entry)) ⌝ }
 {
     if sessions::sound::is_sound(state) {
-        return arrive(state, id, frame, time, out);
+        return receive_sound(state, id, frame, time, out);
     }
     Answer::Faulty
 }

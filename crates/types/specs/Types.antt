@@ -1,7 +1,6 @@
 -- 01, Messages: the standard types, with the signatures of the public DroneCAN set. The program `signatures` works them out by the rule of 004.
-use mathlib.Core.List.{List, [], _∷_, _++_}
+use mathlib.Core.List.{List, [], _∷_}
 use Prim.Native.Nat.{ℕ}
-use Rattle.bits.specs.Little.{leBytes}
 use Rattle.rules.specs.Check.{orZero}
 use Rattle.rules.specs.Setup.{Subscription, subscribed}
 
@@ -21,11 +20,3 @@ standard =
 -- 0: no standard type
 unfoldable pub signatureOf : ℕ → ℕ → ℕ
 signatureOf kind type = orZero (subscribed kind type standard)
-
--- a subscription as a setup takes it: kind (1), type ID (4), signature (8), low byte first
-unfoldable pub record13 : ℕ → ℕ → ℕ → List ℕ
-record13 kind type signature = leBytes 1 kind ++ (leBytes 4 type ++ leBytes 8 signature)
-
-unfoldable pub records : List Subscription → List ℕ
-records [] = []
-records (a ∷ more) = record13 (a .kind) (a .type) (a .signature) ++ records more

@@ -1,15 +1,18 @@
--- `run` meets its contract.
-use mathlib.Core.Path.{_≡_}
-use lib.ListN.{length}
+-- `run` is safe and ends: the turns that are left fall, and the receiver's state has no fault.
 use borrow.Author.Needs.{needs}
+use mathlib.Core.Path.{_≡_, _∙_}
+use mathlib.Core.Bool.{true}
+use Prim.Native.Nat.{_≤_}
+use lib.ListN.{length}
+use Rattle.state.specs.Sound.{soundState}
 use Rattle.log.proofs.run.Statement.{statement}
 use Rattle.log.proofs.run.Tie as tie
 
 abbrev Inv-loop : tie.InvT-loop
-Inv-loop state₀ block₀ out₀ pen₀ kept₀ more₀ turns₀ state block out pen kept more turns = (length state ≡ length state₀) × ((length block ≡ length block₀) × (length out ≡ length out₀))
+Inv-loop state₀ block₀ out₀ counts₀ kept₀ more₀ turns₀ state block out counts kept more turns = (soundState state ≡ true) × ((kept ≤ 48) × ((length state ≡ length state₀) × ((length block ≡ length block₀) × (length out ≡ length out₀))))
 
 abbrev μ-loop : tie.MeasureT-loop
-μ-loop state₀ block₀ out₀ pen₀ kept₀ more₀ turns₀ state block out pen kept more turns = turns
+μ-loop state₀ block₀ out₀ counts₀ kept₀ more₀ turns₀ state block out counts kept more turns = turns
 
 loop-holds : tie.Need-loop-holds Inv-loop μ-loop
 loop-holds c = search needs
@@ -24,19 +27,34 @@ loop-less : tie.Need-loop-less Inv-loop μ-loop
 loop-less c = search needs
 
 loop-again : tie.Need-loop-again Inv-loop μ-loop
-loop-again c = search needs
+loop-again c =
+    let r = c .before .before .before .before .before .before .before in
+    let i = r .before .before .before .before .before .before .loop .inv .1 .1 in
+    (r .turn .ensures .0, (r .turn .ensures .1, (r .turn .kept .0 ∙ i .0, (r .turn .kept .1 .0 ∙ i .1 .0, r .turn .kept .1 .1 .1 .0 ∙ i .1 .1))))
 
-sub-line : tie.Need-sub-line Inv-loop μ-loop
-sub-line c = search needs
+sub-finish : tie.Need-sub-finish Inv-loop μ-loop
+sub-finish c = search needs
 
-part-line-start : tie.Need-part-line-start Inv-loop μ-loop
-part-line-start c = search needs
+part-finish-start : tie.Need-part-finish-start Inv-loop μ-loop
+part-finish-start c = search needs
 
-part-line-end : tie.Need-part-line-end Inv-loop μ-loop
-part-line-end c = search needs
+part-finish-end : tie.Need-part-finish-end Inv-loop μ-loop
+part-finish-end c = search needs
 
-line-requires : tie.Need-line-requires Inv-loop μ-loop
-line-requires c κs = search needs
+finish-requires : tie.Need-finish-requires Inv-loop μ-loop
+finish-requires c κs = search needs
+
+sub-write-all : tie.Need-sub-write-all Inv-loop μ-loop
+sub-write-all c = search needs
+
+part-write-all-start : tie.Need-part-write-all-start Inv-loop μ-loop
+part-write-all-start c = search needs
+
+part-write-all-end : tie.Need-part-write-all-end Inv-loop μ-loop
+part-write-all-end c = search needs
+
+write-all-requires : tie.Need-write-all-requires Inv-loop μ-loop
+write-all-requires c κs = search needs
 
 same-length : tie.Need-same-length Inv-loop μ-loop
 same-length c = search needs
@@ -50,30 +68,6 @@ same-length-3 c = search needs
 returns : tie.Need-returns Inv-loop μ-loop
 returns c = search needs
 
-same-length-4 : tie.Need-same-length-4 Inv-loop μ-loop
-same-length-4 c = search needs
-
-same-length-5 : tie.Need-same-length-5 Inv-loop μ-loop
-same-length-5 c = search needs
-
-same-length-6 : tie.Need-same-length-6 Inv-loop μ-loop
-same-length-6 c = search needs
-
-returns-2 : tie.Need-returns-2 Inv-loop μ-loop
-returns-2 c = search needs
-
-same-length-7 : tie.Need-same-length-7 Inv-loop μ-loop
-same-length-7 c = search needs
-
-same-length-8 : tie.Need-same-length-8 Inv-loop μ-loop
-same-length-8 c = search needs
-
-same-length-9 : tie.Need-same-length-9 Inv-loop μ-loop
-same-length-9 c = search needs
-
-returns-3 : tie.Need-returns-3 Inv-loop μ-loop
-returns-3 c = search needs
-
 pub run-spec : {M : Type 1} → statement M
 run-spec =
     tie.close
@@ -85,19 +79,15 @@ run-spec =
     sub-turns
     loop-less
     loop-again
-    sub-line
-    part-line-start
-    part-line-end
-    line-requires
+    sub-finish
+    part-finish-start
+    part-finish-end
+    finish-requires
+    sub-write-all
+    part-write-all-start
+    part-write-all-end
+    write-all-requires
     same-length
     same-length-2
     same-length-3
-    returns
-    same-length-4
-    same-length-5
-    same-length-6
-    returns-2
-    same-length-7
-    same-length-8
-    same-length-9
-    returns-3)
+    returns)

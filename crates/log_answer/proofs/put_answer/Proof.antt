@@ -4,10 +4,11 @@ use Rattle.digits.specs.Digits.{Puts}
 use Rattle.answers.specs.declared.Transfer.{Transfer}
 use Rattle.answers.specs.declared.Answer.the-variants.{Handed}
 use Rattle.answers.specs.declared.Answer.{Answer}
-use lib.Seq.{take-all}
+use lib.Seq.{take-all, length-take-le}
 use lib.ListN.{length, take}
 use native.Mathlib.Nat.{sub-zero}
-use Prim.Native.Nat.{ℕ, _-_, _≤_}
+use Prim.Native.Nat.{ℕ, _+_, _*_, _-_, _≤_, _<_}
+use native.Mathlib.Omega.{arith}
 use mathlib.Core.List.{List}
 use mathlib.Core.Path.{_≡_}
 use borrow.Author.Needs.{needs}
@@ -16,18 +17,25 @@ use Rattle.log_answer.proofs.put_answer.Tie as tie
 
 -- the text of the answer that was matched
 abbrev Put : Answer → List ℕ → List ℕ → List ℕ → ℕ → ℕ → Type 0
-Put a pay m m' at r = (Puts m m' at r (answerText a pay)) × (r ≤ length m)
+Put a pay m m' at r = (Puts m m' at r (answerText a pay)) × (r ≤ at + 131 + length pay * 2)
 
 matched : (a b : Answer) (pay m m' : List ℕ) (at r : ℕ) → a ≡ b → Put b pay m m' at r → Put a pay m m' at r
 matched a b pay m m' at r e h = rw e h
 
+-- a sign and a number
+short : (a b : Answer) (pay m m' : List ℕ) (at r : ℕ) → a ≡ b → (Puts m m' at r (answerText b pay)) × (r ≤ at + 24) → Put a pay m m' at r
+short a b pay m m' at r e h = matched a b pay m m' at r e (h .0, omega (arith, h .1))
+
 -- the payload in front of the buffer, or all of it
-front : (t : Transfer) (pay m m' : List ℕ) (at r : ℕ) → (Puts m m' at r (transferText t (take (t .len - 0) pay))) × (r ≤ length m)
+front : (t : Transfer) (pay m m' : List ℕ) (at r : ℕ) → t .len < length pay
+    → (Puts m m' at r (transferText t (take (t .len - 0) pay))) × (r ≤ at + 131 + length (take (t .len - 0) pay) * 2)
     → Put (Handed t) pay m m' at r
 unfolding answerText
-front t pay m m' at r h = rw (sub-zero (t .len)) at h
+front t pay m m' at r l h =
+    let k = rw (sub-zero (t .len)) at h in
+    (k .0, omega (arith, k .1, length-take-le (t .len) pay (omega arith)))
 
-whole : (t : Transfer) (pay m m' : List ℕ) (at r : ℕ) → length pay ≤ t .len → (Puts m m' at r (transferText t pay)) × (r ≤ length m)
+whole : (t : Transfer) (pay m m' : List ℕ) (at r : ℕ) → length pay ≤ t .len → (Puts m m' at r (transferText t pay)) × (r ≤ at + 131 + length pay * 2)
     → Put (Handed t) pay m m' at r
 unfolding answerText
 whole t pay m m' at r l h = rw (take-all (t .len) pay l) h
@@ -64,7 +72,7 @@ returns c =
     let g = s .args in
     let p = r-put-transfer .put-transfer in
     matched (g .a) _ (g .payload .now) (g .out .now) (p .last .0) (g .at) (p .result) (r-a .a .given .1)
-    (front _ (g .payload .now) (g .out .now) (p .last .0) (g .at) (p .result) (p .ensures))
+    (front _ (g .payload .now) (g .out .now) (p .last .0) (g .at) (p .result) (r-put-transfer .before .before .before .if1 .taken) (p .ensures))
 
 put-transfer-requires-2 : tie.Need-put-transfer-requires-2
 put-transfer-requires-2 c κs = search needs
@@ -118,7 +126,7 @@ returns-2 c =
     let r-enum-told = r-numbered .before .before in
     let s = r-enum-told .before .before .before .before in
     let a = s .args in
-    matched (a .a) _ (a .payload .now) (a .out .now) (r-numbered .numbered .last .0) (a .at) (r-numbered .numbered .result)
+    short (a .a) _ (a .payload .now) (a .out .now) (r-numbered .numbered .last .0) (a .at) (r-numbered .numbered .result)
     (r-enum-told .enum-told .given .1) (r-numbered .numbered .ensures)
 
 same-length-3 : tie.Need-same-length-3
@@ -145,7 +153,7 @@ returns-4 c =
     let r-a2 = r-numbered2 .before .before .before in
     let s = r-a2 .before .before .before .before in
     let g = s .args in
-    matched (g .a) _ (g .payload .now) (g .out .now) (r-numbered2 .numbered2 .last .0) (g .at) (r-numbered2 .numbered2 .result)
+    short (g .a) _ (g .payload .now) (g .out .now) (r-numbered2 .numbered2 .last .0) (g .at) (r-numbered2 .numbered2 .result)
     (r-a2 .a2 .given .1) (r-numbered2 .numbered2 .ensures)
 
 same-length-5 : tie.Need-same-length-5
@@ -158,7 +166,7 @@ returns-5 c =
     let r-enum-told2 = r-numbered3 .before .before in
     let s = r-enum-told2 .before .before .before .before in
     let g = s .args in
-    matched (g .a) _ (g .payload .now) (g .out .now) (r-numbered3 .numbered3 .last .0) (g .at) (r-numbered3 .numbered3 .result)
+    short (g .a) _ (g .payload .now) (g .out .now) (r-numbered3 .numbered3 .last .0) (g .at) (r-numbered3 .numbered3 .result)
     (r-enum-told2 .enum-told2 .given .1) (r-numbered3 .numbered3 .ensures)
 
 same-length-6 : tie.Need-same-length-6
@@ -171,7 +179,7 @@ returns-6 c =
     let r-enum-told3 = r-numbered4 .before .before in
     let s = r-enum-told3 .before .before .before .before in
     let g = s .args in
-    matched (g .a) _ (g .payload .now) (g .out .now) (r-numbered4 .numbered4 .last .0) (g .at) (r-numbered4 .numbered4 .result)
+    short (g .a) _ (g .payload .now) (g .out .now) (r-numbered4 .numbered4 .last .0) (g .at) (r-numbered4 .numbered4 .result)
     (r-enum-told3 .enum-told3 .given .1) (r-numbered4 .numbered4 .ensures)
 
 same-length-7 : tie.Need-same-length-7
@@ -184,7 +192,7 @@ returns-7 c =
     let r-enum-told4 = r-numbered5 .before .before in
     let s = r-enum-told4 .before .before .before .before in
     let g = s .args in
-    matched (g .a) _ (g .payload .now) (g .out .now) (r-numbered5 .numbered5 .last .0) (g .at) (r-numbered5 .numbered5 .result)
+    short (g .a) _ (g .payload .now) (g .out .now) (r-numbered5 .numbered5 .last .0) (g .at) (r-numbered5 .numbered5 .result)
     (r-enum-told4 .enum-told4 .given .1) (r-numbered5 .numbered5 .ensures)
 
 same-length-8 : tie.Need-same-length-8
@@ -197,7 +205,7 @@ returns-8 c =
     let r-enum-told5 = r-numbered6 .before .before in
     let s = r-enum-told5 .before .before .before .before in
     let g = s .args in
-    matched (g .a) _ (g .payload .now) (g .out .now) (r-numbered6 .numbered6 .last .0) (g .at) (r-numbered6 .numbered6 .result)
+    short (g .a) _ (g .payload .now) (g .out .now) (r-numbered6 .numbered6 .last .0) (g .at) (r-numbered6 .numbered6 .result)
     (r-enum-told5 .enum-told5 .given .1) (r-numbered6 .numbered6 .ensures)
 
 same-length-9 : tie.Need-same-length-9
@@ -210,7 +218,7 @@ returns-9 c =
     let r-enum-told6 = r-numbered7 .before .before in
     let s = r-enum-told6 .before .before .before .before in
     let g = s .args in
-    matched (g .a) _ (g .payload .now) (g .out .now) (r-numbered7 .numbered7 .last .0) (g .at) (r-numbered7 .numbered7 .result)
+    short (g .a) _ (g .payload .now) (g .out .now) (r-numbered7 .numbered7 .last .0) (g .at) (r-numbered7 .numbered7 .result)
     (r-enum-told6 .enum-told6 .given .1) (r-numbered7 .numbered7 .ensures)
 
 pub put-answer-spec : {M : Type 1} → statement M

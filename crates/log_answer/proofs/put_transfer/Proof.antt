@@ -19,7 +19,7 @@ joined : (t : Transfer) (pay m m₁ m₂ m₃ m₄ m₅ m₆ : List ℕ) (n at a
     → Puts m₂ m₃ b c (words (t .«type_id» ∷ t .source ∷ t .destination ∷ t .priority ∷ t .transfer ∷ t .len ∷ [])) → c ≤ b + 126 → Puts m₃ m₄ c d
     (32 ∷ [])
     → Puts m₄ m₅ d e (payloadText pay) → e ≤ d + 1 + length pay * 2 → Puts m₅ m₆ e f (10 ∷ [])
-    → (Puts m m₆ at f (transferText t pay)) × (f ≤ n)
+    → (Puts m m₆ at f (transferText t pay)) × (f ≤ at + 131 + length pay * 2)
 unfolding transferText
 joined t pay m m₁ m₂ m₃ m₄ m₅ m₆ n at a b c d e f l room k k₁ k₂ k₃ k₄ k₅ q p₁ p₂ p₃ le₃ p₄ p₅ le₅ p₆ =
     let e₁ = p₁ .end in

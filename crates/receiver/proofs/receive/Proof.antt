@@ -9,8 +9,8 @@ use Rattle.receiver.proofs.receive.Tie as tie
 is-sound-requires : tie.Need-is-sound-requires
 is-sound-requires c κs = search needs
 
-arrive-requires : tie.Need-arrive-requires
-arrive-requires c κs = let t = c .before .before in sym (t .before .is-sound .ensures) ∙ t .if1 .taken
+receive-sound-requires : tie.Need-receive-sound-requires
+receive-sound-requires c κs = let t = c .before .before in sym (t .before .is-sound .ensures) ∙ t .if1 .taken
 
 same-length : tie.Need-same-length
 same-length c = search needs
@@ -25,7 +25,7 @@ returns c =
     let t = r .before .before .before in
     let n = t .before in
     let a = n .before .before .before .before .before .args in
-    r .arrive .ensures ∙ ap (λ (b : Bool). receivedIf b (a .state .now) (frameOf (a .id) (a .frame .now) (a .time)) (a .out .now)) (sym (sym (n .is-sound .ensures) ∙ t .if1 .taken))
+    r .receive-sound .ensures ∙ ap (λ (b : Bool). receivedIf b (a .state .now) (frameOf (a .id) (a .frame .now) (a .time)) (a .out .now)) (sym (sym (n .is-sound .ensures) ∙ t .if1 .taken))
 
 same-length-3 : tie.Need-same-length-3
 same-length-3 c = search needs
@@ -42,7 +42,7 @@ receive-spec =
     tie.close
     (tie.spec
     is-sound-requires
-    arrive-requires
+    receive-sound-requires
     same-length
     same-length-2
     returns

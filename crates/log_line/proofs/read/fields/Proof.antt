@@ -1,7 +1,8 @@
 -- `read::fields` meets its contract.
-use Rattle.log_line.proofs.Steps.{is, not, shape, unread, no-seconds, needless-zero, no-milliseconds, no-id, read-all, field-lt, sec-lt}
+use Rattle.log_line.proofs.Steps.{is, not, shape, unread, no-seconds, needless-zero, no-milliseconds, no-id, no-data, told, read-all, field-lt, sec-lt}
 use native.Mathlib.Omega.{arith}
-use mathlib.Core.Path.{refl, sym, _∙_}
+use borrow.Author.Tests.{not-true, not-false}
+use mathlib.Core.Path.{sym, _∙_}
 use Prim.Native.Nat.{_+_}
 use borrow.Author.Needs.{needs}
 use Rattle.log_line.proofs.read.fields.Statement.{statement}
@@ -125,55 +126,14 @@ pairs-requires c κs =
     let h = shape (s .args .s) (s .args .line .now) (s .pre) in
     (omega (arith, h .short, h .long), omega (arith, h .long))
 
-add-t16 : tie.Need-add-t16
-add-t16 c = let s =
-    c .before .before .before .before .before .before .before .before .before .before .before .before .before .before .before .before .before in
-    omega (arith, shape (s .args .s) (s .args .line .now) (s .pre) .few)
-
-cast-t17 : tie.Need-cast-t17
-cast-t17 c =
-    let r-id = c .before .before .before in
-    let r-number3 = r-id .before .before in
-    let s = r-number3 .before .before .before .before .before .before .before .before .before .before .before .before in
-    let h = shape (s .args .s) (s .args .line .now) (s .pre) in
-    let id = is _ (r-number3 .number3 .result) _ (r-number3 .number3 .ensures) (r-id .id .given .1) in
-    omega (arith, field-lt 16 (omega arith) (omega arith) (s .args .line .now) (s .args .s + 5) 8 _ (omega (arith, h .long)) id)
-
-mul-t18 : tie.Need-mul-t18
-mul-t18 c =
-    let r-sec = c .before .before .before .before .before .before .before .before .before .before .before .before .before in
-    let r-number = r-sec .before .before in
-    let s = r-number .before .before in
-    let h = shape (s .args .s) (s .args .line .now) (s .pre) in
-    let sec = is _ (r-number .number .result) _ (r-number .number .ensures) (r-sec .sec .given .1) in
-    omega (arith, sec-lt (s .args .s) (s .args .line .now) _ (h .few) (omega (arith, h .long)) sec)
-
-mul-t19 : tie.Need-mul-t19
-mul-t19 c =
-    let r-ms = c .before .before .before .before .before .before .before in
-    let r-number2 = r-ms .before .before in
-    let s = r-number2 .before .before .before .before .before .before .before .before in
-    let h = shape (s .args .s) (s .args .line .now) (s .pre) in
-    let ms = is _ (r-number2 .number2 .result) _ (r-number2 .number2 .ensures) (r-ms .ms .given .1) in
-    omega (arith, field-lt 10 (omega arith) (omega arith) (s .args .line .now) (s .args .s + 1) 3 _ (omega (arith, h .long)) ms)
-
-add-t20 : tie.Need-add-t20
-add-t20 c =
-    let r-ms = c .before .before .before .before .before .before .before in
-    let r-number2 = r-ms .before .before in
-    let r-sec = r-number2 .before .before .before .before in
-    let r-number = r-sec .before .before in
-    let s = r-number .before .before in
-    let h = shape (s .args .s) (s .args .line .now) (s .pre) in
-    let sec = is _ (r-number .number .result) _ (r-number .number .ensures) (r-sec .sec .given .1) in
-    let ms = is _ (r-number2 .number2 .result) _ (r-number2 .number2 .ensures) (r-ms .ms .given .1) in
-    let x = sec-lt (s .args .s) (s .args .line .now) _ (h .few) (omega (arith, h .long)) sec in
-    let y = field-lt 10 (omega arith) (omega arith) (s .args .line .now) (s .args .s + 1) 3 _ (omega (arith, h .long)) ms in
-    omega (arith, x, y)
+ill-formed-requires-4 : tie.Need-ill-formed-requires-4
+ill-formed-requires-4 c κs = search needs
 
 returns-4 : tie.Need-returns-4
 returns-4 c =
-    let r-pairs = c .before in
+    let r-ill-formed4 = c in
+    let r-if2 = r-ill-formed4 .before in
+    let r-pairs = r-if2 .before .before in
     let r-id = r-pairs .before .before in
     let r-number3 = r-id .before .before in
     let r-ms = r-number3 .before .before in
@@ -187,28 +147,91 @@ returns-4 c =
     let sec = is _ (r-number .number .result) _ (r-number .number .ensures) (r-sec .sec .given .1) in
     let ms = is _ (r-number2 .number2 .result) _ (r-number2 .number2 .ensures) (r-ms .ms .given .1) in
     let id = is _ (r-number3 .number3 .result) _ (r-number3 .number3 .ensures) (r-id .id .given .1) in
-    record {
-      frame = read-all (a .s) (a .line .now) _ sec _ ms _ id (sym (r-count .count .ensures .0) ∙ r-if1 .if1 .taken)
-          (r-pairs .pairs .result .ok) _ (r-pairs .pairs .ensures .0);
-      head = λ q. refl;
-      few = omega
-          (arith, shape (a .s) (a .line .now) (s .pre) .short, r-pairs .pairs .ensures .1);
-    }
+    unread (a .s) _ (r-ill-formed4 .ill-formed4 .result) (r-ill-formed4 .ill-formed4 .ensures)
+    (no-data (a .s) (a .line .now) _ sec _ ms _ id (r-pairs .pairs .result .ok) _ (not-true (r-pairs .pairs .result .ok) (r-if2 .if2 .taken)) (r-pairs .pairs .ensures .0))
 
-ill-formed-requires-4 : tie.Need-ill-formed-requires-4
-ill-formed-requires-4 c κs = search needs
+add-t16 : tie.Need-add-t16
+add-t16 c = let s =
+    c .before .before .before .before .before .before .before .before .before .before .before .before .before .before .before .before .before .before .before in
+    omega (arith, shape (s .args .s) (s .args .line .now) (s .pre) .few)
+
+cast-t18 : tie.Need-cast-t18
+cast-t18 c =
+    let r-id = c .before .before .before .before .before in
+    let r-number3 = r-id .before .before in
+    let s = r-number3 .before .before .before .before .before .before .before .before .before .before .before .before in
+    let h = shape (s .args .s) (s .args .line .now) (s .pre) in
+    let id = is _ (r-number3 .number3 .result) _ (r-number3 .number3 .ensures) (r-id .id .given .1) in
+    omega (arith, field-lt 16 (omega arith) (omega arith) (s .args .line .now) (s .args .s + 5) 8 _ (omega (arith, h .long)) id)
+
+mul-t19 : tie.Need-mul-t19
+mul-t19 c =
+    let r-sec = c .before .before .before .before .before .before .before .before .before .before .before .before .before .before .before in
+    let r-number = r-sec .before .before in
+    let s = r-number .before .before in
+    let h = shape (s .args .s) (s .args .line .now) (s .pre) in
+    let sec = is _ (r-number .number .result) _ (r-number .number .ensures) (r-sec .sec .given .1) in
+    omega (arith, sec-lt (s .args .s) (s .args .line .now) _ (h .few) (omega (arith, h .long)) sec)
+
+mul-t20 : tie.Need-mul-t20
+mul-t20 c =
+    let r-ms = c .before .before .before .before .before .before .before .before .before in
+    let r-number2 = r-ms .before .before in
+    let s = r-number2 .before .before .before .before .before .before .before .before in
+    let h = shape (s .args .s) (s .args .line .now) (s .pre) in
+    let ms = is _ (r-number2 .number2 .result) _ (r-number2 .number2 .ensures) (r-ms .ms .given .1) in
+    omega (arith, field-lt 10 (omega arith) (omega arith) (s .args .line .now) (s .args .s + 1) 3 _ (omega (arith, h .long)) ms)
+
+add-t21 : tie.Need-add-t21
+add-t21 c =
+    let r-ms = c .before .before .before .before .before .before .before .before .before in
+    let r-number2 = r-ms .before .before in
+    let r-sec = r-number2 .before .before .before .before in
+    let r-number = r-sec .before .before in
+    let s = r-number .before .before in
+    let h = shape (s .args .s) (s .args .line .now) (s .pre) in
+    let sec = is _ (r-number .number .result) _ (r-number .number .ensures) (r-sec .sec .given .1) in
+    let ms = is _ (r-number2 .number2 .result) _ (r-number2 .number2 .ensures) (r-ms .ms .given .1) in
+    let x = sec-lt (s .args .s) (s .args .line .now) _ (h .few) (omega (arith, h .long)) sec in
+    let y = field-lt 10 (omega arith) (omega arith) (s .args .line .now) (s .args .s + 1) 3 _ (omega (arith, h .long)) ms in
+    omega (arith, x, y)
 
 returns-5 : tie.Need-returns-5
 returns-5 c =
-    let r-ill-formed4 = c in
-    let r-if1 = r-ill-formed4 .before in
+    let r-if2 = c .before in
+    let r-pairs = r-if2 .before .before in
+    let r-id = r-pairs .before .before in
+    let r-number3 = r-id .before .before in
+    let r-ms = r-number3 .before .before in
+    let r-number2 = r-ms .before .before in
+    let r-if1 = r-number2 .before in
     let r-count = r-if1 .before in
     let r-sec = r-count .before .before in
     let r-number = r-sec .before .before in
     let s = r-number .before .before in
     let a = s .args in
     let sec = is _ (r-number .number .result) _ (r-number .number .ensures) (r-sec .sec .given .1) in
-    unread (a .s) _ (r-ill-formed4 .ill-formed4 .result) (r-ill-formed4 .ill-formed4 .ensures)
+    let ms = is _ (r-number2 .number2 .result) _ (r-number2 .number2 .ensures) (r-ms .ms .given .1) in
+    let id = is _ (r-number3 .number3 .result) _ (r-number3 .number3 .ensures) (r-id .id .given .1) in
+    let h = shape (a .s) (a .line .now) (s .pre) in
+    told (a .s) _ _ _ (r-pairs .pairs .result .bytes) _ (r-pairs .pairs .ensures .1 .0) (omega (arith, h .short, h .long)) (r-pairs .pairs .ensures .1 .1)
+    (read-all (a .s) (a .line .now) _ sec _ ms _ id (sym (r-count .count .ensures .0) ∙ r-if1 .if1 .taken)
+    (r-pairs .pairs .result .ok) _ (not-false (r-pairs .pairs .result .ok) (r-if2 .if2 .left)) (r-pairs .pairs .ensures .0))
+
+ill-formed-requires-5 : tie.Need-ill-formed-requires-5
+ill-formed-requires-5 c κs = search needs
+
+returns-6 : tie.Need-returns-6
+returns-6 c =
+    let r-ill-formed5 = c in
+    let r-if1 = r-ill-formed5 .before in
+    let r-count = r-if1 .before in
+    let r-sec = r-count .before .before in
+    let r-number = r-sec .before .before in
+    let s = r-number .before .before in
+    let a = s .args in
+    let sec = is _ (r-number .number .result) _ (r-number .number .ensures) (r-sec .sec .given .1) in
+    unread (a .s) _ (r-ill-formed5 .ill-formed5 .result) (r-ill-formed5 .ill-formed5 .ensures)
     (needless-zero (a .s) (a .line .now) _ sec (λ q. r-if1 .if1 .left (r-count .count .ensures .0 ∙ q)))
 
 pub fields-spec : {M : Type 1} → statement M
@@ -237,11 +260,13 @@ fields-spec =
     sub-k
     add-pairs
     pairs-requires
-    add-t16
-    cast-t17
-    mul-t18
-    mul-t19
-    add-t20
-    returns-4
     ill-formed-requires-4
-    returns-5)
+    returns-4
+    add-t16
+    cast-t18
+    mul-t19
+    mul-t20
+    add-t21
+    returns-5
+    ill-formed-requires-5
+    returns-6)

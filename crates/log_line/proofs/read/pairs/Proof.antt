@@ -1,17 +1,18 @@
 -- `read::pairs` meets its contract.
-use Rattle.log_line.proofs.Steps.{ahead, begun, on, off, done}
+use Rattle.log_line.proofs.Steps.{ahead, begun, on, off, done, drop-zeros}
 use Rattle.log_line.specs.Reading.{pairs}
-use lib.ListN.{length, take, drop, length-set}
+use lib.ListN.{length, take, drop, replicate, length-set}
+use lib.Seq.{drop-set-lt}
 use native.Mathlib.Omega.{arith}
 use native.Mathlib.Numerals.{add-one}
 use Prim.Native.Nat.{_+_, _*_, _-_, _≤_}
-use mathlib.Core.Path.{_≡_, refl}
+use mathlib.Core.Path.{_≡_, refl, _∙_}
 use Rattle.log_line.proofs.read.pairs.Statement.{statement}
 use Rattle.log_line.proofs.read.pairs.Tie as tie
 
 abbrev Inv-loop : tie.InvT-loop
 Inv-loop line at k bytes₀ j₀ bytes j = (j ≤ k) × ((length bytes ≡ 8) ×
-    (pairs k (drop at line) ≡ ahead (take j bytes) (pairs (k - j) (drop (at + j * 3) line))))
+    ((pairs k (drop at line) ≡ ahead (take j bytes) (pairs (k - j) (drop (at + j * 3) line))) × (drop k bytes ≡ replicate (8 - k) 0)))
 
 abbrev μ-loop : tie.MeasureT-loop
 μ-loop line at k bytes₀ j₀ bytes j = k - j
@@ -19,7 +20,7 @@ abbrev μ-loop : tie.MeasureT-loop
 loop-holds : tie.Need-loop-holds Inv-loop μ-loop
 loop-holds c =
     let a = c .before .args in
-    (omega arith, (refl, begun (a .line .now) (a .at) (a .k)))
+    (omega arith, (refl, (begun (a .line .now) (a .at) (a .k), drop-zeros (a .k) 8)))
 
 mul-pair : tie.Need-mul-pair Inv-loop μ-loop
 mul-pair c = omega arith
@@ -42,8 +43,8 @@ returns c =
     let s = r-loop .before .before in
     let a = s .args in (
       off (a .line .now) (r-loop .loop .bytes) (a .at) (a .k) (r-loop .loop .j) (r-loop-test .loop-test .taken) (s .pre .1)
-          (r-loop .loop .inv .1 .1) (r-pair .pair .result) (r-pair .pair .ensures) (r-if1 .if1 .taken),
-      r-loop .loop .inv .1 .0,
+          (r-loop .loop .inv .1 .1 .0) (r-pair .pair .result) (r-pair .pair .ensures) (r-if1 .if1 .taken),
+      (r-loop .loop .inv .1 .0, r-loop .loop .inv .1 .1 .1),
     )
 
 cast-bytes : tie.Need-cast-bytes Inv-loop μ-loop
@@ -70,8 +71,11 @@ loop-again c =
       omega arith,
       (
         simp length-set (v .0),
-        rw (add-one (r-loop .loop .j)) (on (a .line .now) (r-loop .loop .bytes) (a .at) (a .k) (r-loop .loop .j) (r-loop-test .loop-test .taken)
-            (s .pre .1) (v .1) (r-pair .pair .result) (r-pair .pair .ensures) (r-if1 .if1 .left) (omega (arith, v .0, s .pre .0))),
+        (
+          rw (add-one (r-loop .loop .j)) (on (a .line .now) (r-loop .loop .bytes) (a .at) (a .k) (r-loop .loop .j) (r-loop-test .loop-test .taken)
+              (s .pre .1) (v .1 .0) (r-pair .pair .result) (r-pair .pair .ensures) (r-if1 .if1 .left) (omega (arith, v .0, s .pre .0))),
+          drop-set-lt (a .k) (r-loop .loop .bytes) (r-loop .loop .j) _ (r-loop-test .loop-test .taken) ∙ v .1 .1,
+        ),
       ),
     )
 
@@ -80,8 +84,8 @@ returns-2 c =
     let r-loop = c .before in
     let s = r-loop .before .before in
     let a = s .args in (
-      done (a .line .now) (r-loop .loop .bytes) (a .at) (a .k) (r-loop .loop .j) (omega arith) (r-loop .loop .inv .1 .1),
-      r-loop .loop .inv .1 .0,
+      done (a .line .now) (r-loop .loop .bytes) (a .at) (a .k) (r-loop .loop .j) (omega arith) (r-loop .loop .inv .1 .1 .0),
+      (r-loop .loop .inv .1 .0, r-loop .loop .inv .1 .1 .1),
     )
 
 pub pairs-spec : {M : Type 1} → statement M

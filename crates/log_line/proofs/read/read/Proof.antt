@@ -1,6 +1,6 @@
 -- `read::read` meets its contract.
 use Rattle.log_line.proofs.Steps.{unread}
-use Rattle.log_line.specs.Reading.{shaped, fieldsOf, said, Reads}
+use Rattle.log_line.specs.Reading.{shaped, fieldsOf, said, lineWith, lineIn}
 use Rattle.log_line.specs.declared.read.Line.{Line}
 use Rattle.digits.specs.Find.{before}
 use native.Mathlib.Nat.{zero-add}
@@ -17,11 +17,11 @@ use Rattle.log_line.proofs.read.read.Tie as tie
 dot : (l : List ℕ) (s : ℕ) → s ≡ 0 + before 46 l → s ≡ before 46 l
 dot l s e = e ∙ zero-add (before 46 l)
 
-fits : (l : List ℕ) (s : ℕ) (r : Line) → s ≡ before 46 l → true ≡ shaped s l → Reads s (fieldsOf s l) r → Reads (before 46 l) (said l) r
+fits : (l : List ℕ) (s : ℕ) (r : Line) → s ≡ before 46 l → true ≡ shaped s l → r ≡ lineWith s (fieldsOf s l) → r ≡ lineIn l
 unfolding said
 fits l s r e t h =
     let t' : shaped (before 46 l) l ≡ true = ap (λ (k : ℕ). shaped k l) (sym e) ∙ sym t in
-    rw t' (rw e at h)
+    rw t' (h ∙ ap (λ (k : ℕ). lineWith k (fieldsOf k l)) e)
 
 misfits : (l : List ℕ) (s : ℕ) → s ≡ before 46 l → false ≡ shaped s l → said l ≡ none
 unfolding said

@@ -1,0 +1,34 @@
+// KeyValue by hand.
+use codec_text::answer;
+use codec_text::answer::Encoded;
+use codec_text::fields;
+use codec_text::names;
+use protocol_debug::key_value;
+use protocol_debug::key_value::Read;
+ghost use Prim.Native.Nat.{_≤_};
+ghost use lib.ListN.{length};
+
+const NAMES: [u8; 9] = *b"value key";
+
+pub fn decode(payload: &[u8], out: &mut [u8], at: usize) -> usize {
+    match key_value::decode(payload) {
+        Read::Refused(n) => answer::refused(out, at, n),
+        Read::Got(x) => {
+            let v = [x.value];
+            let o = answer::numbers(out, at, &NAMES, &v);
+            answer::list(out, o, names::nth(&NAMES, 1), key_value::key(payload))
+        }
+    }
+}
+
+// Internal.
+pub fn encode(words: &[u8], bytes: &mut [u8], out: &mut [u8]) -> Encoded
+    requires { ⌜ length (now words) ≤ length (now bytes) ⌝ }
+{
+    let mut v = [0u64; 1];
+    if !fields::read(&NAMES, words, &mut v, bytes) {
+        return Encoded::IllFormed;
+    }
+    let key = fields::list(words, names::nth(&NAMES, 1), bytes);
+    Encoded::Answer(key_value::encode(v[0], key, out))
+}

@@ -1,0 +1,80 @@
+// Answers to requests.
+use super::names;
+use super::number::Number;
+use super::put;
+use shape::answer::Written;
+use shape::part;
+ghost use Prim.Native.Nat.{_≤_};
+
+// What a request to write a message comes to.
+pub enum Encoded {
+    IllFormed,
+    Answer(Written),
+}
+
+// A name, behind a space, and the equals sign.
+fn label(out: &mut [u8], at: usize, name: &[u8]) -> usize {
+    let a = put::byte(out, at, 32);
+    let b = put::bytes(out, a, name);
+    put::byte(out, b, 61)
+}
+
+// Internal. A refusal's number.
+pub fn refused(out: &mut [u8], at: usize, number: u32) -> usize {
+    put::decimal(out, at, number as u64)
+}
+
+// Internal. Success, and the numbers of a message under the first names.
+pub fn numbers(out: &mut [u8], at: usize, names: &[u8], values: &[u64]) -> usize {
+    let mut o = put::byte(out, at, 48);
+    let mut i = 0;
+    while i < values.len() {
+        let a = label(out, o, names::nth(names, i));
+        o = put::decimal(out, a, values[i]);
+        i += 1;
+    }
+    o
+}
+
+// Internal. A list under its name.
+pub fn list(out: &mut [u8], at: usize, name: &[u8], s: &[u8]) -> usize {
+    let a = label(out, at, name);
+    put::list(out, a, s)
+}
+
+// Internal. What was written, of which `message` has the bytes in front.
+pub fn written(out: &mut [u8], at: usize, e: Encoded, message: &[u8]) -> usize {
+    match e {
+        Encoded::IllFormed => put::ill_formed(out, at),
+        Encoded::Answer(w) => match w {
+            Written::Refused(n) => refused(out, at, n),
+            Written::Wrote(n) => {
+                let o = put::bytes(out, at, b"0 ");
+                put::list(out, o, part::within(message, 0, n))
+            }
+        },
+    }
+}
+
+// Internal. The length of the output buffer, at most 512.
+pub fn room(n: Number) -> usize
+    ensures { λ r. ⌜ r ≤ 512 ⌝ }
+{
+    match n {
+        Number::Is(v) => {
+            if v < 512 {
+                return v as usize;
+            }
+            512
+        }
+        _ => 512,
+    }
+}
+
+// Internal.
+pub fn is_none(n: Number) -> bool {
+    match n {
+        Number::Not => true,
+        _ => false,
+    }
+}

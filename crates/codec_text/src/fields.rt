@@ -1,0 +1,124 @@
+// The fields that a request gives: words of a name, an equals sign and a value, each behind a space.
+use super::hex;
+use super::hex::Length;
+use super::names;
+use super::names::Found;
+use super::number;
+use super::number::Number;
+use shape::answer::Place;
+use shape::part;
+ghost use Prim.Native.Nat.{_+_, _≤_};
+ghost use lib.ListN.{length};
+
+// Where the value of the first word of that name stands; at 0, where no value can, if there is no such word.
+fn find(words: &[u8], name: &[u8]) -> Place
+    ensures { λ r. ⌜ r .at + r .len ≤ length (now (words .entry)) ⌝ }
+{
+    let mut p = 0;
+    while p < words.len() {
+        let e = digits::find(words, p + 1, 32);
+        let q = digits::find(&words[0..e], p + 1, 61);
+        if q < e {
+            if check::same(&words[p + 1..q], name) {
+                return Place {
+                    at: q + 1,
+                    len: e - (q + 1),
+                };
+            }
+        }
+        p = e;
+    }
+    Place { at: 0, len: 0 }
+}
+
+// A number below 0 or of 2^64 and more counts as the largest, which a field of fewer bits does not take.
+fn number(values: &mut [u64], i: usize, s: &[u8]) -> bool {
+    if i < values.len() {
+        match number::read(s) {
+            Number::Is(v) => {
+                values[i] = v;
+                true
+            }
+            Number::Outside => {
+                values[i] = u64::MAX;
+                true
+            }
+            Number::Not => false,
+        }
+    } else {
+        false
+    }
+}
+
+// The i-th field, whose value s stands at `at`: a number as long as there are numbers, then a list, whose bytes go to the same place.
+fn value(values: &mut [u64], i: usize, s: &[u8], bytes: &mut [u8], at: usize) -> bool
+    requires { ⌜ at + length (now s) ≤ length (now bytes) ⌝ }
+{
+    if i < values.len() {
+        return number(values, i, s);
+    }
+    match hex::read(s, bytes, at) {
+        Length::Is(_) => true,
+        Length::Not => false,
+    }
+}
+
+// The word from `from` to `to`: a name of the type, the first time, and its value.
+fn word(
+    names: &[u8],
+    words: &[u8],
+    from: usize,
+    to: usize,
+    values: &mut [u64],
+    bytes: &mut [u8],
+) -> bool
+    requires { ⌜ (from ≤ to) × ((to ≤ length (now words)) × (length (now words) ≤ length (now bytes))) ⌝ }
+{
+    let w = &words[from..to];
+    let q = digits::find(w, 0, 61);
+    if q == w.len() {
+        return false;
+    }
+    let name = &w[0..q];
+    let first = find(words, name);
+    if first.at != from + q + 1 {
+        return false;
+    }
+    match names::find(names, name) {
+        Found::At(i) => value(values, i, &w[q + 1..], bytes, from + q + 1),
+        Found::Nothing => false,
+    }
+}
+
+// Internal. Reads every word: the numbers into `values`, in the order of the names, the lists into `bytes`, each where its digits stand in
+// the words. A field that is not named stays as it is. Whether all is well formed.
+pub fn read(names: &[u8], words: &[u8], values: &mut [u64], bytes: &mut [u8]) -> bool
+    requires { ⌜ length (now words) ≤ length (now bytes) ⌝ }
+{
+    let mut p = 0;
+    while p < words.len() {
+        let e = digits::find(words, p + 1, 32);
+        if !word(names, words, p + 1, e, values, bytes) {
+            return false;
+        }
+        p = e;
+    }
+    true
+}
+
+// Internal. The list of that name, of words that were read.
+pub fn list<'a>(words: &[u8], name: &[u8], bytes: &'a [u8]) -> &'a [u8] {
+    let p = find(words, name);
+    part::within(bytes, p.at, p.len / 2)
+}
+
+// Internal. Whether the number of that name is below 0 or of 2^64 and more, which a field of 64 bits has to ask.
+pub fn is_outside(words: &[u8], name: &[u8]) -> bool {
+    let p = find(words, name);
+    let at = p.at;
+    let end = p.at + p.len;
+    match number::read(&words[at..end]) {
+        Number::Outside => true,
+        _ => false,
+    }
+}

@@ -1,5 +1,0 @@
-mod StatusFacts
-mod AllocationFacts
-mod KeyValueFacts
-mod LogMessageFacts
-pub mod Trips

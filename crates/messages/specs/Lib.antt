@@ -1,6 +1,0 @@
-pub mod Status
-pub mod Allocation
-pub mod KeyValue
-pub mod LogMessage
-pub mod Laws
-pub mod Samples

@@ -1,4 +1,0 @@
-mod NameFacts
-mod ReadFacts
-mod WriteFacts
-mod Trips

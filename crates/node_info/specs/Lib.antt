@@ -1,4 +1,0 @@
-pub mod Name
-pub mod Request
-pub mod Response
-pub mod Laws

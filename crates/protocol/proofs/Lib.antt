@@ -1,0 +1,5 @@
+mod NodeStatusFacts
+mod NameFacts
+mod ResponseReadFacts
+mod ResponseWriteFacts
+mod Trips

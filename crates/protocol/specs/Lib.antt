@@ -1,0 +1,6 @@
+pub mod NodeStatus
+pub mod Name
+pub mod GetNodeInfoRequest
+pub mod GetNodeInfoResponse
+pub mod Laws
+pub mod Samples

@@ -1,0 +1,45 @@
+-- NodeStatus (01, Messages): uptime 32, health 2, mode 3, sub-mode 3, vendor code 16.
+use Prim.Native.Nat.{ℕ}
+use mathlib.Core.Bool.{Bool}
+use mathlib.Core.List.{List}
+use lib.ListN.{drop}
+use Rattle.bits.specs.Order.{fromBits}
+use Rattle.shape.specs.Answer.{Answer, refused, got, mapAnswer}
+use Rattle.shape.specs.Shape.{Shape, end, num, void, Values, decoded}
+use Rattle.protocol.specs.declared.node_status.NodeStatus.{NodeStatus}
+use Rattle.protocol.specs.declared.node_status.Read.{Read}
+use Rattle.protocol.specs.declared.node_status.Read.the-variants.{Refused, Got}
+
+-- a status, and what follows it; "sub-mode is read as zero and written as zero"
+abbrev pub statusThen : Shape → Shape
+statusThen d = num 32 (num 2 (num 3 (void 3 (num 16 d))))
+
+abbrev pub nodeStatus : Shape
+nodeStatus = statusThen end
+
+-- the struct's values, "any value given" for sub-mode
+abbrev pub statusValues : NodeStatus → (d : Shape) → Values d → Values (statusThen d)
+statusValues x d rest = (x .«uptime_sec», (x .health, (x .mode, (x .«vendor_specific_status_code», rest))))
+
+abbrev pub statusOf : (d : Shape) → Values (statusThen d) → NodeStatus
+statusOf d (uptime, (health, (mode, (vendor, rest)))) =
+    record { «uptime_sec» = uptime; health = health; mode = mode; «sub_mode» = 0; «vendor_specific_status_code» = vendor }
+
+abbrev pub answerOf : Read → Answer NodeStatus
+answerOf (Refused n) = refused n
+answerOf (Got x) = got x
+
+-- what a payload gives
+abbrev pub statusIn : List ℕ → Answer NodeStatus
+statusIn p = mapAnswer (statusOf end) (decoded nodeStatus p)
+
+-- the status at the front of bits
+unfoldable pub statusAt : List Bool → NodeStatus
+statusAt bs =
+    record {
+      «uptime_sec» = fromBits 32 bs;
+      health = fromBits 2 (drop 32 bs);
+      mode = fromBits 3 (drop 34 bs);
+      «sub_mode» = 0;
+      «vendor_specific_status_code» = fromBits 16 (drop 40 bs);
+    }

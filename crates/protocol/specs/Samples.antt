@@ -1,0 +1,38 @@
+-- Worked values, as facts of the definitions: the status of 01's log listing, and a response with a certificate and a name.
+-- `laws.rt` has a function whose contract they are.
+use mathlib.Core.Path.{_≡_}
+use mathlib.Core.List.{List, [], _∷_, _++_}
+use Prim.Native.Nat.{ℕ}
+use Rattle.shape.specs.Answer.{got}
+use Rattle.shape.specs.Shape.{Values, decoded, encoded}
+use Rattle.protocol.specs.NodeStatus.{nodeStatus}
+use Rattle.protocol.specs.GetNodeInfoResponse.{response}
+
+abbrev pub uniqueId : List ℕ
+uniqueId = 16 ∷ 17 ∷ 18 ∷ 19 ∷ 20 ∷ 21 ∷ 22 ∷ 23 ∷ 24 ∷ 25 ∷ 26 ∷ 27 ∷ 28 ∷ 29 ∷ 30 ∷ 31 ∷ []
+
+abbrev pub certificate : List ℕ
+certificate = 160 ∷ 161 ∷ 162 ∷ []
+
+-- "a.b"
+abbrev pub name : List ℕ
+name = 97 ∷ 46 ∷ 98 ∷ []
+
+-- numbers of several bytes stand low byte first; the certificate's length stands before it, the name has none
+abbrev pub responseBytes : List ℕ
+responseBytes =
+    -- uptime 258, health 1, mode 7, sub-mode 0, vendor code 515
+    2 ∷ 1 ∷ 0 ∷ 0 ∷ 120 ∷ 3 ∷ 2 ∷
+    -- software 1.2, flags 3, commit 0x04030201, image CRC 0x100
+    1 ∷ 2 ∷ 3 ∷ 1 ∷ 2 ∷ 3 ∷ 4 ∷ 0 ∷ 1 ∷ 0 ∷ 0 ∷ 0 ∷ 0 ∷ 0 ∷ 0 ∷
+    -- hardware 5.6
+    5 ∷ 6 ∷ (uniqueId ++ (3 ∷ (certificate ++ name)))
+
+abbrev pub responseValues : Values response
+responseValues = (258, (1, (7, (515, (1, (2, (3, (67305985, (256, (5, (6, (uniqueId, (certificate, name)))))))))))))
+
+pub record Samples : Type 0 where
+  -- 01 00 00 00 00 00 00: a second of uptime
+  pub status : decoded nodeStatus (1 ∷ 0 ∷ 0 ∷ 0 ∷ 0 ∷ 0 ∷ 0 ∷ []) ≡ got (1, (0, (0, (0, tt))))
+  pub response-read : decoded response responseBytes ≡ got responseValues
+  pub response-written : encoded response responseValues 47 ≡ got responseBytes

@@ -1,0 +1,6 @@
+// uavcan.protocol: NodeStatus (message 341) and GetNodeInfo (service 1).
+pub mod get_node_info_request;
+pub mod get_node_info_response;
+pub mod laws;
+mod name;
+pub mod node_status;

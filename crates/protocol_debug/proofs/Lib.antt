@@ -1,0 +1,3 @@
+mod KeyValueFacts
+mod LogMessageFacts
+mod Trips

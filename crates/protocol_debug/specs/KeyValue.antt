@@ -1,0 +1,27 @@
+-- KeyValue (01, Messages): float32 kept as its 32 bits, key list of at most 58.
+use Prim.Native.Nat.{ℕ}
+use mathlib.Core.List.{List}
+use lib.ListN.{length, drop}
+use Rattle.shape.specs.Answer.{Answer, refused, got, mapAnswer}
+use Rattle.shape.specs.Shape.{Shape, num, tail, Values, anything, decoded}
+use Rattle.protocol_debug.specs.declared.key_value.KeyValue.{KeyValue}
+use Rattle.protocol_debug.specs.declared.key_value.Read.{Read}
+use Rattle.protocol_debug.specs.declared.key_value.Read.the-variants.{Refused, Got}
+
+abbrev pub keyValue : Shape
+keyValue = num 32 (tail 8 58 anything)
+
+-- the key as a part of the payload
+abbrev pub keyIn : List ℕ → List ℕ
+keyIn p = drop 4 p
+
+abbrev pub keyValueOf : Values keyValue → KeyValue
+keyValueOf (value, key) = record { value = value; key = record { at = 4; len = length key } }
+
+abbrev pub answerOf : Read → Answer KeyValue
+answerOf (Refused n) = refused n
+answerOf (Got x) = got x
+
+-- what a payload gives
+abbrev pub keyValueIn : List ℕ → Answer KeyValue
+keyValueIn p = mapAnswer keyValueOf (decoded keyValue p)

@@ -1,0 +1,4 @@
+pub mod KeyValue
+pub mod LogMessage
+pub mod Laws
+pub mod Samples

@@ -1,0 +1,36 @@
+-- LogMessage (01, Messages): level 3, source list of at most 31, text list of at most 90.
+use Prim.Native.Nat.{ℕ, _+_}
+use mathlib.Core.List.{List}
+use lib.ListN.{length, take, drop}
+use Rattle.bits.specs.Order.{unpack, fromBits}
+use Rattle.bits.specs.Width.{widthOf}
+use Rattle.shape.specs.Answer.{Answer, refused, got, mapAnswer}
+use Rattle.shape.specs.Shape.{Shape, num, list, tail, Values, anything, decoded}
+use Rattle.protocol_debug.specs.declared.log_message.LogMessage.{LogMessage}
+use Rattle.protocol_debug.specs.declared.log_message.Read.{Read}
+use Rattle.protocol_debug.specs.declared.log_message.Read.the-variants.{Refused, Got}
+
+abbrev pub logMessage : Shape
+logMessage = num 3 (list 8 31 (tail 8 90 anything))
+
+-- source and text as parts of the payload
+unfoldable pub sourceLength : List ℕ → ℕ
+sourceLength p = fromBits (widthOf 31) (drop 3 (unpack p))
+
+abbrev pub sourceIn : List ℕ → List ℕ
+sourceIn p = take (sourceLength p) (drop 1 p)
+
+abbrev pub textIn : List ℕ → List ℕ
+textIn p = drop (1 + sourceLength p) p
+
+abbrev pub logMessageOf : Values logMessage → LogMessage
+logMessageOf (level, (source, text)) =
+    record { level = level; source = record { at = 1; len = length source }; text = record { at = 1 + length source; len = length text } }
+
+abbrev pub answerOf : Read → Answer LogMessage
+answerOf (Refused n) = refused n
+answerOf (Got x) = got x
+
+-- what a payload gives
+abbrev pub logMessageIn : List ℕ → Answer LogMessage
+logMessageIn p = mapAnswer logMessageOf (decoded logMessage p)

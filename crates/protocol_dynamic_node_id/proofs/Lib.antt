@@ -1,0 +1,2 @@
+mod AllocationFacts
+mod Trips

@@ -1,0 +1,14 @@
+-- The worked values, computed.
+use mathlib.Core.Path.{refl}
+use Rattle.bits.specs.Order.{digits, valueFrom, unpack, bytes, octets, toBits, number, fromBits}
+use Rattle.shape.specs.Answer.{refuseIf, mapAnswer}
+use Rattle.shape.specs.Shape.{itemBits, itemsOf, allBelow, encode, decode, fits, encoded}
+use Rattle.protocol_dynamic_node_id.proofs.laws.samples.Statement.{statement}
+use Rattle.protocol_dynamic_node_id.proofs.laws.samples.Tie as tie
+
+returns : tie.Need-returns
+unfolding encoded decode encode fits itemBits itemsOf allBelow refuseIf mapAnswer toBits fromBits octets number unpack bytes digits valueFrom
+returns c = record { first = refl; last = refl }
+
+pub samples-spec : {M : Type 1} → statement M
+samples-spec = tie.close (tie.spec returns)

@@ -1,0 +1,68 @@
+// Allocation (message 1; 01, Messages).
+use bits::field;
+use shape::answer::Place;
+use shape::answer::Written;
+use shape::part;
+ghost use mathlib.Core.Path.{_≡_};
+ghost use Rattle.shape.specs.Answer as answer;
+ghost use Rattle.shape.specs.Shape.{written};
+ghost use Rattle.protocol_dynamic_node_id.specs.Allocation.{allocation, uniqueIdIn, allocationIn, answerOf};
+
+pub struct Allocation {
+    pub node_id: u64,
+    pub first_part_of_unique_id: u64,
+    pub unique_id: Place,
+}
+
+pub enum Read {
+    Refused(u32),
+    Got(Allocation),
+}
+
+// The unique ID, as a part of the payload: all behind the first byte.
+pub fn unique_id(payload: &[u8]) -> &[u8]
+    ensures { λ r. ⌜ now r ≡ uniqueIdIn (now (payload .entry)) ⌝ }
+{
+    part::behind(payload, 1)
+}
+
+// Reads an allocation: 15 for a payload that ends too early, 16 for one that is too long.
+pub fn decode(payload: &[u8]) -> Read
+    ensures { λ r. ⌜ answerOf r ≡ allocationIn (now (payload .entry)) ⌝ }
+{
+    if payload.len() < 1 {
+        return Read::Refused(15);
+    }
+    let len = unique_id(payload).len();
+    if 16 < len {
+        return Read::Refused(16);
+    }
+    Read::Got(Allocation {
+        node_id: field::read(payload, 0, 7),
+        first_part_of_unique_id: field::read(payload, 7, 1),
+        unique_id: Place { at: 1, len },
+    })
+}
+
+// Writes an allocation to the front of `out`: 17 for what does not fit its field, then 8 for too little room.
+pub fn encode(
+    node_id: u64,
+    first_part_of_unique_id: u64,
+    unique_id: &[u8],
+    out: &mut [u8],
+) -> Written
+    ensures { λ r. ⌜ (answer.answerOf r, now (out .exit)) ≡ written allocation («node_id», («first_part_of_unique_id», now («unique_id» .entry))) (now (out .entry)) ⌝ }
+{
+    let fits = (node_id < 128) & (first_part_of_unique_id < 2) & (unique_id.len() <= 16);
+    if !fits {
+        return Written::Refused(17);
+    }
+    let n = 1 + unique_id.len();
+    if out.len() < n {
+        return Written::Refused(8);
+    }
+    field::write(out, 0, 7, node_id);
+    field::write(out, 7, 1, first_part_of_unique_id);
+    field::write_bytes(out, 1, unique_id);
+    Written::Wrote(n)
+}
