@@ -1,6 +1,6 @@
-/* Receives the dynamic node ID allocation that docs/RULES.md prints as a log (15.3): a node without an ID asks in three anonymous messages, and the
- * allocator, node 1, answers each. Its second and third answer take several frames and a checksum. The receiver is set up as node 1:
- * it hears both sides, since a message is for everyone, its sender included.
+/* Receives the dynamic node ID allocation that docs/RULES.md prints as a log (15.3): a node without an ID asks in three anonymous
+ * messages, and the allocator, node 1, answers each. Its second and third answer take several frames and a checksum. The receiver is set
+ * up as node 1: it hears both sides, since a message is for everyone, its sender included.
  *
  *     gcc -std=c99 -Iinclude -o receive examples/receive.c target/staticlib/libtecelume.a && ./receive
  *
