@@ -7,7 +7,7 @@
  *
  * The rows leave out: services, anonymous frames, refused and repeated frames, new and old sessions (every stream has one from the
  * first round on), the driver and the decoding of messages. What the baseline does not do at all is said in baseline.h; above all it
- * has no check of its own state (20), which the last rows show alone: a frame that is refused right behind that check, by its ID. */
+ * has no check of its own state (20), which the last rows show alone: a frame that is refused right after that check, by its ID. */
 #include <stdbool.h>
 #include <stdio.h>
 

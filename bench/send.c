@@ -6,7 +6,7 @@
  *
  * The rows leave out: services, anonymous messages, refused calls, new entries, the driver and the encoding of messages. What the
  * baseline does not do is said in baseline.h; above all it has no check of its own table (20), which the last rows show alone: a call
- * that is refused right behind that check, by its own ID (14). A goal is what the ratio should not pass; it is not enforced here, since
+ * that is refused right after that check, by its own ID (14). A goal is what the ratio should not pass; it is not enforced here, since
  * figures of one run vary. */
 #include <stdbool.h>
 #include <stdio.h>

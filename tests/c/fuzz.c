@@ -59,7 +59,7 @@ static void damage(struct buffer *b)
         b->bytes[below(front) % b->length] = (uint8_t)(once_in(2) ? next_random() : below(40));
 }
 
-/* ---- the players: one receiver, one sender that stands for all nodes, and the frames on their way ---- */
+/* ---- the players: one receiver, one sender in place of all nodes, and the frames on their way ---- */
 
 static struct call receiver, sender;
 static uint64_t now;
