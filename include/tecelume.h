@@ -87,8 +87,8 @@ uint32_t tecelume_version(void);
  *       earlier frame was missed; the rest of a transfer that 11 dropped         nodes have the same ID
  *  11   receive: payload over 512 bytes; the transfer is dropped                 nothing: too long for this library
  *       send: payload over 512 bytes                                             send less
- *  12   receive: the checksum differs; the transfer is dropped                   nothing; if always for one type, its signature
- *                                                                                is wrong
+ *  12   receive: the checksum differs; the transfer is dropped                   nothing; if always for one type, correct its
+ *                                                                                signature
  *  13   setup: own ID or subscriptions not allowed                               correct the arguments
  *  14   send: a value out of range, or an anonymous transfer that cannot be      correct the arguments
  *  20   setup: state or map too short                                            lend more
@@ -245,7 +245,7 @@ uint64_t tecelume_receive_word(uint8_t *state, size_t state_len, uint32_t id, co
  *                 them from others. From SocketCAN: can_id & CAN_EFF_MASK of the frames in which, of CAN_EFF_FLAG, CAN_RTR_FLAG and
  *                 CAN_ERR_FLAG, only CAN_EFF_FLAG is set
  *          frame  the data bytes, the tail byte last
- *          time   when the frame came
+ *          time   when the frame came, in microseconds: see above
  *          out    at least TECELUME_OUTPUT_SIZE bytes at every frame, as each may complete a transfer
  * Gives    a result, to be read by the functions above and below.
  *          1: the payload is at the front of out, bytes after it stay. The result also says whose it is.
@@ -339,7 +339,7 @@ uint64_t tecelume_send_word(uint8_t *map, size_t map_len, uint32_t own, uint32_t
  *          priority       0, the highest, to 31
  *          payload        at most TECELUME_PAYLOAD_MAX bytes
  *          signature      of the data type, in the checksum of a payload over 7 bytes. Not 0 from tecelume_signature: see there
- *          time           now
+ *          time           now, in microseconds: see above
  *          transfer_id    of a response: that of its request, 0 to 31. Elsewhere ignored, as the map counts
  *          discriminator  of an anonymous message: any number of 14 bits, a random one is best. Elsewhere ignored
  *          out            at least TECELUME_SEND_SIZE(payload_len) bytes
