@@ -177,7 +177,7 @@ static struct baseline_stream *stream_of(struct baseline *r, struct part *p)
     return s;
 }
 
-/* Whether the frame is the one that the stream waits for, after a restart where 002 asks for one. */
+/* Whether the frame is the one that the stream waits for, after a restart where the transport asks for one (RULES 4.5). */
 static bool expected(struct baseline *r, struct baseline_stream *s, const struct part *p)
 {
     bool old = p->time - s->time > TIMEOUT;

@@ -1,5 +1,5 @@
 /* A plain C receiver and sender of UAVCAN v0 transfers, the opponents of bench/receive.c and bench/send.c. They are written from the
- * published transport (002) and built as the stacks of the field are.
+ * published transport (RULES 2 to 8) and built as the stacks of the field are.
  *
  * The receiver has one static pool of 32-byte blocks, linked by number, from which come a list of streams and, for each, a list of
  * chunks that gather its payload and is walked at each frame; a table checksum that runs along with the frames; a callback that says

@@ -7,7 +7,7 @@
  *
  * The rows leave out: services, anonymous frames, refused and repeated frames, new and old sessions (every stream has one from the
  * first round on), the driver and the decoding of messages. What the baseline does not do at all is said in baseline.h; above all it
- * has no check of its own state (20), which the last rows show alone: a frame that is refused right behind that check, by its ID. */
+ * has no check of its own state (20), which the last rows show alone: a frame that is refused right after that check, by its ID. */
 #include <stdbool.h>
 #include <stdio.h>
 
@@ -70,7 +70,7 @@ static bool tecelume_begin(void)
 /* The length of the payload handed out, -1 if the frame hands out none. */
 static int tecelume_feed(const struct frame *f, uint64_t time)
 {
-    uint64_t result = tecelume_receive(state, sizeof state, f->id, f->data, f->length, time, out, sizeof out);
+    tecelume_result result = tecelume_receive(state, sizeof state, f->id, f->data, f->length, time, out, sizeof out);
     return tecelume_number(result) == TECELUME_HANDED_OUT ? (int)tecelume_length(result) : -1;
 }
 
@@ -186,7 +186,7 @@ static bool measure(const struct row *row, double best[SIDES])
     return right;
 }
 
-/* A frame that is refused by its ID (2), behind the check of the state, with one session in use for each source of the row. */
+/* A frame that is refused by its ID (2), after the check of the state, with one session in use for each source of the row. */
 static bool measure_check(double *best)
 {
     const uint8_t tail = 0xC0;
@@ -197,7 +197,7 @@ static bool measure_check(double *best)
     for (int round = 0; round < ROUNDS; round++) {
         double from = nanoseconds();
         for (int i = 0; i < REFUSED; i++)
-            right &= tecelume_receive(state, sizeof state, 1u << 29, &tail, 1, 0, out, sizeof out) == TECELUME_ID_TOO_LARGE;
+            right &= tecelume_number(tecelume_receive(state, sizeof state, 1u << 29, &tail, 1, 0, out, sizeof out)) == TECELUME_ID_TOO_LARGE;
         double took = (nanoseconds() - from) / REFUSED;
         if (took < *best)
             *best = took;

@@ -6,7 +6,7 @@
  *
  * The rows leave out: services, anonymous messages, refused calls, new entries, the driver and the encoding of messages. What the
  * baseline does not do is said in baseline.h; above all it has no check of its own table (20), which the last rows show alone: a call
- * that is refused right behind that check, by its own ID (14). A goal is what the ratio should not pass; it is not enforced here, since
+ * that is refused right after that check, by its own ID (14). A goal is what the ratio should not pass; it is not enforced here, since
  * figures of one run vary. */
 #include <stdbool.h>
 #include <stdio.h>
@@ -32,7 +32,7 @@ static const struct type *const type = &types[LOG_MESSAGE];
 static uint64_t signature;
 
 static uint8_t payloads[32][TECELUME_PAYLOAD_MAX];
-static uint8_t out[TECELUME_FRAMES_MAX * TECELUME_RECORD_SIZE];
+static uint8_t out[TECELUME_SEND_SIZE(TECELUME_PAYLOAD_MAX)];
 
 static void make_payloads(void)
 {
@@ -52,8 +52,8 @@ static bool tecelume_begin(void)
 
 static inline size_t tecelume_put(uint32_t type_id, unsigned turn, size_t length, uint64_t time)
 {
-    uint64_t result = tecelume_send(map, sizeof map, OWN, TECELUME_MESSAGE, type_id, 0, FRAME_PRIORITY, payloads[turn % 32], length,
-                                    signature, time, 0, 0, out, sizeof out);
+    tecelume_result result = tecelume_send(map, sizeof map, OWN, TECELUME_MESSAGE, type_id, 0, FRAME_PRIORITY, payloads[turn % 32],
+                                           length, signature, time, 0, 0, out, sizeof out);
     return tecelume_frames(result);
 }
 
@@ -143,7 +143,7 @@ static bool is_right(const struct side *side, const struct row *row)
 /* The best time of a transfer for each side; false if a round did not write all. */
 static bool measure(const struct row *row, double best[SIDES])
 {
-    size_t records = TURNS * (row->length > 7 ? (row->length + 8) / 7 : 1);
+    size_t records = TURNS * (TECELUME_SEND_SIZE(row->length) / TECELUME_RECORD_SIZE);
     bool right = true;
     for (int k = 0; k < SIDES; k++) {
         right &= fill(&sides[k], row->entries - 1);
@@ -179,7 +179,7 @@ static bool show_row(const struct row *row)
     return right;
 }
 
-/* A call that is refused by its own ID, behind the check of the map. */
+/* A call that is refused by its own ID, after the check of the map. */
 static bool show_check(unsigned entries)
 {
     double best = 1e9;
@@ -187,8 +187,8 @@ static bool show_check(unsigned entries)
     for (int round = 0; round < ROUNDS; round++) {
         double from = nanoseconds();
         for (int i = 0; i < REFUSED; i++)
-            right &= tecelume_send(map, sizeof map, 128, TECELUME_MESSAGE, 0, 0, 0, NULL, 0, 0, 0, 0, 0, out, sizeof out) ==
-                     TECELUME_NOT_SENDABLE;
+            right &= tecelume_number(tecelume_send(map, sizeof map, 128, TECELUME_MESSAGE, 0, 0, 0, NULL, 0, 0, 0, 0, 0, out,
+                                                   sizeof out)) == TECELUME_NOT_SENDABLE;
         double took = (nanoseconds() - from) / REFUSED;
         if (took < best)
             best = took;

@@ -1,11 +1,12 @@
-/* Receives the dynamic node ID allocation that 003 prints as a log: a node without an ID asks in three anonymous messages, and the
- * allocator, node 1, answers each. Its second and third answer take several frames and a checksum. The receiver is set up as node 1:
- * it hears both sides, since a message is for everyone, its sender included.
+/* Receives the dynamic node ID allocation that docs/RULES.md prints as a log (15.3): a node without an ID asks in three anonymous
+ * messages, and the allocator, node 1, answers each. Its second and third answer take several frames and a checksum. The receiver is set
+ * up as node 1: it hears both sides, since a message is for everyone, its sender included.
  *
  *     gcc -std=c99 -Iinclude -o receive examples/receive.c target/staticlib/libtecelume.a && ./receive
  *
  * receive.expected holds what this prints. */
 #include <stdio.h>
+#include <stdlib.h>
 
 #include "tecelume.h"
 
@@ -35,10 +36,16 @@ enum { FRAMES = sizeof frames / sizeof frames[0], TYPES = 5, OWN_ID = 1 };
 static uint8_t state[TECELUME_RECEIVER_SIZE];
 static uint8_t payload[TECELUME_OUTPUT_SIZE];
 
-/* A transfer is checked under the signature of its type, so a subscription names both. */
+/* A transfer is checked under the signature of its type, so a subscription names both. With the 0 of a type that is not known, setup
+ * would succeed and each transfer of several frames fail. */
 static uint8_t *subscribe(uint8_t *record, uint32_t kind, uint32_t type_id)
 {
-    return tecelume_subscription(record, kind, type_id, tecelume_signature(kind, type_id));
+    uint64_t signature = tecelume_signature(kind, type_id);
+    if (signature == 0) {
+        fprintf(stderr, "no signature of type %u\n", (unsigned)type_id);
+        exit(1);
+    }
+    return tecelume_subscription(record, kind, type_id, signature);
 }
 
 static uint32_t setup(void)
@@ -66,7 +73,7 @@ static void print_frame(const struct frame *f)
     print_bytes(f->data, f->length);
 }
 
-static void print_transfer(uint64_t result)
+static void print_transfer(tecelume_result result)
 {
     static const char *const types[] = {"message", "request", "response"};
     printf("    %s %u from %u to %u, priority %u, transfer ID %u, %u bytes:", types[tecelume_transfer_type(result)],
@@ -78,7 +85,7 @@ static void print_transfer(uint64_t result)
 static void receive(const struct frame *f)
 {
     uint64_t microseconds = (uint64_t)f->milliseconds * 1000;
-    uint64_t result = tecelume_receive(state, sizeof state, f->id, f->data, f->length, microseconds, payload, sizeof payload);
+    tecelume_result result = tecelume_receive(state, sizeof state, f->id, f->data, f->length, microseconds, payload, sizeof payload);
     uint32_t number = tecelume_number(result);
     print_frame(f);
     printf("    %u, %s\n", (unsigned)number, tecelume_text(number));
@@ -88,9 +95,8 @@ static void receive(const struct frame *f)
 
 int main(void)
 {
-    /* a header and an archive of different versions would not agree on the state */
-    if (tecelume_receiver_size() != TECELUME_RECEIVER_SIZE) {
-        fprintf(stderr, "header and archive do not go together\n");
+    if (tecelume_version() != TECELUME_VERSION) {
+        fprintf(stderr, "header and library do not go together\n");
         return 1;
     }
     uint32_t number = setup();

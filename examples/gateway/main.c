@@ -89,8 +89,8 @@ int main(int count, char **words)
     owner.told = tell;
     owner.sent = send_frame;
     owner.self = NULL;
-    if (tecelume_receiver_size() != TECELUME_RECEIVER_SIZE || tecelume_map_size() != TECELUME_MAP_SIZE) {
-        fprintf(stderr, "header and archive do not go together\n");
+    if (tecelume_version() != TECELUME_VERSION) {
+        fprintf(stderr, "header and library do not go together\n");
         return 1;
     }
     uint32_t number = node_setup(&node, OWN_ID, &owner);

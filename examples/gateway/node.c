@@ -25,8 +25,12 @@ static uint32_t setup_receiver(struct node *n)
 {
     uint8_t list[2 * TECELUME_SUBSCRIPTION_SIZE];
     uint8_t *next = list;
-    next = tecelume_subscription(next, TECELUME_KIND_MESSAGE, NODE_STATUS, tecelume_signature(TECELUME_KIND_MESSAGE, NODE_STATUS));
-    next = tecelume_subscription(next, TECELUME_KIND_SERVICE, GET_NODE_INFO, tecelume_signature(TECELUME_KIND_SERVICE, GET_NODE_INFO));
+    uint64_t status = tecelume_signature(TECELUME_KIND_MESSAGE, NODE_STATUS);
+    uint64_t info = tecelume_signature(TECELUME_KIND_SERVICE, GET_NODE_INFO);
+    if (status == 0 || info == 0)
+        return TECELUME_SETUP_REFUSED; /* tecelume_setup would take them, and transfers of several frames would fail */
+    next = tecelume_subscription(next, TECELUME_KIND_MESSAGE, NODE_STATUS, status);
+    next = tecelume_subscription(next, TECELUME_KIND_SERVICE, GET_NODE_INFO, info);
     return tecelume_setup(n->state, sizeof n->state, n->own, list, (size_t)(next - list));
 }
 
@@ -69,23 +73,23 @@ static void send_records(struct node *n, size_t count, uint64_t time)
 }
 
 /* A response goes to whom the request came from, with the request's transfer ID and priority. */
-static void answer(struct node *n, uint64_t request, uint64_t time)
+static void answer(struct node *n, tecelume_result request, uint64_t time)
 {
     uint8_t info[sizeof node_info];
     uint64_t seconds = time / 1000000;
     memcpy(info, node_info, sizeof info);
     for (int i = 0; i < 4; i++)
         info[i] = (uint8_t)(seconds >> (8 * i) & 255);
-    uint64_t result = tecelume_send(n->map, sizeof n->map, n->own, TECELUME_RESPONSE, GET_NODE_INFO, tecelume_source(request),
-                                    tecelume_priority(request), info, sizeof info,
-                                    tecelume_signature(TECELUME_KIND_SERVICE, GET_NODE_INFO), time, tecelume_transfer_id(request), 0,
-                                    n->records, sizeof n->records);
+    tecelume_result result = tecelume_send(n->map, sizeof n->map, n->own, TECELUME_RESPONSE, GET_NODE_INFO, tecelume_source(request),
+                                           tecelume_priority(request), info, sizeof info,
+                                           tecelume_signature(TECELUME_KIND_SERVICE, GET_NODE_INFO), time, tecelume_transfer_id(request),
+                                           0, n->records, sizeof n->records);
     if (tecelume_number(result) != TECELUME_SUCCESS)
         n->refused++;
     send_records(n, tecelume_frames(result), time);
 }
 
-static void take(struct node *n, uint64_t transfer, uint64_t time)
+static void take(struct node *n, tecelume_result transfer, uint64_t time)
 {
     if (tecelume_transfer_type(transfer) == TECELUME_MESSAGE)
         tell(n, tecelume_source(transfer), tecelume_length(transfer));
@@ -97,7 +101,7 @@ static void take(struct node *n, uint64_t transfer, uint64_t time)
 
 void node_receive(struct node *n, const struct frame *f)
 {
-    uint64_t result = tecelume_receive(n->state, sizeof n->state, f->id, f->data, f->length, f->time, n->payload, sizeof n->payload);
+    tecelume_result result = tecelume_receive(n->state, sizeof n->state, f->id, f->data, f->length, f->time, n->payload, sizeof n->payload);
     uint32_t number = tecelume_number(result);
     n->answers[number]++;
     if (number == TECELUME_HANDED_OUT)

@@ -38,10 +38,10 @@ struct node {
     uint8_t state[TECELUME_RECEIVER_SIZE];
     uint8_t map[TECELUME_MAP_SIZE];
     uint8_t payload[TECELUME_OUTPUT_SIZE];
-    uint8_t records[TECELUME_FRAMES_MAX * TECELUME_RECORD_SIZE];
+    uint8_t records[TECELUME_SEND_SIZE(TECELUME_PAYLOAD_MAX)];
 };
 
-/* The number of setup: 0, or 13 if the own ID is over 127. */
+/* The number of setup: 0, or 13 if the own ID is over 127 or the library does not know the two types. */
 uint32_t node_setup(struct node *n, uint32_t own, const struct owner *owner);
 
 /* Takes one frame of the bus. */

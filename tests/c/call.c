@@ -51,23 +51,26 @@ void fail(const struct call *c, const char *what)
     exit(1);
 }
 
-static uint64_t make(const struct call *c, const struct lent *state, const struct lent *input, const struct lent *out)
+static tecelume_result make(const struct call *c, const struct lent *state, const struct lent *input, const struct lent *out)
 {
+    tecelume_result number;
     switch (c->entry) {
     case SETUP:
-        return tecelume_setup(state->bytes, state->length, c->own, input->bytes, input->length);
+        number.word = tecelume_setup(state->bytes, state->length, c->own, input->bytes, input->length);
+        return number;
     case RECEIVE:
         return tecelume_receive(state->bytes, state->length, c->id, input->bytes, input->length, c->time, out->bytes, out->length);
     case MAP_SETUP:
-        return tecelume_map_setup(state->bytes, state->length);
+        number.word = tecelume_map_setup(state->bytes, state->length);
+        return number;
     default:
         return tecelume_send(state->bytes, state->length, c->own, c->transfer_type, c->type_id, c->destination, c->priority, input->bytes,
                              input->length, c->signature, c->time, c->transfer_id, c->discriminator, out->bytes, out->length);
     }
 }
 
-/* Makes the call on buffers placed at random, and gives its word; the buffers of `after` get what it left. */
-static uint64_t make_placed(const struct call *c, struct call *after)
+/* Makes the call on buffers placed at random; the buffers of `after` get what it left. */
+static tecelume_result make_placed(const struct call *c, struct call *after)
 {
     static uint8_t input_after[LENT_MAX];
     uint64_t choice = next_random();
@@ -75,7 +78,7 @@ static uint64_t make_placed(const struct call *c, struct call *after)
     struct lent input = lend((enum placement)(choice / PLACEMENTS % PLACEMENTS), c->input.bytes, c->input.length, choice >> 16 & 255);
     struct lent out = lend((enum placement)(choice / (PLACEMENTS * PLACEMENTS) % PLACEMENTS), c->out.bytes, c->out.length,
                            choice >> 24 & 255);
-    uint64_t word = make(c, &state, &input, &out);
+    tecelume_result result = make(c, &state, &input, &out);
     if (!guards_stay(&state) || !guards_stay(&input) || !guards_stay(&out))
         fail(c, "bytes beside a lent buffer were written");
     take_back(&state, after->state.bytes);
@@ -83,7 +86,7 @@ static uint64_t make_placed(const struct call *c, struct call *after)
     take_back(&out, after->out.bytes);
     if (memcmp(input_after, c->input.bytes, c->input.length) != 0)
         fail(c, "a const input was written");
-    return word;
+    return result;
 }
 
 /* ---- the contract ---- */
@@ -93,19 +96,28 @@ static bool stays(const struct buffer *before, const struct buffer *after, size_
     return from >= before->length || memcmp(before->bytes + from, after->bytes + from, before->length - from) == 0;
 }
 
-size_t frames_of(size_t payload)
+/* How much of the output a call with this result may write. */
+static size_t written(const struct call *c, tecelume_result result)
 {
-    return payload > 7 ? (payload + 8) / 7 : 1;
+    if (c->entry == RECEIVE && tecelume_number(result) == TECELUME_HANDED_OUT)
+        return tecelume_length(result);
+    if (c->entry == SEND && tecelume_number(result) == TECELUME_SUCCESS)
+        return tecelume_frames(result) * TECELUME_RECORD_SIZE;
+    return 0;
 }
 
-/* How much of the output a call with this word may write. */
-static size_t written(const struct call *c, uint64_t word)
+/* Whether the word of a send has its frames and the transfer ID of each frame's tail byte, and nothing else. */
+static bool tells_frames(const struct call *c, const struct call *after, tecelume_result result)
 {
-    if (c->entry == RECEIVE && tecelume_number(word) == TECELUME_HANDED_OUT)
-        return tecelume_length(word);
-    if (c->entry == SEND && tecelume_number(word) == TECELUME_SUCCESS)
-        return tecelume_frames(word) * TECELUME_RECORD_SIZE;
-    return 0;
+    uint64_t transfer_id = tecelume_transfer_id(result);
+    if (written(c, result) != TECELUME_SEND_SIZE(c->input.length) || result.word != (tecelume_frames(result) << 8 | transfer_id << 55))
+        return false;
+    for (size_t i = 0; i < tecelume_frames(result); i++) {
+        const uint8_t *record = after->out.bytes + i * TECELUME_RECORD_SIZE;
+        if ((tecelume_record_data(record)[tecelume_record_length(record) - 1] & 31) != transfer_id)
+            return false;
+    }
+    return true;
 }
 
 static bool may_change_state(enum entry entry, uint32_t number)
@@ -122,43 +134,43 @@ static const uint32_t answers[ENTRIES] = {
     1u << 0 | 1u << 8 | 1u << 9 | 1u << 11 | 1u << 14 | 1u << 20,
 };
 
-static void judge(const struct call *c, const struct call *after, uint64_t word)
+static void judge(const struct call *c, const struct call *after, tecelume_result result)
 {
-    uint32_t number = tecelume_number(word);
+    uint32_t number = tecelume_number(result);
     bool detailed = (c->entry == RECEIVE && number == TECELUME_HANDED_OUT) || (c->entry == SEND && number == TECELUME_SUCCESS);
     size_t size = c->entry == SETUP || c->entry == RECEIVE ? TECELUME_RECEIVER_SIZE : TECELUME_MAP_SIZE;
     if (number > 31 || (answers[c->entry] >> number & 1) == 0)
         fail(c, "a number that this call does not answer");
-    if (!detailed && word != number)
+    if (!detailed && result.word != number)
         fail(c, "other bits of the word are not 0");
     if (c->state.length < size && number != TECELUME_STATE_FAULT)
         fail(c, "a state that is too short was accepted");
-    if (written(c, word) > c->out.length)
+    if (written(c, result) > c->out.length)
         fail(c, "more was written than was lent");
     if (c->entry == RECEIVE && detailed &&
-        (c->out.length < TECELUME_OUTPUT_SIZE || tecelume_length(word) > TECELUME_PAYLOAD_MAX || word >> 60 != 0))
+        (c->out.length < TECELUME_OUTPUT_SIZE || tecelume_length(result) > TECELUME_PAYLOAD_MAX || result.word >> 60 != 0))
         fail(c, "a transfer that cannot be");
-    if (c->entry == SEND && detailed && word != (uint64_t)frames_of(c->input.length) << 8)
-        fail(c, "a number of frames that cannot be");
+    if (c->entry == SEND && detailed && !tells_frames(c, after, result))
+        fail(c, "a result that does not tell the frames");
     if (!stays(&c->state, &after->state, may_change_state(c->entry, number) ? size : 0))
         fail(c, "bytes of the state that must stay were written");
-    if (!stays(&c->out, &after->out, written(c, word)))
+    if (!stays(&c->out, &after->out, written(c, result)))
         fail(c, "bytes of the output that must stay were written");
     seen[c->entry][number]++;
 }
 
-uint64_t run(struct call *c)
+tecelume_result run(struct call *c)
 {
     static struct call once, again;
     calls++;
-    uint64_t word = make_placed(c, &once);
-    if (make_placed(c, &again) != word || memcmp(once.state.bytes, again.state.bytes, c->state.length) != 0 ||
+    tecelume_result result = make_placed(c, &once);
+    if (make_placed(c, &again).word != result.word || memcmp(once.state.bytes, again.state.bytes, c->state.length) != 0 ||
         memcmp(once.out.bytes, again.out.bytes, c->out.length) != 0)
         fail(c, "the same call twice differs");
-    judge(c, &once, word);
+    judge(c, &once, result);
     memcpy(c->state.bytes, once.state.bytes, c->state.length);
     memcpy(c->out.bytes, once.out.bytes, c->out.length);
-    return word;
+    return result;
 }
 
 uint64_t calls_made(void)

@@ -31,14 +31,11 @@ struct call {
     struct buffer state, input, out;
 };
 
-/* Makes the call twice and checks it; the buffers then hold what it left. */
-uint64_t run(struct call *c);
+/* Makes the call twice and checks it; the buffers then hold what it left. A setup's number is the whole result. */
+tecelume_result run(struct call *c);
 
 /* Says what is wrong with the call and ends the program. */
 void fail(const struct call *c, const char *what);
-
-/* The frames of a payload. */
-size_t frames_of(size_t payload);
 
 uint64_t calls_made(void);
 

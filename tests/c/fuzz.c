@@ -20,6 +20,7 @@
 
 enum { CALLS = 400000, SHORT = 100000 }; /* fewer calls than that need not show every answer, and sweep fewer lengths */
 enum { STATE_EXTRA = 40, INPUT_MAX = 1000, OUT_MAX = 1100, FRAME_LENGTH_MAX = 20, PAYLOAD_MAX = 600, SUBSCRIPTIONS = 8 };
+enum { RECORDS_MAX = TECELUME_SEND_SIZE(TECELUME_PAYLOAD_MAX) };
 
 static uint64_t seed = 1;
 static uint64_t through; /* transfers sent, received and compared */
@@ -58,7 +59,7 @@ static void damage(struct buffer *b)
         b->bytes[below(front) % b->length] = (uint8_t)(once_in(2) ? next_random() : below(40));
 }
 
-/* ---- the players: one receiver, one sender that stands for all nodes, and the frames on their way ---- */
+/* ---- the players: one receiver, one sender in place of all nodes, and the frames on their way ---- */
 
 static struct call receiver, sender;
 static uint64_t now;
@@ -110,7 +111,7 @@ static void setup_receiver(void)
     receiver.state.length = state_length(TECELUME_RECEIVER_SIZE);
     fill(receiver.state.bytes, receiver.state.length);
     none_whole();
-    if (run(&receiver) != TECELUME_SUCCESS)
+    if (tecelume_number(run(&receiver)) != TECELUME_SUCCESS)
         receiver.state.length = 0; /* set up again at the next step */
 }
 
@@ -157,7 +158,7 @@ static void choose_transfer(const struct lane *lane)
     sender.time = now;
     sender.input.length = sender.own == 0 ? below(9) : payload_length();
     fill(sender.input.bytes, sender.input.length);
-    size_t needed = TECELUME_RECORD_SIZE * frames_of(sender.input.length);
+    size_t needed = TECELUME_SEND_SIZE(sender.input.length);
     sender.out.length = once_in(10) ? below((uint32_t)needed) : needed + (once_in(2) ? below(30) : 0);
     fill(sender.out.bytes, sender.out.length);
 }
@@ -190,9 +191,9 @@ static void send_transfer(struct lane *lane)
         if (once_in(4))
             sender.state.length = below(TECELUME_MAP_SIZE);
     }
-    uint64_t word = run(&sender);
-    if (tecelume_number(word) == TECELUME_SUCCESS)
-        put_on_lane(lane, tecelume_frames(word));
+    tecelume_result sent = run(&sender);
+    if (tecelume_number(sent) == TECELUME_SUCCESS)
+        put_on_lane(lane, tecelume_frames(sent));
     if (at_fault)
         sender.state = good;
 }
@@ -259,8 +260,8 @@ static void receive_damaged(void)
     damage(&receiver.state);
     if (once_in(4))
         receiver.state.length = below(TECELUME_RECEIVER_SIZE);
-    uint64_t word = run(&receiver);
-    if (tecelume_number(word) == TECELUME_STATE_FAULT || !once_in(100)) {
+    uint32_t number = tecelume_number(run(&receiver));
+    if (number == TECELUME_STATE_FAULT || !once_in(100)) {
         receiver.state = good;
         return;
     }
@@ -269,13 +270,13 @@ static void receive_damaged(void)
 }
 
 /* The last frame of a transfer of which all others were taken: it may be refused or come too late, else it hands out what was sent. */
-static void judge_last(const struct lane *lane, uint64_t word)
+static void judge_last(const struct lane *lane, tecelume_result result)
 {
-    uint32_t number = tecelume_number(word);
+    uint32_t number = tecelume_number(result);
     if (number == TECELUME_TAKEN || number == TECELUME_PAYLOAD_TOO_LONG || number == TECELUME_CHECKSUM_DIFFERS)
         fail(&receiver, "a transfer sent correctly did not come through");
     if (number == TECELUME_HANDED_OUT &&
-        (tecelume_length(word) != lane->length || memcmp(receiver.out.bytes, lane->payload, lane->length) != 0))
+        (tecelume_length(result) != lane->length || memcmp(receiver.out.bytes, lane->payload, lane->length) != 0))
         fail(&receiver, "the payload handed out is not the one sent");
     through += number == TECELUME_HANDED_OUT;
 }
@@ -286,14 +287,14 @@ static void receive_frame(struct lane *lane)
     lend_frame(&f);
     if (once_in(20))
         receive_damaged();
-    uint64_t word = run(&receiver);
-    if (word == TECELUME_OUTPUT_TOO_SMALL) { /* the same frame may be given again */
+    tecelume_result result = run(&receiver);
+    if (tecelume_number(result) == TECELUME_OUTPUT_TOO_SMALL) { /* the same frame may be given again */
         receiver.out.length = TECELUME_OUTPUT_SIZE;
-        word = run(&receiver);
+        result = run(&receiver);
     }
     if (lane->whole && lane->next == lane->count)
-        judge_last(lane, word);
-    lane->whole &= word == TECELUME_TAKEN;
+        judge_last(lane, result);
+    lane->whole &= tecelume_number(result) == TECELUME_TAKEN;
 }
 
 /* A frame with more or fewer bytes than a frame has, or of no lane. */
@@ -385,24 +386,24 @@ static bool goes_through(uint8_t *map, uint8_t *state, uint8_t *records, uint8_t
 {
     static const uint8_t payload[] = "a payload of several frames";
     uint8_t list[TECELUME_SUBSCRIPTION_SIZE];
-    uint64_t word = 0;
+    tecelume_result last = {0};
     tecelume_subscription(list, TECELUME_KIND_MESSAGE, 1, signature_of(0, 1));
     if (tecelume_map_setup(map, TECELUME_MAP_SIZE) != 0 || tecelume_setup(state, TECELUME_RECEIVER_SIZE, 1, list, sizeof list) != 0)
         return false;
-    uint64_t sent = tecelume_send(map, TECELUME_MAP_SIZE, 2, TECELUME_MESSAGE, 1, 0, 0, payload, sizeof payload, signature_of(0, 1), 0, 0,
-                                  0, records, TECELUME_FRAMES_MAX * TECELUME_RECORD_SIZE);
+    tecelume_result sent = tecelume_send(map, TECELUME_MAP_SIZE, 2, TECELUME_MESSAGE, 1, 0, 0, payload, sizeof payload, signature_of(0, 1),
+                                         0, 0, 0, records, RECORDS_MAX);
     for (size_t i = 0; i < tecelume_frames(sent); i++) {
         const uint8_t *record = records + i * TECELUME_RECORD_SIZE;
-        word = tecelume_receive(state, TECELUME_RECEIVER_SIZE, tecelume_record_id(record), tecelume_record_data(record),
+        last = tecelume_receive(state, TECELUME_RECEIVER_SIZE, tecelume_record_id(record), tecelume_record_data(record),
                                 tecelume_record_length(record), 0, out, TECELUME_OUTPUT_SIZE);
     }
-    return tecelume_length(word) == sizeof payload && memcmp(out, payload, sizeof payload) == 0;
+    return tecelume_length(last) == sizeof payload && memcmp(out, payload, sizeof payload) == 0;
 }
 
 static void use_fresh_memory(void)
 {
     uint8_t *map = (uint8_t *)malloc(TECELUME_MAP_SIZE), *state = (uint8_t *)malloc(TECELUME_RECEIVER_SIZE);
-    uint8_t *records = (uint8_t *)malloc(TECELUME_FRAMES_MAX * TECELUME_RECORD_SIZE), *out = (uint8_t *)malloc(TECELUME_OUTPUT_SIZE);
+    uint8_t *records = (uint8_t *)malloc(RECORDS_MAX), *out = (uint8_t *)malloc(TECELUME_OUTPUT_SIZE);
     if (map == NULL || state == NULL || records == NULL || out == NULL || !goes_through(map, state, records, out))
         fail(&receiver, "on fresh memory nothing goes through");
     free(map);
@@ -457,8 +458,6 @@ int main(int count, char **words)
         seed = strtoull(words[1], NULL, 10);
     uint64_t most = count > 2 ? strtoull(words[2], NULL, 10) : CALLS;
     random_start(seed);
-    if (tecelume_receiver_size() != TECELUME_RECEIVER_SIZE || tecelume_map_size() != TECELUME_MAP_SIZE)
-        fail(&receiver, "header and archive do not go together");
     use_fresh_memory();
     sweep_reception(most < SHORT ? 100 : TECELUME_RECEIVER_SIZE + STATE_EXTRA);
     sweep_sending();

@@ -1,4 +1,4 @@
-//! Fields of a serialized message, a bit at a time (004, "Byte order and bit order").
+//! Fields of a serialized message, a bit at a time (RULES 9).
 //!
 //! A number is cut into octets from its low end; each, the last one perhaps short, goes highest
 //! bit first into bytes filled from the top.
@@ -79,7 +79,7 @@ impl<'a> Reader<'a> {
         Ok(bytes)
     }
 
-    /// A list behind its length field.
+    /// A list after its length field.
     pub fn list(&mut self, most: usize) -> Result<&'a [u8], Refusal> {
         let count = self.number(length_bits(most))? as usize;
         let bytes = self.bytes(count)?;

@@ -5,6 +5,7 @@ use crate::messages::{
     Allocation, HardwareVersion, KeyValue, LogMessage, Message, MessageType, NodeInfo, NodeStatus,
     SoftwareVersion,
 };
+use crate::receive::LONGEST_PAYLOAD;
 use std::collections::BTreeMap;
 use std::fmt::Write;
 
@@ -14,7 +15,7 @@ pub type Encode = fn(&Message, &mut [u8]) -> Result<usize, Refusal>;
 /// The bytes of a line, without its line feed.
 pub const LONGEST_LINE: usize = 8192;
 /// The length of the output buffer, whatever a line asks for.
-const MOST_ROOM: usize = 512;
+const MOST_ROOM: usize = LONGEST_PAYLOAD;
 
 /// What a field is given as, or comes out as. A number outside of 64 bits is none.
 #[derive(Clone, Debug, PartialEq, Eq)]
@@ -259,7 +260,7 @@ fn digits(text: &str) -> Option<Option<u64>> {
     well_formed.then(|| text.parse().ok())
 }
 
-/// Decimal digits, perhaps behind a minus sign.
+/// Decimal digits, perhaps after a minus sign.
 fn number(text: &str) -> Option<Option<u64>> {
     match text.strip_prefix('-') {
         Some(below) => digits(below).map(|number| number.filter(|&number| number == 0)),

@@ -1,5 +1,5 @@
-//! Checksums, a bit at a time: CRC-16-CCITT-FALSE of a transfer (002) and the CRC-64-WE
-//! signature hash with its extension (004).
+//! Checksums, a bit at a time: CRC-16-CCITT-FALSE of a transfer (RULES 6) and the
+//! CRC-64-WE signature hash with its extension (RULES 11).
 
 /// CRC-16-CCITT-FALSE: polynomial 0x1021, start 0xFFFF, nothing reversed.
 pub fn crc16(bytes: &[u8]) -> u16 {

@@ -1,5 +1,5 @@
-//! The five types' IDs and their signatures, worked out by the rule of 004 from the normalized
-//! definitions (003; SoftwareVersion and HardwareVersion from the public set).
+//! The five types' IDs and their signatures, worked out from the normalized definitions
+//! (RULES 11).
 
 use crate::crc::{extend, hash};
 

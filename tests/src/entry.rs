@@ -1,13 +1,16 @@
 //! The entry points as C calls them: numbers and lent bytes in, a result word out.
 //!
-//! A result word holds the answer's number in bits 0 to 7. Behind a transfer handed out come its
-//! length, stream, priority and transfer ID, behind a send the number of its frames.
+//! A result word holds the answer's number in bits 0 to 7 (RULES 13.3). After a transfer handed out
+//! come its length, stream, priority and transfer ID, after a send the number of its frames and
+//! their transfer ID, at the same place.
 
 use crate::map::{self, Map};
 use crate::receive::{Answer, Frame, Receiver, Subscription, Transfer};
 use crate::send::{self, Outgoing, RECORD};
 use crate::state;
 
+/// Major, minor and patch version, a byte each.
+pub const VERSION: u32 = 0x00_01_00;
 /// Lent state that is too short or at fault.
 pub const FAULT: u32 = 20;
 /// A setup that is not allowed.
@@ -73,7 +76,11 @@ fn transfer_bits(transfer: &Transfer) -> u64 {
         | u64::from(stream.source) << 36
         | u64::from(stream.destination) << 43
         | u64::from(transfer.priority) << 50
-        | u64::from(transfer.transfer_id) << 55
+        | transfer_id_bits(transfer.transfer_id)
+}
+
+fn transfer_id_bits(transfer_id: u8) -> u64 {
+    u64::from(transfer_id) << 55
 }
 
 pub fn map_setup(bytes: &mut [u8]) -> u32 {
@@ -89,12 +96,12 @@ pub fn send(bytes: &mut [u8], outgoing: &Outgoing, out: &mut [u8]) -> u64 {
         return u64::from(FAULT);
     };
     match send::send(&mut map, outgoing, out.len()) {
-        Ok(frames) => {
+        Ok(sent) => {
             map.write(bytes);
-            for (record, frame) in out.chunks_exact_mut(RECORD).zip(&frames) {
+            for (record, frame) in out.chunks_exact_mut(RECORD).zip(&sent.frames) {
                 record.copy_from_slice(&frame.record());
             }
-            (frames.len() as u64) << 8
+            (sent.frames.len() as u64) << 8 | transfer_id_bits(sent.transfer_id)
         }
         Err(refusal) => u64::from(refusal.number()),
     }

@@ -1,8 +1,16 @@
-//! A frame's parts: the stream and priority in its ID, and the tail byte (002, "CAN frame
-//! format").
+//! A frame's parts: the stream and priority in its ID, and the tail byte (RULES 2).
 
 /// IDs have 29 bits.
 pub const ID_END: u32 = 1 << 29;
+/// Data bytes of a frame, the tail included.
+pub const LONGEST_FRAME: usize = 8;
+/// Payload bytes in a frame.
+pub const FRAME_PAYLOAD: usize = LONGEST_FRAME - 1;
+pub const LARGEST_PRIORITY: u32 = 31;
+/// Two bits of an anonymous message's ID are its type.
+pub const LARGEST_ANONYMOUS_TYPE: u32 = 3;
+/// Transfer IDs go from 0 to one less than this, and then from 0 again.
+pub const TRANSFER_IDS: u8 = 32;
 
 #[derive(Clone, Copy, Debug, PartialEq, Eq)]
 pub enum TransferType {
@@ -70,7 +78,7 @@ impl Stream {
         }
         Stream {
             transfer_type: TransferType::Message,
-            type_id: (id >> 8 & if source == 0 { 3 } else { 65535 }) as u16,
+            type_id: (id >> 8 & largest_message(source)) as u16,
             source,
             destination: 0,
         }
@@ -99,8 +107,17 @@ impl Stream {
     }
 }
 
+/// The largest type of messages from a source.
+fn largest_message(source: u8) -> u32 {
+    if source == 0 {
+        LARGEST_ANONYMOUS_TYPE
+    } else {
+        largest_type(false)
+    }
+}
+
 pub fn priority_of(id: u32) -> u8 {
-    (id >> 24 & 31) as u8
+    (id >> 24 & LARGEST_PRIORITY) as u8
 }
 
 /// The last data byte.
@@ -118,7 +135,7 @@ impl Tail {
             start: byte & 128 != 0,
             end: byte & 64 != 0,
             toggle: byte & 32 != 0,
-            transfer_id: byte & 31,
+            transfer_id: byte % TRANSFER_IDS,
         }
     }
 
@@ -132,10 +149,10 @@ impl Tail {
 
 /// The transfer ID after this one: 31 goes back to 0.
 pub fn next_transfer_id(transfer_id: u8) -> u8 {
-    (transfer_id + 1) % 32
+    (transfer_id + 1) % TRANSFER_IDS
 }
 
-/// How many times `a` must rise to reach `b` (002, "Transfer ID comparison").
+/// How many times `a` must rise to reach `b` (RULES 4.4).
 pub fn forward_distance(a: u8, b: u8) -> u8 {
-    (b + 32 - a) % 32
+    (b + TRANSFER_IDS - a) % TRANSFER_IDS
 }

@@ -1,5 +1,5 @@
-//! A second implementation of the UAVCAN v0 transport and its messages, written from the papers
-//! alone (01, 002, 003, 004), to be compared with the proved one.
+//! A second implementation of the UAVCAN v0 transport and its messages, written from the rules
+//! alone (docs/RULES.md), to be compared with the proved one.
 
 pub mod bits;
 pub mod codec;

@@ -1,4 +1,4 @@
-//! The log program (01, "The log program") as a function from its input to its output.
+//! The log program (RULES 12) as a function from its input to its output.
 
 use crate::definitions as types;
 use crate::frame::TransferType;

@@ -1,6 +1,6 @@
-//! The sender's transfer-ID map (01, "Sending"), and its bytes as C lends them.
+//! The sender's transfer-ID map (RULES 8), and its bytes as C lends them.
 
-use crate::frame::{largest_type, next_transfer_id, TransferType};
+use crate::frame::{largest_type, next_transfer_id, TransferType, TRANSFER_IDS};
 use crate::state::{get_u32, get_u64, put_u32, put_u64};
 
 pub const PLACES: usize = 32;
@@ -145,7 +145,7 @@ fn read_place(bytes: &[u8], place: usize) -> Option<Option<Entry>> {
     }
     let descriptor = Descriptor::of_key(key)?;
     let next_id = bytes[NEXT_IDS + place];
-    if next_id > 31 {
+    if next_id >= TRANSFER_IDS {
         return None;
     }
     Some(Some(Entry {

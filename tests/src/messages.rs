@@ -1,4 +1,4 @@
-//! The five message types, both ways (01, "Messages"; layouts in 003 and the public set).
+//! The five message types, both ways (RULES 9 and 10).
 //!
 //! Numbers are held wider than their fields, so that a caller's number may be too large.
 

@@ -1,6 +1,6 @@
-//! The receiver: setup and the reception of one frame (01, "Reception" and "Numbers answered").
+//! The receiver: setup and the reception of one frame (RULES 3, 4 and 13).
 
-use crate::frame::{largest_type, priority_of, Stream, Tail, ID_END};
+use crate::frame::{largest_type, priority_of, Stream, Tail, FRAME_PAYLOAD, ID_END, LONGEST_FRAME};
 use crate::session::{Session, Step};
 
 pub const LARGEST_NODE: u32 = 127;
@@ -156,7 +156,7 @@ impl Receiver {
         if frame.id >= ID_END {
             return Err(Answer::IdTooLarge);
         }
-        if frame.data.is_empty() || frame.data.len() > 8 {
+        if frame.data.is_empty() || frame.data.len() > LONGEST_FRAME {
             return Err(Answer::DataLength);
         }
         let stream = Stream::of_id(frame.id);
@@ -225,7 +225,7 @@ impl Receiver {
 fn well_shaped(tail: Tail, payload: usize, anonymous: bool) -> bool {
     !(tail.start && tail.toggle)
         && !(anonymous && !(tail.start && tail.end))
-        && (tail.end || payload == 7)
+        && (tail.end || payload == FRAME_PAYLOAD)
         && !(tail.end && !tail.start && payload == 0)
 }
 

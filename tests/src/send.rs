@@ -1,15 +1,18 @@
-//! The sender: one payload into frames (01, "Sending"; 002, "Payload decomposition").
+//! The sender: one payload into frames (RULES 7).
 
 use crate::crc::transfer_checksum;
-use crate::frame::{largest_type, Stream, Tail, TransferType};
+use crate::frame::{
+    largest_type, Stream, Tail, TransferType, FRAME_PAYLOAD, LARGEST_ANONYMOUS_TYPE,
+    LARGEST_PRIORITY, TRANSFER_IDS,
+};
 use crate::map::{Descriptor, Map};
 use crate::receive::{LARGEST_NODE, LONGEST_PAYLOAD};
 
-/// Payload bytes in a frame.
-pub const FRAME_PAYLOAD: usize = 7;
 /// Bytes of a frame's record in the output.
 pub const RECORD: usize = 13;
 pub const LARGEST_DISCRIMINATOR: u32 = 16383;
+/// Frames of the longest payload.
+pub const MOST_FRAMES: usize = 74;
 
 /// A call to send, as numbers; any of them may be out of range.
 #[derive(Clone, Copy, Debug)]
@@ -32,6 +35,13 @@ pub struct SentFrame {
     pub data: Vec<u8>,
 }
 
+/// What a success gives: the frames, and the transfer ID in their tails.
+#[derive(Clone, Debug, PartialEq, Eq)]
+pub struct Sent {
+    pub transfer_id: u8,
+    pub frames: Vec<SentFrame>,
+}
+
 #[derive(Clone, Copy, Debug, PartialEq, Eq)]
 pub enum Refusal {
     OutOfRange,
@@ -52,7 +62,7 @@ impl Refusal {
 }
 
 /// Sends into `room` bytes of output; only a success changes the map.
-pub fn send(map: &mut Map, outgoing: &Outgoing, room: usize) -> Result<Vec<SentFrame>, Refusal> {
+pub fn send(map: &mut Map, outgoing: &Outgoing, room: usize) -> Result<Sent, Refusal> {
     let stream = outgoing.stream().ok_or(Refusal::OutOfRange)?;
     let payload = outgoing.payload;
     if payload.len() > LONGEST_PAYLOAD {
@@ -69,10 +79,13 @@ pub fn send(map: &mut Map, outgoing: &Outgoing, room: usize) -> Result<Vec<SentF
     };
     let id = stream.id(outgoing.priority as u8, outgoing.discriminator as u16);
     let frames = split(payload, outgoing.signature, transfer_id);
-    Ok(frames
-        .into_iter()
-        .map(|data| SentFrame { id, data })
-        .collect())
+    Ok(Sent {
+        transfer_id,
+        frames: frames
+            .into_iter()
+            .map(|data| SentFrame { id, data })
+            .collect(),
+    })
 }
 
 /// How many frames a payload takes.
@@ -80,7 +93,7 @@ pub fn frame_count(payload: usize) -> usize {
     if payload <= FRAME_PAYLOAD {
         1
     } else {
-        (payload + 8) / 7
+        (payload + 8) / FRAME_PAYLOAD
     }
 }
 
@@ -127,8 +140,9 @@ impl Outgoing<'_> {
         let in_range = self.own <= LARGEST_NODE
             && self.type_id <= largest_type(service)
             && addressed
-            && self.priority <= 31
-            && (transfer_type != TransferType::Response || self.transfer_id <= 31)
+            && self.priority <= LARGEST_PRIORITY
+            && (transfer_type != TransferType::Response
+                || self.transfer_id < u32::from(TRANSFER_IDS))
             && (self.own != 0 || self.may_be_anonymous(service));
         in_range.then_some(Stream {
             transfer_type,
@@ -140,7 +154,7 @@ impl Outgoing<'_> {
 
     fn may_be_anonymous(&self, service: bool) -> bool {
         !service
-            && self.type_id <= 3
+            && self.type_id <= LARGEST_ANONYMOUS_TYPE
             && self.payload.len() <= FRAME_PAYLOAD
             && self.discriminator <= LARGEST_DISCRIMINATOR
     }

@@ -1,13 +1,16 @@
 //! One session: what a receiver keeps of a stream, and how a frame that passed the checks moves
-//! it (01, "Reception").
+//! it (RULES 4.3 to 4.8).
 
 use crate::crc::transfer_checksum;
 use crate::frame::{forward_distance, next_transfer_id, Stream, Tail};
+use crate::receive::LONGEST_PAYLOAD;
 
 /// A session is old above this age in microseconds.
 pub const TIMEOUT: u64 = 2_000_000;
+/// Bytes of the checksum before a payload of several frames.
+const CHECKSUM: usize = 2;
 /// Payload and checksum of the longest transfer.
-pub const MOST_GATHERED: usize = 514;
+pub const MOST_GATHERED: usize = LONGEST_PAYLOAD + CHECKSUM;
 
 #[derive(Clone, Debug, PartialEq, Eq)]
 pub struct Session {
@@ -97,9 +100,9 @@ impl Session {
     }
 }
 
-/// The payload behind a right checksum. Two bytes are there: one in hand, one in the end frame.
+/// The payload after a right checksum. Two bytes are there: one in hand, one in the end frame.
 fn checked(gathered: &[u8], signature: u64) -> Step {
-    let (checksum, payload) = gathered.split_at(2);
+    let (checksum, payload) = gathered.split_at(CHECKSUM);
     if checksum == transfer_checksum(signature, payload).to_le_bytes() {
         Step::Closed(payload.to_vec())
     } else {

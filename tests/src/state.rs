@@ -3,7 +3,7 @@
 //! A write touches only what means something: nothing of an empty place but its key, and of a
 //! session's room only the bytes in hand. So it leaves all else as it was.
 
-use crate::frame::{largest_type, Stream, TransferType};
+use crate::frame::{largest_type, Stream, TransferType, TRANSFER_IDS};
 use crate::receive::{
     all_differ, Receiver, Subscription, LARGEST_NODE, MOST_SUBSCRIPTIONS, PLACES,
 };
@@ -82,7 +82,8 @@ fn read_place(bytes: &[u8], place: usize) -> Option<Option<Session>> {
     let control = &bytes[CONTROLS + 4 * place..][..4];
     let count = usize::from(u16::from_le_bytes([control[0], control[1]]));
     let (expected_id, toggle) = (control[2], control[3]);
-    if count > MOST_GATHERED || expected_id > 31 || toggle > 1 || (toggle == 1 && count == 0) {
+    let in_range = count <= MOST_GATHERED && expected_id < TRANSFER_IDS && toggle <= 1;
+    if !in_range || (toggle == 1 && count == 0) {
         return None;
     }
     Some(Some(Session {

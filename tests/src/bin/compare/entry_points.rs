@@ -40,6 +40,7 @@ pub struct Serialization {
 /// What one side offers. Messages have no entry points in C.
 #[derive(Clone, Copy)]
 pub struct EntryPoints {
+    pub version: fn() -> u32,
     pub reception: Reception,
     pub sending: Sending,
     pub signature: Signature,
@@ -96,6 +97,7 @@ impl Numbers {
 
 /// The reference itself, over lent bytes alone.
 pub const REFERENCE: EntryPoints = EntryPoints {
+    version: || entry::VERSION,
     reception: Reception {
         size: || state::SIZE as u64,
         setup: |state, own, list| entry::setup(state.content_mut(), own, list.content()),
@@ -120,6 +122,11 @@ pub fn receive(call: &mut Arrival) -> u64 {
         time: call.time,
     };
     entry::receive(call.state.content_mut(), &frame, call.out.content_mut())
+}
+
+/// The number of frames in a send's result word.
+pub fn frames_in(word: u64) -> u64 {
+    word >> 8 & 127
 }
 
 pub fn send(call: &mut Departure) -> u64 {

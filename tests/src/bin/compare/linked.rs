@@ -5,6 +5,7 @@ use crate::lent::Lent;
 
 #[link(name = "tecelume", kind = "static")]
 extern "C" {
+    fn tecelume_version() -> u32;
     fn tecelume_receiver_size() -> u64;
     fn tecelume_setup(
         state: *mut u8,
@@ -13,7 +14,7 @@ extern "C" {
         subscriptions: *const u8,
         subscriptions_length: usize,
     ) -> u32;
-    fn tecelume_receive(
+    fn tecelume_receive_word(
         state: *mut u8,
         state_length: usize,
         id: u32,
@@ -25,7 +26,7 @@ extern "C" {
     ) -> u64;
     fn tecelume_map_size() -> u64;
     fn tecelume_map_setup(map: *mut u8, map_length: usize) -> u32;
-    fn tecelume_send(
+    fn tecelume_send_word(
         map: *mut u8,
         map_length: usize,
         own: u32,
@@ -46,6 +47,7 @@ extern "C" {
 }
 
 pub const ARCHIVE: EntryPoints = EntryPoints {
+    version: || unsafe { tecelume_version() },
     reception: Reception {
         size: || unsafe { tecelume_receiver_size() },
         setup,
@@ -74,7 +76,7 @@ fn setup(state: &mut Lent, own: u32, list: &mut Lent) -> u32 {
 
 fn receive(call: &mut Arrival) -> u64 {
     unsafe {
-        tecelume_receive(
+        tecelume_receive_word(
             call.state.pointer(),
             call.state.length(),
             call.id,
@@ -90,7 +92,7 @@ fn receive(call: &mut Arrival) -> u64 {
 fn send(call: &mut Departure) -> u64 {
     let numbers = &call.numbers;
     unsafe {
-        tecelume_send(
+        tecelume_send_word(
             call.map.pointer(),
             call.map.length(),
             numbers.own,

@@ -29,6 +29,7 @@ use mutants::{Mutant, Part};
 use options::{Options, Side};
 use payloads::Payloads;
 use receptions::Receptions;
+use reference::entry::VERSION;
 use requests::{Answerer, Requests};
 use sends::Sends;
 use setups::Setups;
@@ -36,7 +37,7 @@ use signatures::Signatures;
 use std::process::ExitCode;
 use std::sync::atomic::{AtomicBool, AtomicU64, Ordering::Relaxed};
 use std::time::Instant;
-use tally::{Difference, Tally};
+use tally::{compare, Difference, Tally};
 
 fn main() -> ExitCode {
     let options = match Options::parse(std::env::args().skip(1)) {
@@ -137,6 +138,7 @@ fn one_round(side: &EntryPoints, options: &Options, seed: u64) -> Result<Vec<Tal
 }
 
 fn parts(side: &EntryPoints, options: &Options, seed: u64) -> Result<Vec<Tally>, Difference> {
+    compare((VERSION, (side.version)()), &[], || "version".to_string())?;
     let mut setups = Setups::new(side.reception, seed);
     setups.run(options.setups)?;
     let mut receptions = Receptions::new(side.reception, seed);

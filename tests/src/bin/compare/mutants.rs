@@ -1,8 +1,8 @@
-//! Wrong variants of the reference: the errors that tempt (01) and some at the edges. Each must
+//! Wrong variants of the reference: the errors that tempt and some at the edges. Each must
 //! be caught, or the comparison shows nothing.
 
 use crate::entry_points::{
-    receive, send, Arrival, Departure, EntryPoints, Receive, Reception, Send, Sending,
+    frames_in, receive, send, Arrival, Departure, EntryPoints, Receive, Reception, Send, Sending,
     Serialization, REFERENCE,
 };
 use reference::bits::Refusal;
@@ -46,6 +46,7 @@ pub fn all() -> Vec<Mutant> {
             checksum_sent_high_byte_first,
         ),
         sending("entry-kept-at-two-seconds", entry_kept_at_two_seconds),
+        sending("transfer-id-not-told", transfer_id_not_told),
         reading(
             "first-letter-is-length",
             Part::Payloads,
@@ -249,7 +250,7 @@ fn writes_past_the_state(call: &mut Arrival) -> u64 {
 
 fn checksum_sent_high_byte_first(call: &mut Departure) -> u64 {
     let word = send(call);
-    if word & 255 == 0 && word >> 8 > 1 {
+    if word & 255 == 0 && frames_in(word) > 1 {
         call.out.content_mut().swap(5, 6);
     }
     word
@@ -269,6 +270,11 @@ fn entry_kept_at_two_seconds(call: &mut Departure) -> u64 {
         after.write(call.map.content_mut());
     }
     word
+}
+
+fn transfer_id_not_told(call: &mut Departure) -> u64 {
+    let word = send(call);
+    word & 255 | frames_in(word) << 8
 }
 
 /// Takes the first letter of the name for the length of the rest.

@@ -5,6 +5,7 @@ use crate::random::Random;
 use crate::traffic::payload_length;
 use reference::frame::TransferType;
 use reference::map::Descriptor;
+use reference::receive::LONGEST_PAYLOAD;
 
 /// A call to send but its buffers' bytes.
 #[derive(Debug)]
@@ -60,7 +61,7 @@ pub const REASONS: [Reason; 13] = [
     }),
     ("14: anonymous with a payload over 7", |random, call| {
         call.become_anonymous(random);
-        call.payload = random.pick(&[8, 9, 100, 512, 513, 600]);
+        call.payload = random.pick(&[8, 9, 100, LONGEST_PAYLOAD, LONGEST_PAYLOAD + 1, 600]);
     }),
     ("14: anonymous service", |random, call| {
         call.become_service(random);

@@ -12,7 +12,8 @@ use crate::tally::{compare, Difference, Tally};
 use crate::traffic::{Call, Traffic, MOST_DATA, MOST_ROOM};
 use reference::entry::{self, FAULT};
 use reference::receive::{Frame, Receiver};
-use reference::state::{self, SIZE};
+use reference::session::MOST_GATHERED;
+use reference::state::{self, GATHERED, SIZE};
 
 const NUMBERS: [u32; 14] = [0, 1, 2, 3, 4, 5, 6, 7, 8, 9, 10, 11, 12, 20];
 const STILL_VALID: &str = "bytes altered, no fault";
@@ -141,7 +142,9 @@ impl Receptions {
                 name
             }
             None if index == FAULTS.len() => {
-                let length = self.random.pick(&[SIZE - 1, SIZE - 514, 1288, 8, 1]);
+                let length = self
+                    .random
+                    .pick(&[SIZE - 1, SIZE - MOST_GATHERED, GATHERED, 8, 1]);
                 self.spoiled.lend(length, false);
                 TOO_SHORT
             }

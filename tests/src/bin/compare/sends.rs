@@ -1,17 +1,17 @@
 //! Sending compared: one call after the other over maps that setup made or that were lent, with
 //! maps at fault among them.
 
-use crate::entry_points::{Departure, Sending};
+use crate::entry_points::{frames_in, Departure, Sending};
 use crate::lent::Pair;
 use crate::maps::{self, FAULTS, TOO_SHORT};
 use crate::outgoing::{Call, REASONS};
 use crate::random::Random;
 use crate::tally::{compare, Difference, Tally};
 use reference::entry::{self, FAULT};
-use reference::frame::TransferType;
-use reference::map::{Descriptor, Map, SIZE, UNUSED};
+use reference::frame::{TransferType, TRANSFER_IDS};
+use reference::map::{Descriptor, Map, NEXT_IDS, SIZE, UNUSED};
 use reference::receive::LONGEST_PAYLOAD;
-use reference::send::{frame_count, RECORD};
+use reference::send::{frame_count, MOST_FRAMES, RECORD};
 
 const CASES: [&str; 13] = [
     "0: response",
@@ -190,7 +190,7 @@ impl Sends {
                 name
             }
             None => {
-                let length = self.random.pick(&[0, 1, 384, SIZE - 1]);
+                let length = self.random.pick(&[0, 1, NEXT_IDS, SIZE - 1]);
                 let null = self.random.coin();
                 self.spoiled.lend(length, null);
                 TOO_SHORT
@@ -247,7 +247,7 @@ impl Sends {
     /// The cases that a call with this word belongs to; `map` is the one before it.
     fn cases(&self, map: &Map, call: &Call, word: u64) -> Vec<&'static str> {
         match word & 255 {
-            0 => success_cases(map, call, word >> 8),
+            0 => success_cases(map, call, frames_in(word)),
             8 if self.out.expected.length() + 1 == RECORD * frame_count(call.payload) => {
                 vec!["8: one byte too few"]
             }
@@ -281,12 +281,12 @@ fn success_cases(map: &Map, call: &Call, frames: u64) -> Vec<&'static str> {
     if numbers.own == 0 {
         cases.push("0: anonymous");
     }
-    if frames == 74 {
+    if frames == MOST_FRAMES as u64 {
         cases.push("0: 74 frames");
     }
     let place = map.place_of(&descriptor);
     let entry = place.and_then(|place| map.places[place].as_ref());
-    if entry.is_some_and(|entry| entry.next_id == 31) {
+    if entry.is_some_and(|entry| entry.next_id == TRANSFER_IDS - 1) {
         cases.push("0: transfer ID 31, 0 comes next");
     }
     cases

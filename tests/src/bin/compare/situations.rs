@@ -1,9 +1,9 @@
 //! Names for what a frame met in the receiver, so that the counts show which rules were driven.
 
 use crate::traffic::Call;
-use reference::frame::{Stream, Tail, ID_END};
-use reference::receive::{Answer, Receiver};
-use reference::session::{Session, MOST_GATHERED, TIMEOUT};
+use reference::frame::{Stream, Tail, ID_END, TRANSFER_IDS};
+use reference::receive::{Answer, Receiver, LONGEST_PAYLOAD};
+use reference::session::{Session, TIMEOUT};
 
 pub const CASES: [&str; 41] = [
     "0: new session in an empty place",
@@ -90,7 +90,7 @@ impl Found {
     pub fn cases(&self, answer: &Answer) -> Vec<&'static str> {
         let mut cases = vec![self.case(answer)];
         if let (Answer::HandedOut(transfer), Some(_)) = (answer, &self.session) {
-            if transfer.transfer_id == 31 {
+            if transfer.transfer_id == TRANSFER_IDS - 1 {
                 cases.push("1: transfer ID 31, 0 expected next");
             }
         }
@@ -139,7 +139,7 @@ impl Found {
     fn handed_out(&self, length: usize) -> &'static str {
         match &self.session {
             _ if self.stream.is_anonymous() => "1: anonymous",
-            _ if !self.tail.start && length == MOST_GATHERED - 2 => "1: several frames, 512 bytes",
+            _ if !self.tail.start && length == LONGEST_PAYLOAD => "1: several frames, 512 bytes",
             _ if !self.tail.start && length == 0 => "1: several frames, no payload",
             _ if !self.tail.start => "1: several frames",
             Some(_) => "1: single frame, session there",

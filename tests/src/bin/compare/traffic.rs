@@ -5,7 +5,7 @@ use crate::random::Random;
 use crate::states;
 use reference::crc::transfer_checksum;
 use reference::frame::{next_transfer_id, Stream, Tail, ID_END};
-use reference::receive::Receiver;
+use reference::receive::{Receiver, LONGEST_PAYLOAD};
 use reference::send::split;
 use reference::session::{Session, MOST_GATHERED, TIMEOUT};
 
@@ -91,7 +91,11 @@ impl Traffic {
             id,
             data,
             time: self.time(random, session.filter(|_| near), disturbed),
-            room: if disturbed { room(random) } else { 512 },
+            room: if disturbed {
+                room(random)
+            } else {
+                LONGEST_PAYLOAD
+            },
             null: random.coin(),
         }
     }
@@ -133,10 +137,10 @@ fn notable<'a>(random: &mut Random, receiver: &'a Receiver) -> Option<&'a Sessio
 fn room(random: &mut Random) -> usize {
     match random.below(64) {
         0 => 0,
-        1 => 511,
+        1 => LONGEST_PAYLOAD - 1,
         2..=4 => random.index(MOST_ROOM + 1),
         5..=8 => MOST_ROOM,
-        _ => 512,
+        _ => LONGEST_PAYLOAD,
     }
 }
 
@@ -220,7 +224,7 @@ pub fn payload_length(random: &mut Random, long: bool) -> usize {
         0 => random.between(0, 8),
         1 => random.between(0, 30),
         2 => random.between(0, 120),
-        _ => random.pick(&[505, 506, 511, 512, 512, 513, 514, 515, 519, 600]),
+        _ => LONGEST_PAYLOAD as u64 - 7 + random.pick(&[0, 1, 6, 7, 7, 8, 9, 10, 14, 95]),
     };
     length as usize
 }

@@ -14,7 +14,7 @@ use std::collections::BTreeMap;
 use std::io::{self, Read, Write};
 use std::process::ExitCode;
 
-/// The answers a log can show, as its third word; 1 stands for a transfer.
+/// The answers a log can show, as its third word; 1 is a transfer.
 const ANSWERS: [u32; 13] = [0, 1, 2, 3, 4, 5, 6, 7, 9, 10, 11, 12, 18];
 
 fn main() -> ExitCode {

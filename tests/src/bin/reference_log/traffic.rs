@@ -4,6 +4,7 @@
 use crate::random::Random;
 use reference::definitions as types;
 use reference::frame::{next_transfer_id, Stream, TransferType};
+use reference::receive::LONGEST_PAYLOAD;
 use reference::send::split;
 use std::fmt::Write;
 
@@ -179,8 +180,8 @@ impl Talker {
             _ if self.anonymous => random.index(8),
             0..=8 => random.index(8),
             9..=12 => random.index(40),
-            13 => random.index(513),
-            _ => 505 + random.index(16),
+            13 => random.index(LONGEST_PAYLOAD + 1),
+            _ => LONGEST_PAYLOAD - 7 + random.index(16),
         };
         self.frames = split(
             &random.bytes(length),

@@ -1,11 +1,13 @@
-//! Sending (01, 002): frames, transfer IDs, refusals, and the map's bytes.
+//! Sending (RULES 7 and 8): frames, transfer IDs, refusals, and the map's bytes.
 
 use crate::allocation_log::{ALLOCATION_LOG, UNIQUE_ID};
 use reference::definitions;
 use reference::entry;
 use reference::frame::TransferType;
 use reference::map::{Descriptor, Map, KEYS, NEXT_IDS, SIZE, UNUSED};
-use reference::send::{frame_count, send, Outgoing, Refusal, SentFrame};
+use reference::send::{frame_count, send, Outgoing, Refusal, SentFrame, MOST_FRAMES, RECORD};
+
+const MOST_ROOM: usize = RECORD * MOST_FRAMES;
 
 /// Message 500 from node 9, with priority 16.
 fn message(payload: &[u8]) -> Outgoing<'_> {
@@ -50,7 +52,11 @@ fn anonymous(payload: &[u8]) -> Outgoing<'_> {
 }
 
 fn sent(map: &mut Map, outgoing: &Outgoing) -> Vec<SentFrame> {
-    send(map, outgoing, 13 * 74).expect("sent")
+    let sent = send(map, outgoing, MOST_ROOM).expect("sent");
+    for frame in &sent.frames {
+        assert_eq!(frame.data.last().unwrap() & 31, sent.transfer_id);
+    }
+    sent.frames
 }
 
 /// The transfer ID a send was given.
@@ -233,11 +239,11 @@ fn lengths_and_room() {
         Err(Refusal::PayloadTooLong)
     );
     assert_eq!(
-        send(&mut map, &message(&[0; 512]), 13 * 74 - 1),
+        send(&mut map, &message(&[0; 512]), MOST_ROOM - 1),
         Err(Refusal::OutputTooSmall)
     );
     assert_eq!(map, Map::default());
-    assert!(send(&mut map, &message(&[0; 512]), 13 * 74).is_ok());
+    assert!(send(&mut map, &message(&[0; 512]), MOST_ROOM).is_ok());
 }
 
 #[test]
@@ -303,7 +309,10 @@ fn bytes_of_the_map() {
         time: 0x0102,
         ..request(&[1; 8])
     };
-    assert_eq!(entry::send(&mut bytes, &outgoing, &mut out), 2 << 8);
+    let word = entry::send(&mut bytes, &outgoing, &mut out);
+    assert_eq!(word, 2 << 8);
+    let again = entry::send(&mut bytes.clone(), &outgoing, &mut [0; 30]);
+    assert_eq!(again, 2 << 8 | 1 << 55, "transfer ID 1");
     assert_eq!(bytes[..4], [5 * 2 + 1, 7, 0, 1]);
     assert_eq!(bytes[128..136], [2, 1, 0, 0, 0, 0, 0, 0]);
     assert_eq!(bytes[384], 1);

@@ -1,4 +1,4 @@
-//! Checksums and signatures against the numbers that 002, 003 and the public set give.
+//! Checksums and signatures against the published numbers (RULES 11 and 15.1).
 
 use reference::crc::{crc16, extend, hash, transfer_checksum};
 use reference::definitions;

@@ -1,4 +1,4 @@
-//! Messages (01, 003, 004): bit order, the five types both ways, and their refusals.
+//! Messages (RULES 9 and 10): bit order, the five types both ways, and their refusals.
 
 use crate::allocation_log::{ALLOCATION_LOG, UNIQUE_ID};
 use reference::bits::{Refusal, Writer};

@@ -1,5 +1,4 @@
-//! The log program (01): its listing, the allocation log of 003, and lines that are not well
-//! formed.
+//! The log program (RULES 12): its listing, the allocation log, and lines that are not well formed.
 
 use crate::allocation_log::ALLOCATION_LOG;
 use reference::logs::run;

@@ -1,4 +1,4 @@
-//! The allocation log of 003, which reception, sending and the log program are run on.
+//! The allocation log (RULES 15.3), which reception, sending and the log program are run on.
 
 /// Time in milliseconds, ID and data of each frame.
 pub const ALLOCATION_LOG: [(u64, u32, &[u8]); 10] = [

@@ -1,4 +1,4 @@
-//! Reception (01, 002): the frame's fields, the papers' examples, and the edges of each rule.
+//! Reception (RULES 2 to 4): the frame's fields, published examples, and the edges of each rule.
 
 use crate::allocation_log::{ALLOCATION_LOG, UNIQUE_ID};
 use reference::definitions;

@@ -4,7 +4,7 @@ use reference::entry::{receive, setup};
 use reference::frame::{Stream, TransferType};
 use reference::receive::{Frame, Receiver, Subscription};
 use reference::send::split;
-use reference::session::Session;
+use reference::session::{Session, MOST_GATHERED};
 use reference::state::{self, read, write, SIZE};
 
 fn record(kind: u8, type_id: u32, signature: u64) -> Vec<u8> {
@@ -52,7 +52,7 @@ fn sample() -> Receiver {
             destination: 5,
         },
         expected_id: 31,
-        gathered: vec![0xCD; 514],
+        gathered: vec![0xCD; MOST_GATHERED],
         toggle: false,
         time: u64::MAX,
     });
@@ -82,7 +82,7 @@ fn layout() {
     assert_eq!(bytes[1164..1168], [7, 0, 30, 1]);
     assert_eq!(bytes[1284..1288], [2, 2, 31, 0]);
     assert_eq!(bytes[1288 + 514..1288 + 521], [0xAB; 7]);
-    assert_eq!(bytes[SIZE - 514..], [0xCD; 514]);
+    assert_eq!(bytes[SIZE - MOST_GATHERED..], [0xCD; MOST_GATHERED]);
 }
 
 #[test]
@@ -223,12 +223,13 @@ fn receive_writes_the_fields_that_change() {
 #[test]
 fn new_session_leaves_old_bytes_of_its_place() {
     let mut bytes = sample_bytes();
-    bytes[state::gathered_at(0)..][..514].fill(0x77);
+    bytes[state::gathered_at(0)..][..MOST_GATHERED].fill(0x77);
     let (word, _) = changes(&mut bytes, 0x0001_F40A, &[1, 0xC2], 5);
     assert_eq!(word & 255, 1);
     let session = read(&bytes).unwrap().places[0].clone().unwrap();
     assert_eq!((session.expected_id, session.time), (3, 5));
-    assert_eq!(bytes[state::gathered_at(0)..][..514], [0x77; 514]);
+    let room = &bytes[state::gathered_at(0)..][..MOST_GATHERED];
+    assert_eq!(room, [0x77; MOST_GATHERED]);
 }
 
 #[test]

@@ -1,0 +1,506 @@
+/* Tries what include/tecelume.h says in words.
+ *
+ *     header             every sentence
+ *     header SENTENCE    the one of that name
+ *     header --list      their names
+ *
+ * The first that does not hold is printed, with status 1. wrong.c makes libraries that break them. */
+#include <stdbool.h>
+#include <stdio.h>
+#include <stdlib.h>
+#include <string.h>
+
+#include "tecelume.h"
+
+enum { START = 0x80, END = 0x40, TOGGLE = 0x20, SINGLE = START | END, TRANSFER_ID = 31 };
+enum { TYPE = 1000, OTHER_TYPE = 1001, SERVICE = 7, OWN = 1, SOURCE = 42, SPARE = 99 };
+enum { TWO_SECONDS = 2000000, TRANSFER_IDS = 32, LONGEST = TECELUME_PAYLOAD_MAX };
+
+static const uint64_t signature = 0x0123456789ABCDEF, wrap = (uint64_t)1 << 32;
+
+static uint8_t state[TECELUME_RECEIVER_SIZE], map[TECELUME_MAP_SIZE];
+static uint8_t out[TECELUME_OUTPUT_SIZE], records[TECELUME_SEND_SIZE(LONGEST)];
+
+static const char *sentence;
+
+static void check(bool holds, const char *what, int line)
+{
+    if (holds)
+        return;
+    printf("%s: does not hold in line %d: %s\n", sentence, line, what);
+    exit(1);
+}
+
+#define CHECK(condition) check((condition), #condition, __LINE__)
+
+/* ---- calls, each with what is said of every one: what a number leaves as it was ---- */
+
+static bool changes_nothing(uint32_t number)
+{
+    return (number >= TECELUME_ID_TOO_LARGE && number <= TECELUME_TABLE_FULL) || number == TECELUME_STATE_FAULT;
+}
+
+static tecelume_result receive_into(size_t room, uint32_t id, const uint8_t *data, size_t length, uint64_t time)
+{
+    static uint8_t state_before[sizeof state], out_before[sizeof out];
+    memcpy(state_before, state, sizeof state);
+    memset(out, 0xA5, sizeof out);
+    memcpy(out_before, out, sizeof out);
+    tecelume_result result = tecelume_receive(state, sizeof state, id, data, length, time, out, room);
+    size_t written = tecelume_length(result);
+    CHECK(written <= sizeof out && memcmp(out + written, out_before + written, sizeof out - written) == 0);
+    CHECK(!changes_nothing(tecelume_number(result)) || memcmp(state, state_before, sizeof state) == 0);
+    return result;
+}
+
+static uint32_t message_id(uint32_t type_id, uint32_t source)
+{
+    return 16u << 24 | type_id << 8 | source;
+}
+
+/* The number for a frame with eight data bytes, seven of them zero. */
+static uint32_t frame(uint32_t source, unsigned tail, uint64_t time)
+{
+    uint8_t data[8] = {0};
+    data[7] = (uint8_t)tail;
+    return tecelume_number(receive_into(sizeof out, message_id(TYPE, source), data, sizeof data, time));
+}
+
+/* What a send takes, but for its buffers. */
+struct topic {
+    uint32_t own, transfer_type, type_id, destination, transfer_id;
+};
+
+static struct topic message(uint32_t type_id)
+{
+    struct topic t = {SOURCE, TECELUME_MESSAGE, 0, 0, 0};
+    t.type_id = type_id;
+    return t;
+}
+
+static tecelume_result send_signed(const struct topic *t, size_t length, uint64_t under, uint64_t time, size_t room)
+{
+    static const uint8_t payload[LONGEST + 1] = {0};
+    static uint8_t map_before[sizeof map], records_before[sizeof records];
+    memcpy(map_before, map, sizeof map);
+    memset(records, 0x5A, sizeof records);
+    memcpy(records_before, records, sizeof records);
+    tecelume_result result = tecelume_send(map, sizeof map, t->own, t->transfer_type, t->type_id, t->destination, 16, payload, length,
+                                           under, time, t->transfer_id, 0, records, room);
+    size_t written = tecelume_frames(result) * TECELUME_RECORD_SIZE;
+    CHECK(written <= sizeof records && memcmp(records + written, records_before + written, sizeof records - written) == 0);
+    CHECK(tecelume_number(result) == TECELUME_SUCCESS || memcmp(map, map_before, sizeof map) == 0);
+    return result;
+}
+
+static tecelume_result send_topic(const struct topic *t, uint64_t time)
+{
+    return send_signed(t, 0, signature, time, sizeof records);
+}
+
+static uint32_t send_message(uint32_t type_id, uint64_t time)
+{
+    struct topic t = message(type_id);
+    return tecelume_number(send_topic(&t, time));
+}
+
+/* Gives the records of the last send to the receiver; the result of the last one, the others are taken. */
+static tecelume_result carry(size_t count, uint64_t time)
+{
+    tecelume_result result = {0};
+    for (size_t i = 0; i < count; i++) {
+        const uint8_t *record = records + i * TECELUME_RECORD_SIZE;
+        CHECK(tecelume_number(result) == TECELUME_TAKEN);
+        result = receive_into(sizeof out, tecelume_record_id(record), tecelume_record_data(record), tecelume_record_length(record), time);
+    }
+    return result;
+}
+
+/* ---- beginnings ---- */
+
+static uint32_t setup_under(uint64_t under)
+{
+    uint8_t list[2 * TECELUME_SUBSCRIPTION_SIZE];
+    uint8_t *next = tecelume_subscription(list, TECELUME_KIND_MESSAGE, TYPE, under);
+    tecelume_subscription(next, TECELUME_KIND_SERVICE, SERVICE, under);
+    return tecelume_setup(state, sizeof state, OWN, list, sizeof list);
+}
+
+static void begin(void)
+{
+    CHECK(setup_under(signature) == TECELUME_SUCCESS);
+    CHECK(tecelume_map_setup(map, sizeof map) == TECELUME_SUCCESS);
+}
+
+/* A receiver with a single frame from each of the sources 1 to 32, a map with the message types 0 to 31. */
+static void begin_full(uint64_t time)
+{
+    begin();
+    for (uint32_t source = 1; source <= TECELUME_SESSIONS_MAX; source++)
+        CHECK(frame(source, SINGLE, time) == TECELUME_HANDED_OUT);
+    for (uint32_t type_id = 0; type_id < TECELUME_MAP_ENTRIES_MAX; type_id++)
+        CHECK(send_message(type_id, time) == TECELUME_SUCCESS);
+}
+
+/* ---- sentences ---- */
+
+static void header_and_library(void)
+{
+    CHECK(tecelume_version() == TECELUME_VERSION);
+    CHECK(TECELUME_VERSION >> 16 == TECELUME_VERSION_MAJOR);
+    CHECK((TECELUME_VERSION >> 8 & 255) == TECELUME_VERSION_MINOR && (TECELUME_VERSION & 255) == TECELUME_VERSION_PATCH);
+    CHECK(tecelume_receiver_size() == TECELUME_RECEIVER_SIZE);
+    CHECK(tecelume_map_size() == TECELUME_MAP_SIZE);
+    CHECK(tecelume_setup(state, sizeof state - 1, OWN, NULL, 0) == TECELUME_STATE_FAULT);
+    CHECK(tecelume_map_setup(map, sizeof map - 1) == TECELUME_STATE_FAULT);
+}
+
+/* Old counts from the last start that was taken: not from a later frame, nor from a start that was passed over. */
+static void old_from_last_start_taken(void)
+{
+    begin();
+    CHECK(frame(SOURCE, START, 0) == TECELUME_TAKEN);
+    CHECK(frame(SOURCE, TOGGLE, 1500000) == TECELUME_TAKEN);
+    CHECK(frame(SOURCE, 0, TWO_SECONDS + 1) == TECELUME_PASSED_OVER);
+    begin();
+    CHECK(frame(SOURCE, START, 0) == TECELUME_TAKEN);
+    CHECK(frame(SOURCE, START, 1500000) == TECELUME_PASSED_OVER);
+    CHECK(frame(SOURCE, TOGGLE, TWO_SECONDS + 1) == TECELUME_PASSED_OVER);
+    begin();
+    CHECK(frame(SOURCE, SINGLE, 0) == TECELUME_HANDED_OUT);
+    CHECK(frame(SOURCE, START | 1, 1500000) == TECELUME_TAKEN);
+    CHECK(frame(SOURCE, TOGGLE | 1, TWO_SECONDS + 1) == TECELUME_TAKEN);
+}
+
+static void session_at_two_seconds(void)
+{
+    begin();
+    CHECK(frame(SOURCE, START, 0) == TECELUME_TAKEN);
+    CHECK(frame(SOURCE, TOGGLE, TWO_SECONDS) == TECELUME_TAKEN);
+    begin_full(0);
+    CHECK(frame(SPARE, SINGLE, TWO_SECONDS) == TECELUME_TABLE_FULL);
+    CHECK(frame(SPARE, SINGLE, TWO_SECONDS + 1) == TECELUME_HANDED_OUT);
+}
+
+static void entry_at_two_seconds(void)
+{
+    begin_full(0);
+    CHECK(send_message(SPARE, TWO_SECONDS - 1) == TECELUME_TABLE_FULL);
+    CHECK(send_message(SPARE, TWO_SECONDS) == TECELUME_SUCCESS);
+}
+
+/* 74 frames have 518 bytes, more than payload and checksum may have. */
+static void rest_of_a_transfer_too_long(void)
+{
+    begin();
+    CHECK(frame(SOURCE, START, 0) == TECELUME_TAKEN);
+    for (unsigned i = 1; i < TECELUME_FRAMES_MAX - 1; i++)
+        CHECK(frame(SOURCE, i % 2 * TOGGLE, 0) == TECELUME_TAKEN);
+    CHECK(frame(SOURCE, TOGGLE, 0) == TECELUME_PAYLOAD_TOO_LONG);
+    CHECK(frame(SOURCE, 0, 0) == TECELUME_PASSED_OVER);
+    CHECK(frame(SOURCE, TOGGLE | END, 0) == TECELUME_PASSED_OVER);
+    CHECK(frame(SOURCE, START | 1, 0) == TECELUME_TAKEN);
+}
+
+static void forty_nodes(void)
+{
+    unsigned heard = 0, unheard = 0;
+    begin();
+    for (uint32_t source = 1; source <= 40; source++)
+        CHECK(frame(source, SINGLE, source) == (source <= 32 ? TECELUME_HANDED_OUT : TECELUME_TABLE_FULL));
+    for (unsigned second = 1; second < 100; second++) {
+        for (uint32_t source = 1; source <= 40; source++) {
+            uint32_t number = frame(source, SINGLE | second % TRANSFER_IDS, second * 1000000u + source);
+            heard += number == TECELUME_HANDED_OUT && source <= 32;
+            unheard += number == TECELUME_TABLE_FULL && source > 32;
+        }
+    }
+    CHECK(heard == 99 * 32 && unheard == 99 * 8);
+}
+
+static void never_set_up(void)
+{
+    struct topic t = message(TYPE);
+    memset(state, 0, sizeof state);
+    CHECK(frame(SOURCE, SINGLE, 0) == TECELUME_NO_SUBSCRIPTION);
+    memset(state, 0xFF, sizeof state);
+    CHECK(frame(SOURCE, SINGLE, 0) == TECELUME_STATE_FAULT);
+    memset(map, 0, sizeof map);
+    tecelume_result result = send_topic(&t, 0);
+    CHECK(tecelume_number(result) == TECELUME_SUCCESS && tecelume_transfer_id(result) == 0);
+    memset(map, 0xFF, sizeof map);
+    CHECK(send_message(TYPE, 0) == TECELUME_STATE_FAULT);
+}
+
+/* From the second before the wrap to two seconds after it, in 64 bits and cut to 32. */
+static void repeat_after_the_wrap(void)
+{
+    uint64_t before = wrap - 1000000, after = wrap + TWO_SECONDS;
+    begin();
+    CHECK(frame(SOURCE, SINGLE, before) == TECELUME_HANDED_OUT);
+    CHECK(frame(SOURCE, SINGLE, after) == TECELUME_HANDED_OUT);
+    begin();
+    CHECK(frame(SOURCE, SINGLE, before) == TECELUME_HANDED_OUT);
+    CHECK(frame(SOURCE, SINGLE, (uint32_t)after) == TECELUME_PASSED_OVER);
+    CHECK(frame(SOURCE, SINGLE, (uint32_t)(wrap - 1)) == TECELUME_PASSED_OVER);
+}
+
+/* What was stored just before the wrap, more than two seconds before it, and after it. */
+static void places_after_the_wrap(void)
+{
+    begin_full(wrap - 1);
+    CHECK(frame(SPARE, SINGLE, 3 * TWO_SECONDS) == TECELUME_TABLE_FULL && send_message(SPARE, 3 * TWO_SECONDS) == TECELUME_TABLE_FULL);
+    CHECK(frame(SPARE, SINGLE, wrap - 1) == TECELUME_TABLE_FULL && send_message(SPARE, wrap - 1) == TECELUME_TABLE_FULL);
+    CHECK(frame(1, SINGLE | 1, 10) == TECELUME_HANDED_OUT && send_message(0, 10) == TECELUME_SUCCESS);
+    CHECK(frame(SPARE, SINGLE, 11 + TWO_SECONDS) == TECELUME_HANDED_OUT && send_message(SPARE, 10 + TWO_SECONDS) == TECELUME_SUCCESS);
+    begin_full(wrap - 2 - TWO_SECONDS);
+    CHECK(frame(SPARE, SINGLE, wrap - 2) == TECELUME_TABLE_FULL && frame(SPARE, SINGLE, wrap - 1) == TECELUME_HANDED_OUT);
+    CHECK(send_message(SPARE, wrap - 3) == TECELUME_TABLE_FULL && send_message(SPARE, wrap - 2) == TECELUME_SUCCESS);
+}
+
+static void signature_zero(void)
+{
+    struct topic t = message(TYPE);
+    CHECK(tecelume_signature(TECELUME_KIND_MESSAGE, TYPE) == 0 && tecelume_signature(TECELUME_KIND_SERVICE, 341) == 0);
+    CHECK(tecelume_signature(TECELUME_KIND_SERVICE + 1, 341) == 0);
+    CHECK(tecelume_signature(TECELUME_KIND_MESSAGE, 341) != 0 && tecelume_signature(TECELUME_KIND_MESSAGE, 1) != 0);
+    CHECK(tecelume_signature(TECELUME_KIND_MESSAGE, 16370) != 0 && tecelume_signature(TECELUME_KIND_MESSAGE, 16383) != 0);
+    CHECK(tecelume_signature(TECELUME_KIND_SERVICE, 1) != 0);
+    begin();
+    CHECK(setup_under(0) == TECELUME_SUCCESS);
+    CHECK(frame(SOURCE, SINGLE, 0) == TECELUME_HANDED_OUT);
+    CHECK(tecelume_frames(send_signed(&t, 20, signature, 0, sizeof records)) == 4);
+    CHECK(tecelume_number(carry(4, TWO_SECONDS + 1)) == TECELUME_CHECKSUM_DIFFERS);
+    begin();
+    CHECK(tecelume_frames(send_signed(&t, 20, 0, 0, sizeof records)) == 4);
+    CHECK(tecelume_number(carry(4, 0)) == TECELUME_CHECKSUM_DIFFERS);
+    CHECK(tecelume_frames(send_signed(&t, 20, signature, 0, sizeof records)) == 4);
+    CHECK(tecelume_number(carry(4, 0)) == TECELUME_HANDED_OUT);
+}
+
+/* The transfer ID that a send gives, which each of its tail bytes has too. */
+static uint32_t sent_id(const struct topic *t, size_t length, uint64_t time)
+{
+    tecelume_result result = send_signed(t, length, signature, time, sizeof records);
+    CHECK(tecelume_number(result) == TECELUME_SUCCESS && tecelume_frames(result) > 0);
+    for (size_t i = 0; i < tecelume_frames(result); i++) {
+        const uint8_t *record = records + i * TECELUME_RECORD_SIZE;
+        CHECK((tecelume_record_data(record)[tecelume_record_length(record) - 1] & TRANSFER_ID) == tecelume_transfer_id(result));
+    }
+    return tecelume_transfer_id(result);
+}
+
+static void transfer_id_of_a_send(void)
+{
+    struct topic response = {OWN, TECELUME_RESPONSE, SERVICE, SOURCE, 0}, anonymous = message(3);
+    begin();
+    anonymous.own = 0;
+    for (uint32_t i = 0; i < 2 * TRANSFER_IDS + 1; i++) {
+        struct topic t = message(TYPE);
+        CHECK(sent_id(&t, i * 7, 0) == i % TRANSFER_IDS);
+        CHECK(sent_id(&anonymous, 7, 0) == i % TRANSFER_IDS);
+        response.transfer_id = i % TRANSFER_IDS;
+        CHECK(sent_id(&response, 20, 0) == i % TRANSFER_IDS);
+    }
+    response.transfer_id = TRANSFER_IDS;
+    tecelume_result refused = send_topic(&response, 0);
+    CHECK(tecelume_number(refused) == TECELUME_NOT_SENDABLE && tecelume_transfer_id(refused) == 0 && tecelume_frames(refused) == 0);
+}
+
+/* A node asks and hears its answer under the transfer ID that its send gave. */
+static void client_and_server(void)
+{
+    struct topic request = {OWN, TECELUME_REQUEST, SERVICE, SOURCE, 0}, response = {SOURCE, TECELUME_RESPONSE, SERVICE, OWN, 0};
+    begin();
+    for (uint32_t i = 0; i < 3; i++) {
+        uint32_t asked = sent_id(&request, 20, 0);
+        response.transfer_id = asked;
+        sent_id(&response, 20, 0);
+        tecelume_result answer = carry(4, 0);
+        CHECK(tecelume_number(answer) == TECELUME_HANDED_OUT && tecelume_transfer_type(answer) == TECELUME_RESPONSE);
+        CHECK(tecelume_transfer_id(answer) == asked && asked == i && tecelume_source(answer) == SOURCE);
+    }
+}
+
+static void topics_of_the_map(void)
+{
+    struct topic request = {SOURCE, TECELUME_REQUEST, SERVICE, 5, 0}, elsewhere = request, first = message(1), second = message(2);
+    struct topic renamed = first, anonymous = first, as_response = request;
+    begin();
+    elsewhere.destination = 6;
+    renamed.own = SOURCE + 1;
+    anonymous.own = 0;
+    as_response.transfer_type = TECELUME_RESPONSE;
+    CHECK(sent_id(&first, 0, 0) == 0 && sent_id(&renamed, 0, 0) == 1 && sent_id(&anonymous, 0, 0) == 2);
+    CHECK(sent_id(&second, 0, 1) == 0 && sent_id(&request, 0, 1) == 0 && sent_id(&elsewhere, 0, 1) == 0 && sent_id(&request, 0, 1) == 1);
+    for (uint32_t type_id = 4; type_id < TECELUME_MAP_ENTRIES_MAX; type_id++)
+        CHECK(send_message(type_id, 1) == TECELUME_SUCCESS);
+    CHECK(send_message(SPARE, 1) == TECELUME_TABLE_FULL);
+    CHECK(sent_id(&as_response, 0, 1) == 0);
+}
+
+/* The first topic is replaced and comes back; one that kept its entry goes on. */
+static void topic_replaced(void)
+{
+    struct topic first = message(0), second = message(1), last = message(TECELUME_MAP_ENTRIES_MAX - 1), other = message(SPARE);
+    begin_full(0);
+    CHECK(sent_id(&first, 0, 0) == 1 && sent_id(&second, 0, 0) == 1);
+    CHECK(sent_id(&other, 0, TWO_SECONDS) == 0 && sent_id(&other, 0, TWO_SECONDS) == 1);
+    CHECK(sent_id(&first, 0, TWO_SECONDS) == 0 && sent_id(&first, 0, TWO_SECONDS) == 1);
+    CHECK(sent_id(&second, 0, TWO_SECONDS) == 0);
+    CHECK(sent_id(&last, 0, 100 * (uint64_t)TWO_SECONDS) == 1);
+}
+
+static void send_size(void)
+{
+    struct topic t = message(TYPE);
+    begin();
+    for (size_t n = 0; n <= LONGEST; n++) {
+        CHECK(tecelume_number(send_signed(&t, n, signature, 0, TECELUME_SEND_SIZE(n) - 1)) == TECELUME_OUTPUT_TOO_SMALL);
+        tecelume_result result = send_signed(&t, n, signature, 0, TECELUME_SEND_SIZE(n));
+        CHECK(tecelume_number(result) == TECELUME_SUCCESS && tecelume_frames(result) * TECELUME_RECORD_SIZE == TECELUME_SEND_SIZE(n));
+    }
+    CHECK(TECELUME_SEND_SIZE(LONGEST) == TECELUME_FRAMES_MAX * TECELUME_RECORD_SIZE);
+}
+
+/* Each number of a refused reception; receive_into checks what it leaves. */
+static void refused_receptions(void)
+{
+    static const struct {
+        uint32_t number, id;
+        size_t length, room;
+        uint8_t tail;
+    } rows[] = {
+        {2, 0x20000000, 1, sizeof out, SINGLE},
+        {3, TYPE << 8 | SOURCE, 0, sizeof out, 0},
+        {3, TYPE << 8 | SOURCE, 9, sizeof out, SINGLE},
+        {4, SERVICE << 16 | OWN << 8 | 0x80, 1, sizeof out, SINGLE},
+        {5, TYPE << 8 | SOURCE, 1, sizeof out, SINGLE | TOGGLE},
+        {6, SERVICE << 16 | SPARE << 8 | 0x80 | SOURCE, 1, sizeof out, SINGLE},
+        {7, OTHER_TYPE << 8 | SOURCE, 1, sizeof out, SINGLE},
+        {8, TYPE << 8 | SOURCE, 1, sizeof out - 1, SINGLE},
+        {9, TYPE << 8 | SOURCE, 1, sizeof out, SINGLE},
+    };
+    begin_full(0);
+    CHECK(frame(1, START | 1, 0) == TECELUME_TAKEN);
+    for (size_t i = 0; i < sizeof rows / sizeof rows[0]; i++) {
+        uint8_t data[9] = {0};
+        if (rows[i].length > 0)
+            data[rows[i].length - 1] = rows[i].tail;
+        CHECK(tecelume_number(receive_into(rows[i].room, rows[i].id, data, rows[i].length, 0)) == rows[i].number);
+    }
+    state[0] = 128;
+    CHECK(frame(1, TOGGLE | 1, 0) == TECELUME_STATE_FAULT);
+}
+
+/* Each number of a refused send; send_signed checks what it leaves. */
+static void refused_sends(void)
+{
+    struct topic known = message(0), other = message(SPARE), wrong = message(0);
+    wrong.own = 128;
+    begin_full(0);
+    CHECK(tecelume_number(send_signed(&known, 20, signature, 0, TECELUME_SEND_SIZE(20) - 1)) == TECELUME_OUTPUT_TOO_SMALL);
+    CHECK(tecelume_number(send_topic(&other, 0)) == TECELUME_TABLE_FULL);
+    CHECK(tecelume_number(send_signed(&known, LONGEST + 1, signature, 0, sizeof records)) == TECELUME_PAYLOAD_TOO_LONG);
+    CHECK(tecelume_number(send_topic(&wrong, 0)) == TECELUME_NOT_SENDABLE);
+    CHECK(sent_id(&known, 0, 0) == 1);
+    map[0] ^= 2; /* a message's destination */
+    CHECK(tecelume_number(send_topic(&known, 0)) == TECELUME_STATE_FAULT);
+}
+
+/* What 20 names, at the places of docs/ARCHITECTURE.md; and a value in range, which is not noticed. */
+static void faults(void)
+{
+    enum { STREAMS = 1032, CONTROLS = 1160, FIELD = 4, EXPECTED = 2, TOGGLE_OF = 3 };
+    begin_full(0);
+    state[CONTROLS + EXPECTED] = TRANSFER_IDS;
+    CHECK(frame(SOURCE, SINGLE, 0) == TECELUME_STATE_FAULT);
+    begin_full(0);
+    state[CONTROLS + TOGGLE_OF] = 1;
+    CHECK(frame(SOURCE, SINGLE, 0) == TECELUME_STATE_FAULT);
+    begin_full(0);
+    memcpy(state + STREAMS, state + STREAMS + FIELD, FIELD);
+    CHECK(frame(SOURCE, SINGLE, 0) == TECELUME_STATE_FAULT);
+    begin_full(0);
+    memcpy(map, map + FIELD, FIELD);
+    CHECK(send_message(0, 0) == TECELUME_STATE_FAULT);
+    begin_full(0);
+    state[0] = SPARE;
+    CHECK(frame(1, SINGLE | 1, 0) == TECELUME_HANDED_OUT);
+}
+
+static void new_setup(void)
+{
+    begin();
+    CHECK(frame(SOURCE, SINGLE, 0) == TECELUME_HANDED_OUT);
+    CHECK(frame(SOURCE, SINGLE, 0) == TECELUME_PASSED_OVER);
+    CHECK(frame(SOURCE, START | 1, 0) == TECELUME_TAKEN);
+    CHECK(setup_under(signature) == TECELUME_SUCCESS);
+    CHECK(frame(SOURCE, TOGGLE | 1, 0) == TECELUME_PASSED_OVER);
+    CHECK(frame(SOURCE, SINGLE, 0) == TECELUME_HANDED_OUT);
+}
+
+/* Message 1000 and service 7, subscribed to in both orders. */
+static void order_of_subscriptions(void)
+{
+    static const uint32_t ids[] = {TYPE << 8 | SOURCE, SERVICE << 16 | OWN << 8 | 0x80 | SOURCE, OTHER_TYPE << 8 | SOURCE};
+    enum { IDS = sizeof ids / sizeof ids[0] };
+    uint64_t words[2][IDS];
+    const uint8_t tail = SINGLE;
+    for (unsigned turn = 0; turn < 2; turn++) {
+        uint8_t list[2 * TECELUME_SUBSCRIPTION_SIZE];
+        uint8_t *other = list + (1 - turn) * TECELUME_SUBSCRIPTION_SIZE;
+        tecelume_subscription(list + turn * TECELUME_SUBSCRIPTION_SIZE, TECELUME_KIND_MESSAGE, TYPE, signature);
+        tecelume_subscription(other, TECELUME_KIND_SERVICE, SERVICE, signature);
+        CHECK(tecelume_setup(state, sizeof state, OWN, list, sizeof list) == TECELUME_SUCCESS);
+        for (unsigned i = 0; i < IDS; i++)
+            words[turn][i] = receive_into(sizeof out, ids[i], &tail, 1, 0).word;
+    }
+    CHECK(memcmp(words[0], words[1], sizeof words[0]) == 0);
+}
+
+static const struct {
+    const char *name;
+    void (*holds)(void);
+} sentences[] = {
+    {"header_and_library", header_and_library},
+    {"old_from_last_start_taken", old_from_last_start_taken},
+    {"session_at_two_seconds", session_at_two_seconds},
+    {"entry_at_two_seconds", entry_at_two_seconds},
+    {"rest_of_a_transfer_too_long", rest_of_a_transfer_too_long},
+    {"forty_nodes", forty_nodes},
+    {"never_set_up", never_set_up},
+    {"repeat_after_the_wrap", repeat_after_the_wrap},
+    {"places_after_the_wrap", places_after_the_wrap},
+    {"signature_zero", signature_zero},
+    {"transfer_id_of_a_send", transfer_id_of_a_send},
+    {"client_and_server", client_and_server},
+    {"topics_of_the_map", topics_of_the_map},
+    {"topic_replaced", topic_replaced},
+    {"send_size", send_size},
+    {"refused_receptions", refused_receptions},
+    {"refused_sends", refused_sends},
+    {"faults", faults},
+    {"new_setup", new_setup},
+    {"order_of_subscriptions", order_of_subscriptions},
+};
+
+int main(int count, char **words)
+{
+    const char *wanted = count > 1 ? words[1] : NULL;
+    bool list = wanted != NULL && strcmp(wanted, "--list") == 0;
+    unsigned tried = 0;
+    for (size_t i = 0; i < sizeof sentences / sizeof sentences[0]; i++) {
+        sentence = sentences[i].name;
+        if (list)
+            puts(sentence);
+        else if (wanted == NULL || strcmp(wanted, sentence) == 0) {
+            sentences[i].holds();
+            tried++;
+        }
+    }
+    if (list)
+        return 0;
+    printf("%u sentences of the header hold\n", tried);
+    return tried == 0;
+}

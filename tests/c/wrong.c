@@ -1,0 +1,211 @@
+/* Wrong libraries for header.c. The linker puts these functions in front of the true ones (--wrap); the environment's WRONG names the one
+ * thing that is wrong, or is the number of the one call whose answer is. tests/c/sentences says which sentence each must break. */
+#include <stdbool.h>
+#include <stdio.h>
+#include <stdlib.h>
+#include <string.h>
+
+#include "tecelume.h"
+
+enum { START = 0x80, TRANSFER_ID = 31, ID_AT = 55, OTHER = 99 /* a number that no call answers */ };
+
+static bool is(const char *name)
+{
+    const char *wrong = getenv("WRONG");
+    return wrong != NULL && strcmp(wrong, name) == 0;
+}
+
+/* The right answer, or the wrong one if this is the call. */
+static uint64_t answer(uint64_t right, uint64_t wrong)
+{
+    static unsigned calls;
+    char number[16];
+    snprintf(number, sizeof number, "%u", ++calls);
+    if (!is(number))
+        return right;
+    fprintf(stderr, "call %u is answered wrongly\n", calls);
+    return wrong;
+}
+
+/* One more or one less, but for the time 0. */
+static uint64_t shifted(const char *later, const char *earlier, uint64_t time)
+{
+    return time == 0 ? 0 : time + is(later) - is(earlier);
+}
+
+/* A time of 32 bits that wraps, in 64. */
+static uint64_t unwrapped(uint64_t time)
+{
+    static uint64_t last, wraps;
+    wraps += time < last;
+    last = time;
+    return time + (wraps << 32);
+}
+
+/* ---- numbers ---- */
+
+uint32_t __real_tecelume_version(void);
+uint32_t __wrap_tecelume_version(void)
+{
+    uint32_t version = __real_tecelume_version();
+    return (uint32_t)answer(version, version + 1);
+}
+
+uint64_t __real_tecelume_receiver_size(void);
+uint64_t __wrap_tecelume_receiver_size(void)
+{
+    uint64_t size = __real_tecelume_receiver_size();
+    return answer(size, size + 1);
+}
+
+uint64_t __real_tecelume_map_size(void);
+uint64_t __wrap_tecelume_map_size(void)
+{
+    uint64_t size = __real_tecelume_map_size();
+    return answer(size, size + 1);
+}
+
+uint64_t __real_tecelume_signature(uint32_t kind, uint32_t type_id);
+uint64_t __wrap_tecelume_signature(uint32_t kind, uint32_t type_id)
+{
+    uint64_t signature = __real_tecelume_signature(kind, type_id);
+    return answer(signature, signature == 0);
+}
+
+/* ---- setup ---- */
+
+static uint32_t own_set_up;
+
+uint32_t __real_tecelume_setup(uint8_t *state, size_t state_len, uint32_t own, const uint8_t *list, size_t list_len);
+uint32_t __wrap_tecelume_setup(uint8_t *state, size_t state_len, uint32_t own, const uint8_t *list, size_t list_len)
+{
+    static const uint8_t zero[8];
+    static bool again;
+    if (is("setup-keeps-sessions") && again)
+        return TECELUME_SUCCESS;
+    if (is("setup-wants-a-signature") && list_len > 0 && memcmp(list + 5, zero, sizeof zero) == 0)
+        return TECELUME_SETUP_REFUSED;
+    if (is("first-subscription-only") && list_len > 0)
+        list_len = TECELUME_SUBSCRIPTION_SIZE;
+    again = true;
+    own_set_up = own;
+    uint32_t number = __real_tecelume_setup(state, state_len + is("short-state-set-up"), own, list, list_len);
+    return (uint32_t)answer(number, OTHER);
+}
+
+uint32_t __real_tecelume_map_setup(uint8_t *map, size_t map_len);
+uint32_t __wrap_tecelume_map_setup(uint8_t *map, size_t map_len)
+{
+    uint32_t number = __real_tecelume_map_setup(map, map_len + is("short-map-set-up"));
+    return (uint32_t)answer(number, OTHER);
+}
+
+/* ---- reception ---- */
+
+/* The number in place of the right one. */
+static uint32_t reception(uint32_t number, const uint8_t *state)
+{
+    static bool dropped;
+    dropped |= number == TECELUME_PAYLOAD_TOO_LONG;
+    if (is("rest-is-taken") && dropped && number == TECELUME_PASSED_OVER)
+        return TECELUME_TAKEN;
+    if (is("unheard-unsubscribed") && number == TECELUME_TABLE_FULL)
+        return TECELUME_NO_SUBSCRIPTION;
+    if (is("zeros-at-fault") && state[0] == 0 && number == TECELUME_NO_SUBSCRIPTION)
+        return TECELUME_STATE_FAULT;
+    if (is("fault-not-seen") && number == TECELUME_STATE_FAULT)
+        return TECELUME_PASSED_OVER;
+    return is("own-id-guarded") && state[0] != own_set_up ? (uint32_t)TECELUME_STATE_FAULT : number;
+}
+
+static void touch(uint32_t number, uint8_t *state, uint8_t *out, size_t out_len)
+{
+    if (is("output-touched") && number != TECELUME_HANDED_OUT && out_len > 0)
+        out[0] ^= 1;
+    if (is("output-touched-after-payload") && number == TECELUME_HANDED_OUT)
+        out[out_len - 1] ^= 1;
+    if (is("refusal-touches-state") && number >= TECELUME_ID_TOO_LARGE && number <= TECELUME_TABLE_FULL)
+        state[TECELUME_RECEIVER_SIZE - 1] ^= 1;
+}
+
+uint64_t __real_tecelume_receive_word(uint8_t *state, size_t state_len, uint32_t id, const uint8_t *frame, size_t frame_len, uint64_t time,
+                                      uint8_t *out, size_t out_len);
+uint64_t __wrap_tecelume_receive_word(uint8_t *state, size_t state_len, uint32_t id, const uint8_t *frame, size_t frame_len, uint64_t time,
+                                      uint8_t *out, size_t out_len)
+{
+    static uint64_t taken, counted; /* when the last start was taken, and from when the wrong age counts */
+    bool start = frame_len > 0 && (frame[frame_len - 1] & START) != 0;
+    uint64_t seen = shifted("session-old-too-early", "session-old-too-late", start ? time : time - (counted - taken));
+    if (is("session-wraps-counted"))
+        seen = unwrapped(time);
+    uint64_t word = __real_tecelume_receive_word(state, state_len, id, frame, frame_len, seen, out, out_len);
+    uint32_t number = (uint32_t)(word & 255), wrong = reception(number, state);
+    if (start && number <= TECELUME_HANDED_OUT)
+        taken = counted = time;
+    if (start ? is("age-from-last-start-seen") : is("age-from-last-frame"))
+        counted = time;
+    touch(number, state, out, out_len);
+    return answer(wrong == number ? word : wrong, OTHER);
+}
+
+/* ---- sending ---- */
+
+/* Lets a type's transfer IDs go on even where its entry was replaced. */
+static uint64_t going_on(uint32_t type_id, uint64_t word, uint8_t *out)
+{
+    static uint8_t sent[65536];
+    size_t frames = (size_t)(word >> 8 & 127);
+    uint64_t transfer_id = sent[type_id]++ & TRANSFER_ID;
+    for (size_t i = 0; i < frames; i++) {
+        uint8_t *record = out + i * TECELUME_RECORD_SIZE;
+        uint8_t *tail = record + 4 + tecelume_record_length(record);
+        *tail = (uint8_t)((*tail & ~TRANSFER_ID) | (uint8_t)transfer_id);
+    }
+    return frames << 8 | transfer_id << ID_AT;
+}
+
+/* The word in place of the right one. */
+static uint64_t dispatch(uint64_t word, uint32_t type_id, bool was_empty, uint8_t *map, uint8_t *out, size_t out_len)
+{
+    uint32_t number = (uint32_t)(word & 255);
+    if (is("zero-map-at-fault") && was_empty)
+        return TECELUME_STATE_FAULT;
+    if (is("map-fault-not-seen") && number == TECELUME_STATE_FAULT)
+        return TECELUME_TABLE_FULL;
+    if (is("refused-send-touches-map") && number != TECELUME_SUCCESS)
+        map[TECELUME_MAP_SIZE - 1] ^= 1;
+    if (is("refused-send-touches-output") && number != TECELUME_SUCCESS)
+        out[0] ^= 1;
+    if (is("output-touched-after-records") && number == TECELUME_SUCCESS)
+        out[out_len - 1] ^= 1;
+    if (is("refusal-tells-an-id") && number != TECELUME_SUCCESS)
+        return word | (uint64_t)1 << ID_AT;
+    if (is("replaced-topic-goes-on") && number == TECELUME_SUCCESS)
+        return going_on(type_id, word, out);
+    return is("transfer-id-not-told") ? word & 0x7FFF : word;
+}
+
+uint64_t __real_tecelume_send_word(uint8_t *map, size_t map_len, uint32_t own, uint32_t transfer_type, uint32_t type_id,
+                                   uint32_t destination, uint32_t priority, const uint8_t *payload, size_t payload_len, uint64_t signature,
+                                   uint64_t time, uint32_t transfer_id, uint32_t discriminator, uint8_t *out, size_t out_len);
+uint64_t __wrap_tecelume_send_word(uint8_t *map, size_t map_len, uint32_t own, uint32_t transfer_type, uint32_t type_id,
+                                   uint32_t destination, uint32_t priority, const uint8_t *payload, size_t payload_len, uint64_t signature,
+                                   uint64_t time, uint32_t transfer_id, uint32_t discriminator, uint8_t *out, size_t out_len)
+{
+    static const uint8_t empty[TECELUME_MAP_SIZE];
+    bool was_empty = memcmp(map, empty, sizeof empty) == 0;
+    uint64_t seen = is("entry-wraps-counted") ? unwrapped(time) : shifted("entry-replaced-too-early", "entry-replaced-too-late", time);
+    if (is("own-id-in-the-topic") && own != 0)
+        type_id += own * 100;
+    if (is("destination-not-in-the-topic") && transfer_type == TECELUME_REQUEST)
+        destination = 1;
+    if (is("response-in-the-map") && transfer_type == TECELUME_RESPONSE)
+        transfer_type = TECELUME_REQUEST;
+    if (is("response-under-another-id") && transfer_type == TECELUME_RESPONSE)
+        transfer_id = (transfer_id + 1) & TRANSFER_ID;
+    if (is("more-room-asked"))
+        out_len -= 1;
+    uint64_t word = __real_tecelume_send_word(map, map_len, own, transfer_type, type_id, destination, priority, payload, payload_len,
+                                              signature, seen, transfer_id, discriminator, out, out_len + is("less-room-asked"));
+    return answer(dispatch(word, type_id, was_empty, map, out, out_len), OTHER);
+}

@@ -1,0 +1,10 @@
+//! The second implementation against the rules (docs/RULES.md): sample values, published examples
+//! and the edges of each rule.
+
+mod allocation_log;
+mod checksums;
+mod lent_state;
+mod log_program;
+mod reception;
+mod sending;
+mod serialization;
