@@ -1,4 +1,5 @@
-/* Tecelume: UAVCAN v0 (DroneCAN) transfers from CAN 2.0B frames, and frames from transfers. Link libtecelume.a.
+/* Tecelume: UAVCAN v0 (DroneCAN) transfers from CAN 2.0B frames, and frames from transfers. Compile tecelume.c beside
+ * your program, or link libtecelume.a (x86-64 Linux).
  *
  * A receiver lives in bytes that the caller lends to every call, and so does the map that a sender counts transfers in. The library
  * allocates nothing, has no globals and keeps no pointer past a call. Every call accepts every input and ends; what it cannot take it
@@ -17,9 +18,7 @@
  * each number in it is in its range and that no two entries are alike. One that fails is refused and stays as it was; set it up again.
  * So whatever others wrote there, no call reaches outside the lent buffers. A write that leaves all numbers in range is not noticed: it
  * counts as what was received or sent before. A stream recovers from that with its next start that is taken; the own ID and the
- * subscriptions do not recover.
- *
- * The archive is for x86-64 Linux only. */
+ * subscriptions do not recover. */
 #ifndef TECELUME_H
 #define TECELUME_H
 
