@@ -1,8 +1,11 @@
 """One function: its statements as C.
 
 A temporary that is always used exactly once, before anything else happens, is put in where it is used: its assignment waits in `pending`.
-Any other statement that comes while it waits shows that it is no such temporary: it goes to `bad`, and the function is translated again
-without it."""
+What shows that it must not be put in is noted, and the function is translated again:
+
+- A statement comes while it waits, or it is used where it does not wait: it is no such temporary (`spoilt`).
+- C would not keep the order of a call and a read: this one assignment is made where it stands (`keeping`). Its use must come in the same
+  body, where nothing else can have set the temporary."""
 import re
 
 from exprs import Expr, mixed
@@ -18,6 +21,8 @@ class Body(Values):
         self.exported = function.symbol in program.entries
         self.local_names = self.choose_names()
         self.large_targets = {s[3].local for s in function.statements if self.is_large(s)}
+        written = [whole(target(s)) for s in function.statements if target(s)]
+        self.unread = {i for i in written if i and mentions(function.body, i) == written.count(i)}
         self.candidates = {i for i in range(len(self.types)) if self.is_candidate(i)}
 
     def choose_names(self):
@@ -43,12 +48,14 @@ class Body(Values):
 
     def text(self):
         while True:
-            self.pending, self.bad, self.used, self.lines, self.label, self.failed = {}, set(), set(), Lines(), 0, None
-            self.made, self.order = [0] * len(self.types), {}
+            self.pending, self.keeping, self.spoilt, self.failed = {}, set(), set(), None
+            self.used, self.lines, self.label = set(), Lines(), 0
+            self.made, self.order, self.kept_in = [0] * len(self.types), {}, {}
             self.run(self.function.body, ())
-            if not self.bad:
+            if not self.keeping and not self.spoilt:
                 break
-            self.known |= self.bad
+            self.kept |= self.keeping
+            self.candidates -= self.spoilt
         if self.failed:
             refuse('a pointer', self.failed)
         return self.head() + self.lines.text(self.declarations(), self.opening())
@@ -91,15 +98,17 @@ class Body(Values):
     # ---- statements
 
     def run(self, body, targets):
-        """targets: what `exit` counts, innermost last: ('loop' or 'block', label, whether `break` leaves it)"""
+        """targets: what `exit` counts, innermost last: ('loop' or 'block', label, whether `continue` or `break` reaches it)"""
         for s in body:
+            self.here = body
             if s[0] in ('block', 'loop', 'exit'):
                 self.flush()
             getattr(self, 'do_' + s[0])(s, targets)
         self.flush()
 
     def flush(self):
-        self.bad |= {(i, self.made[i]) for i in self.pending}
+        """Nothing may wait any longer."""
+        self.spoilt |= set(self.pending)
         self.pending = {}
 
     def do_assign(self, s, _):
@@ -113,12 +122,16 @@ class Body(Values):
     def assign(self, place, e):
         i = whole(place)
         if i is not None:
-            if i in self.pending:
-                self.keep(self.pending.pop(i))
+            self.spoilt |= {i} & set(self.pending)
             self.made[i] += 1
-            if i in self.candidates and (i, self.made[i]) not in self.known:
+            if i in self.candidates and (i, self.made[i]) not in self.kept:
                 self.wait(i, e)
                 return
+            self.kept_in[i, self.made[i]] = self.here
+        if i in self.unread:
+            self.flush()
+            self.lines.put(f'(void){e.inner()};')
+            return
         to = self.place(place)
         if e.kind == 'calls' and any(step[0] == 'deref' for step in place.steps):
             self.keep(e)
@@ -228,7 +241,7 @@ class Body(Values):
         self.flush()
         symbol = number.type[1] if number.type[0] == 'tag' else None
         self.lines.open(f'switch ({number.text}) {{')
-        inside = tuple((kind, label, False) for kind, label, _ in targets)
+        inside = tuple((kind, label, at_hand and kind == 'loop') for kind, label, at_hand in targets)
         labels = [[self.shapes.tag(symbol, k) if symbol else f'{k}u' for k in keys] for keys, _ in arms]
         bodies = [body for _, body in arms] + ([default] if default is not None else [])
         texts = [' '.join(f'case {one}:' for one in keys) for keys in labels] + ['default:']
@@ -245,15 +258,18 @@ class Body(Values):
             self.lines.put('break;')
 
     def do_block(self, s, targets):
-        """A block around a loop alone is one with it: leaving the block is `break`."""
-        if len(s[1]) != 1 or s[1][0][0] != 'loop':
-            refuse('a block that is not around a loop', s)
+        """A block around a loop alone is one with it, and any other a loop of one turn: leaving either is `break`."""
         self.label += 1
         label = f'end_{self.label}'
-        outer = tuple((kind, name, False) for kind, name, _ in targets)
-        self.lines.open('for (;;) {')
-        self.run(s[1][0][1], outer + (('block', label, True), ('loop', None, True)))
-        self.lines.close('}')
+        inside = tuple((kind, name, False) for kind, name, _ in targets) + (('block', label, True),)
+        if len(s[1]) == 1 and s[1][0][0] == 'loop':
+            self.lines.open('for (;;) {')
+            self.run(s[1][0][1], inside + (('loop', None, True),))
+            self.lines.close('}')
+        else:
+            self.lines.open('do {')
+            self.run(s[1], inside)
+            self.lines.close('} while (0);')
         if self.lines.has(f'goto {label};'):
             self.lines.label(f'{label}:;')
 
@@ -264,7 +280,7 @@ class Body(Values):
         """exit counts blocks and loops: 0 in a loop is its next turn."""
         if s[1] >= len(targets):
             refuse('an exit', s)
-        kind, label, by_break = targets[-1 - s[1]]
-        if kind == 'loop' and s[1] != 0:
+        kind, label, at_hand = targets[-1 - s[1]]
+        if kind == 'loop' and not at_hand:
             refuse('an exit to the next turn of an outer loop', s)
-        self.lines.put('continue;' if kind == 'loop' else 'break;' if by_break else f'goto {label};')
+        self.lines.put('continue;' if kind == 'loop' else 'break;' if at_hand else f'goto {label};')

@@ -12,7 +12,7 @@ class Values:
         self.types = list(function.types)
         self.constants = self.constant_locals()
         self.type_raw_pointers()
-        self.candidates, self.known = set(), set()
+        self.candidates, self.kept = set(), set()
 
     # ---- before
 
@@ -84,8 +84,8 @@ class Values:
         if i in self.pending:
             at = self.pending.pop(i)
         else:
-            if i in self.candidates and (i, self.made[i]) not in self.known:
-                self.bad.add((i, self.made[i]))
+            if i in self.candidates and self.kept_in.get((i, self.made[i])) is not self.here:
+                self.spoilt.add(i)
             self.used.add(i)
             text = self.storage.base.get(i) or self.constants.get(i) or self.local_names[i]
             shared = self.function.in_memory[i] or i in self.storage.base
@@ -241,4 +241,4 @@ class Values:
 
     def keep(self, e):
         """e is not put in where it is used: in the next round it has a variable."""
-        self.bad |= {e.own} if e.own else e.temps
+        self.keeping |= {e.own} if e.own else e.temps
