@@ -22,7 +22,7 @@ class Unsupported(Exception):
 
 
 def refuse(what, term):
-    raise Unsupported(f'{what} is not supported: {str(term)[:200]}')
+    raise Unsupported(f'not supported: {what} {str(term)[:200]}')
 
 
 class Place(NamedTuple):

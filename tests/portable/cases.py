@@ -1,6 +1,7 @@
 """The translator's cases: tiny Rattle programs (cases/src), proved and compiled by rt, beside the same programs as C.
 
 The sources have the ending .txt, as every file of Rattle in this repository belongs to a crate of crates.txt."""
+import hashlib
 import pathlib
 import shutil
 import subprocess
@@ -18,20 +19,35 @@ sys.setrecursionlimit(100000)
 
 
 def prove():
-    """Proves the cases, for their MIR, and makes rt's archive of them, which proves them again: side by side."""
+    """Proves the cases, for their MIR, and makes rt's archive of them, which proves them again: side by side. Not again, if nothing
+    changed."""
+    stamp, state = HOME / 'stamp', digest()
+    if stamp.is_file() and stamp.read_text() == state:
+        return
     runs = [(copy(HOME / name), words) for name, words in (('check', ['rt', 'check', 'cases']), ('archive', ['rt', 'staticlib', 'cases']))]
     started = [subprocess.Popen(words, cwd=at, stdout=subprocess.PIPE, stderr=subprocess.STDOUT, text=True) for at, words in runs]
     for process in started:
         said = process.communicate()[0]
         if process.returncode:
             sys.exit(f'{" ".join(process.args)} failed:\n{said[-3000:]}')
+    stamp.write_text(state)
+
+
+def digest():
+    """What the proof of the cases rests on: the toolchain and their text."""
+    version = subprocess.run(['rt', 'version'], capture_output=True, check=True).stdout
+    return hashlib.sha256(version + b''.join(path.read_bytes() for path in texts())).hexdigest()
+
+
+def texts():
+    return sorted((ROOT / 'tests' / 'portable' / 'cases').glob('*/*.txt'))
 
 
 def copy(home):
     """The cases as a repository of their own."""
     crate = home / 'crates' / 'cases'
     shutil.rmtree(crate, ignore_errors=True)
-    for path in sorted((ROOT / 'tests' / 'portable' / 'cases').glob('*/*.txt')):
+    for path in texts():
         to = crate / path.parent.name / path.stem
         if path.parent.name == 'proofs':
             to = to.with_suffix('') / 'Proof.antt'
@@ -146,7 +162,9 @@ def turn(name, result, types):
 
 def write_driver(out):
     entries = signatures()
-    (out / 'cases.h').write_text('#include <stdbool.h>\n#include <stddef.h>\n#include <stdint.h>\n' + '\n'.join(declaration(*e) for e in entries) + '\n')
+    includes = '#include <stdbool.h>\n#include <stddef.h>\n#include <stdint.h>\n'
+    both = '#ifdef __cplusplus\nextern "C" {\n#endif\n', '\n#ifdef __cplusplus\n}\n#endif\n'
+    (out / 'cases.h').write_text(includes + both[0] + '\n'.join(declaration(*e) for e in entries) + both[1])
     (out / 'as_c.h').write_text('\n'.join(declaration('c_' + e[0], *e[1:]) for e in entries) + '\n')
     (out / 'as_c.c').write_text('\n'.join(f'#define {e[0]} c_{e[0]}' for e in entries) + '\n#include "cases.c"\n')
     turns = '\n'.join('    for (int i = 0; i < 20000; i++) {\n        ' + '\n        '.join(turn(*e)) + '\n    }' for e in entries)
