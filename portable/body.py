@@ -50,7 +50,7 @@ class Body(Values):
         while True:
             self.pending, self.keeping, self.spoilt, self.failed = {}, set(), set(), None
             self.used, self.lines, self.label = set(), Lines(), 0
-            self.made, self.order, self.kept_in = [0] * len(self.types), {}, {}
+            self.made, self.kept_in = [0] * len(self.types), {}
             self.run(self.function.body, ())
             if not self.keeping and not self.spoilt:
                 break
@@ -152,7 +152,6 @@ class Body(Values):
                     self.keep(waiting)
         e.own = (i, self.made[i])
         e.temps |= {e.own}
-        self.order[e.own] = len(self.order)
         self.pending[i] = e
 
     def do_return(self, _s, _targets):

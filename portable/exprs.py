@@ -55,8 +55,9 @@ def comparison(c, negation, types=('int',)):
     return rule
 
 
-def arithmetic(c, grows=False, shift=False, types=('int',)):
-    """C computes with int what is smaller than int: such a result is cut to its width, and what may grow past int is computed unsigned."""
+def arithmetic(c, shift=False, types=('int',)):
+    """C computes with int what is smaller than int: such a result is cut to its width. None leaves int: sums and products fit their own
+    width, by the proofs, and 16 bits shifted by 15 have 31."""
     def rule(a, b):
         if a.type[0] not in types:
             refuse(f'the operator {c} on', a.type)
@@ -64,7 +65,7 @@ def arithmetic(c, grows=False, shift=False, types=('int',)):
         if a.type == ('bool',):
             return Expr(f'({left} {c} {right}) != 0', a.type, atom=False)
         if a.type[1] < 32:
-            return Expr(f'(uint{a.type[1]}_t)({"(uint32_t)" if grows else ""}{left} {c} {right})', a.type)
+            return Expr(f'(uint{a.type[1]}_t)({left} {c} {right})', a.type)
         times = (left, b.constant) if c == '*' and b.constant is not None else None
         return Expr(f'{left} {c} {right}', a.type, atom=False, times=times)
     return rule
@@ -73,13 +74,13 @@ def arithmetic(c, grows=False, shift=False, types=('int',)):
 OP2 = {
     ('Add', 'Unsigned'): arithmetic('+'),
     ('Sub', 'Unsigned'): arithmetic('-'),
-    ('Mul', 'Unsigned'): arithmetic('*', grows=True),
+    ('Mul', 'Unsigned'): arithmetic('*'),
     ('Div', 'Unsigned'): arithmetic('/'),
     ('Rem', 'Unsigned'): arithmetic('%'),
     ('And',): arithmetic('&', types=('int', 'bool')),
     ('Or',): arithmetic('|', types=('int', 'bool')),
     ('Xor',): arithmetic('^', types=('int', 'bool')),
-    ('Shl',): arithmetic('<<', grows=True, shift=True),
+    ('Shl',): arithmetic('<<', shift=True),
     ('Shr', 'Unsigned'): arithmetic('>>', shift=True),
     ('Eq',): comparison('==', '!=', types=('int', 'bool')),
     ('Ne',): comparison('!=', '==', types=('int', 'bool')),

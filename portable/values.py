@@ -232,12 +232,13 @@ class Values:
         return Expr(f'MAKE({self.shapes.c_type(type_)}){{ {{ {zero} }} }}', type_)
 
     def separate(self, parts):
-        """C does not say in which order operands are evaluated: where one calls, of those that call or read memory only the one that
-        MIR evaluates last may stand here."""
+        """C does not say in which order operands are evaluated. Of those that call or read memory, a call came first: what waited when it
+        came was kept. So it may not stand beside another."""
         moving = [p for p in parts if p.kind != 'stable']
-        if len(moving) > 1 and any(p.kind == 'calls' for p in moving):
-            for p in sorted(moving, key=lambda p: self.order.get(p.own, len(self.order)))[:-1]:
-                self.keep(p)
+        if len(moving) > 1:
+            for p in moving:
+                if p.kind == 'calls':
+                    self.keep(p)
 
     def keep(self, e):
         """e is not put in where it is used: in the next round it has a variable."""

@@ -179,8 +179,8 @@ def compile_and_run(out, compiler='gcc -std=c99', options=(), warnings=True):
     write_driver(out)
     sanitize = ['-g', '-O1', '-fsanitize=address,undefined', '-fno-sanitize-recover=all', *options]
     build = [[*compiler.split(), *(STRICT if warnings else ['-w']), *sanitize, '-c', 'as_c.c', '-o', 'as_c.o'],
-             ['gcc', '-std=c99', *sanitize, 'driver.c', '-c', '-o', 'driver.o'],
-             ['gcc', *sanitize, 'driver.o', 'as_c.o', ARCHIVE, '-o', 'driver'], ['./driver']]
+             ['clang' if 'clang' in compiler else 'gcc', '-std=c99', *sanitize, 'driver.c', '-c', '-o', 'driver.o'],
+             [compiler.split()[0], *sanitize, 'driver.o', 'as_c.o', ARCHIVE, '-o', 'driver'], ['./driver']]
     for words in build:
         done = subprocess.run(words, cwd=out, capture_output=True, text=True, check=False)
         if done.returncode:
