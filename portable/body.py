@@ -125,7 +125,9 @@ class Body(Values):
             self.spoilt |= {i} & set(self.pending)
             self.made[i] += 1
             if i in self.candidates and (i, self.made[i]) not in self.kept:
-                self.wait(i, e)
+                e.own = (i, self.made[i])
+                e.temps |= {e.own}
+                self.pending[i] = e
                 return
             self.kept_in[i, self.made[i]] = self.here
         if i in self.unread:
@@ -136,23 +138,12 @@ class Body(Values):
         if e.kind == 'calls' and any(step[0] == 'deref' for step in place.steps):
             self.keep(e)
         self.flush()
-        if e.fields and i is not None and self.storage.base.get(i) == '*result':
-            for name, part in e.fields:
-                if part != f'result->{name}':
-                    self.lines.put(f'result->{name} = {part};')
+        others = [(name, text, part) for name, text, part in e.fields or () if text != f'result->{name}']
+        if e.fields and to.text == '*result' and all(part.kind == 'stable' for _, _, part in others):
+            for name, text, _ in others:  # field by field, as none is read from what is written
+                self.lines.put(f'result->{name} = {text};')
         elif place.local not in self.constants and to.text != e.text:
             self.lines.put(f'{to.text} = {e.text};')
-
-    def wait(self, i, e):
-        """The assignment of a temporary waits. Before a call, what waits and reads memory must have happened; what reads locals may
-        wait on."""
-        if e.kind == 'calls':
-            for waiting in self.pending.values():
-                if waiting.kind != 'stable':
-                    self.keep(waiting)
-        e.own = (i, self.made[i])
-        e.temps |= {e.own}
-        self.pending[i] = e
 
     def do_return(self, _s, _targets):
         if self.types[0] == ('unit',) or self.storage.large:

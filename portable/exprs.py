@@ -11,7 +11,7 @@ class Expr:
         self.times = more.get('times')        # (text, n) of a product with the constant n
         self.deref = more.get('deref')        # of a pointer: the C lvalue that it points to
         self.constant = more.get('constant')  # the number, of a constant
-        self.fields = more.get('fields')      # of a struct that is made: its fields' names and texts
+        self.fields = more.get('fields')      # of a struct that is made: each field's name, text and value
         self.address = more.get('address', 'stable')  # the kind of its address
         self.temps = set()                    # the temporaries that were put in, each as (local, number of its assignment)
         self.own = None                       # the temporary that the whole expression is the value of

@@ -205,7 +205,7 @@ class Values:
             return again
         c, inner = self.shapes.c_type(type_), ', '.join(texts)
         return Expr(f'MAKE({c}){{ {{ {inner} }} }}' if type_[0] == 'array' else f'MAKE({c}){{ {inner} }}', type_,
-                    fields=list(zip(names, texts)) if type_[0] == 'named' else None)
+                    fields=list(zip(names, texts, parts)) if type_[0] == 'named' else None)
 
     def again(self, parts, texts, type_):
         """A slice made of pointer and length of one slice of the same type is that slice."""
@@ -232,8 +232,7 @@ class Values:
         return Expr(f'MAKE({self.shapes.c_type(type_)}){{ {{ {zero} }} }}', type_)
 
     def separate(self, parts):
-        """C does not say in which order operands are evaluated. Of those that call or read memory, a call came first: what waited when it
-        came was kept. So it may not stand beside another."""
+        """C does not say in which order operands are evaluated: a call may not stand beside what calls or reads memory."""
         moving = [p for p in parts if p.kind != 'stable']
         if len(moving) > 1:
             for p in moving:

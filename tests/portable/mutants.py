@@ -24,12 +24,11 @@ MUTANTS = [
     ('branches exchanged', 'body.py', "self.lines.open(f'if ({condition.text if yes else negated}) {{')", "self.lines.open(f'if ({negated if yes else condition.text}) {{')"),
     ('an arm that falls through', 'body.py', "            self.lines.put('break;')", "            pass"),
     ('calls and reads in any order', 'values.py', "if len(moving) > 1:", "if len(moving) > 9:"),
-    ('a read behind a call', 'body.py', "if waiting.kind != 'stable':", "if waiting.kind == 'calls':"),
-    ('a call behind a call', 'body.py', "if waiting.kind != 'stable':", "if waiting.kind == 'reads':"),
     ('a read of memory taken for one of a local', 'values.py', "'reads' if shared else 'stable'", "'stable'"),
     ('a value moved that is used again', 'copies.py', "if self.mentions(i, later) == 1 and", "if"),
     ('a result joined that is read later', 'copies.py', "if mentions(self.function.body, i) == 2 and", "if"),
     ('an argument not handed on', 'body.py', "if own and own.text != to.text:", "if False:"),
     ('a parameter changed that is used again', 'copies.py', "and parameter <= f.params and mentions(f.body, parameter) == 1", "and parameter <= f.params"),
+    ('fields written that others are read from', 'body.py', "and all(part.kind == 'stable' for _, _, part in others):", "and True:"),
     ('NULL moved on', 'body.py', "{name}_ptr != NULL ? {name}_ptr : &{none}", "{name}_ptr"),
 ]
