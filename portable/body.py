@@ -9,7 +9,7 @@ What shows that it must not be put in is noted, and the function is translated a
 import re
 
 from exprs import Expr, mixed
-from layout import Lines
+from layout import Lines, fold
 from mir import Place, mentions, refuse, target, whole
 from shapes import c_name, safe
 from values import Values
@@ -70,7 +70,7 @@ class Body(Values):
                 params += self.parameter(self.types[i], self.local_names[i])
         result = 'void' if self.storage.large else c_type(self.types[0])
         name = f'{result} {f.symbol.split("::")[-1]}' if self.exported else f'static {result} {c_name(f.symbol)}'
-        return f'{name}({", ".join(params) or "void"})\n'
+        return fold(f'{name}({", ".join(params) or "void"})') + '\n'
 
     def parameter(self, type_, name):
         """One parameter in C. C passes a slice to an exported function as two, as the header declares them."""

@@ -1,5 +1,6 @@
 """The lines of one function: where its locals are declared, and how long lines are folded."""
 import re
+import textwrap
 
 WIDTH = 120
 
@@ -52,7 +53,7 @@ class Lines:
             else:
                 depth, line = self.lines[at]
                 self.lines[at] = (depth, declaration + line.removeprefix(name))
-        top += [f'    {line}' for line in opening]
+        top += [fold(f'    {line}') for line in opening]
         body = [fold('    ' * depth + line) for depth, line in self.lines]
         return '\n'.join(['{'] + top + ([''] if top and body else []) + body + ['}'])
 
@@ -76,6 +77,11 @@ class Lines:
             return None
         line = self.lines[at[0]][1]
         return at[0] if line.startswith(f'{name} = ') and not word.search(line[len(name):]) else None
+
+
+def comment(text):
+    """A comment above what it is of; nothing where there is no text."""
+    return textwrap.fill(text, WIDTH, initial_indent='/* ', subsequent_indent=' * ') + ' */\n' if text else ''
 
 
 def fold(line):

@@ -1,6 +1,7 @@
 """The whole C file: which functions, in which order, and what stands at its top."""
 from body import Body
 from copies import Storage
+from layout import comment
 from mir import calls, refuse, whole
 from shapes import Shapes, c_name
 from sources import exports
@@ -61,9 +62,8 @@ class Program:
         texts = []
         for function in self.reached():
             self.storage[function.symbol] = Storage(self, function)
-            comment = self.sources.comments.get(function.symbol)
             text = self.table(function) or Body(self, function).text()
-            texts.append((f'/* {comment} */\n' if comment else '') + text)
+            texts.append(comment(self.sources.comments.get(function.symbol)) + text)
         top = f'#include "{header}"\n\n#include <stdbool.h>\n#include <stddef.h>\n#include <stdint.h>'
         types = list(self.shapes.definitions.values()) + list(self.shapes.makers.values())
         return '\n\n'.join([head, top, MAKE] + types + sorted(self.helpers) + texts) + '\n'
@@ -78,6 +78,6 @@ class Program:
             return None
         self.tables[function.symbol] = c_name(function.symbol)
         numbers = [f'0x{v[2]:0{v[1] // 4}X}u' if v[1] < 64 else f'UINT64_C(0x{v[2]:016X})' for v in values]
-        row = 512 // (8 + values[0][1])
+        row = {8: 16, 16: 12, 32: 8, 64: 4}[values[0][1]]
         rows = ',\n    '.join(', '.join(numbers[i:i + row]) for i in range(0, len(numbers), row))
         return f'static const {self.shapes.c_type(type_)} {c_name(function.symbol)} = {{ {{\n    {rows}\n}} }};'

@@ -2,6 +2,7 @@
 it is a value), a struct as a struct, an enum without fields as an enum, and any other as its tag beside a union of the variants' fields."""
 import re
 
+from layout import comment
 from mir import refuse
 
 KEYWORDS = set('''auto break case char const continue default do double else enum extern float for goto if inline int long register restrict
@@ -69,7 +70,7 @@ class Shapes:
         if t[0] == 'array':
             return self.define(f'array_{self.short(t[1])}_{t[2]}', lambda: self.struct([self.member(t[1], f'a[{t[2]}]')]))
         if t[0] == 'named':
-            return self.define(c_name(t[1]), lambda: self.declaration(t[1]), self.sources.comments.get(t[1]))
+            return self.define(c_name(t[1]), lambda: self.declaration(t[1]), comment(self.sources.comments.get(t[1])))
         return refuse('the type', t)
 
     def short(self, t):
@@ -79,10 +80,10 @@ class Shapes:
         c = self.c_type(t)
         return f'{c}{"" if c.endswith("*") else " "}{name};'
 
-    def define(self, name, body, comment=None):
+    def define(self, name, body, above=''):
         if name not in self.definitions:
             text = body()
-            self.definitions[name] = (f'/* {comment} */\n' if comment else '') + f'typedef {text} {name};'
+            self.definitions[name] = f'{above}typedef {text} {name};'
         return name
 
     def struct(self, members):

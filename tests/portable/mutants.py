@@ -13,7 +13,7 @@ MUTANTS = [
     ('fields exchanged where a struct is made', 'values.py', "        again = self.again(", "        texts[:2] = texts[1::-1] if type_[0] == 'named' else texts[:2]\n        again = self.again("),
     ('fields exchanged where one is read', 'values.py', "field, t = self.shapes.fields(type_[1])[k]", "field, t = self.shapes.fields(type_[1])[k ^ 1 if k < 2 else k]"),
     ('elements exchanged', 'values.py', "wanted = [type_[1]] * type_[2]", "wanted, parts = [type_[1]] * type_[2], parts[::-1]"),
-    ('a table from its end', 'program.py', "        row = 512", "        numbers = numbers[::-1]\n        row = 512"),
+    ('a table from its end', 'program.py', "        row = {8", "        numbers = numbers[::-1]\n        row = {8"),
     ('bytes for elements', 'values.py', "index = n.times[0]", "index = n.text"),
     ('a constant offset off by one', 'values.py', "{n.constant // size}u", "{n.constant // size + 1}u"),
     ('a variant taken for another', 'body.py', "self.shapes.tag(symbol, k) if symbol", "self.shapes.tag(symbol, -1 - k) if symbol"),
