@@ -8,6 +8,9 @@ static void hang(void)
     }
 }
 
-__attribute__((section(".vectors"), used)) static const void *const vectors[16] = {
-    stack_top, (const void *)_start, (const void *)hang, (const void *)hang, (const void *)hang, (const void *)hang, (const void *)hang,
+struct vectors {
+    char *stack;
+    void (*handlers[15])(void);
 };
+
+__attribute__((section(".vectors"), used)) static const struct vectors vectors = {stack_top, {_start, hang, hang, hang, hang, hang}};
