@@ -68,6 +68,8 @@ class Body(Values):
         for i in range(1, f.params + 1):
             if i != self.storage.owned:
                 params += self.parameter(self.types[i], self.local_names[i])
+        if self.exported and self.types[0][0] not in ('int', 'bool', 'unit'):
+            refuse('an exported function that gives', self.types[0])
         result = 'void' if self.storage.large else c_type(self.types[0])
         name = f'{result} {f.symbol.split("::")[-1]}' if self.exported else f'static {result} {c_name(f.symbol)}'
         return fold(f'{name}({", ".join(params) or "void"})') + '\n'
@@ -77,18 +79,20 @@ class Body(Values):
         if self.exported and type_[0] == 'slice':
             return [self.shapes.member(('ref',) + type_[1:], name + '_ptr')[:-1], f'size_t {name}_len']
         if self.exported and type_[0] not in ('int', 'bool'):
-            refuse(f'an exported function with a parameter of', type_)
+            refuse('an exported function with a parameter of', type_)
         return [self.shapes.member(type_, name)[:-1]]
 
     def opening(self):
-        """The slices of an exported function. NULL + 0 is not defined in C, so an empty one points to a local."""
+        """The slices of an exported function, and the parameters that nothing reads. NULL + 0 is not defined in C, so an empty slice points
+        to a local."""
         slices = [i for i in range(1, self.function.params + 1) if self.types[i][0] == 'slice'] if self.exported else []
         lines = sorted({f'{self.shapes.c_type(self.types[i][2])} none_{self.shapes.short(self.types[i][2])} = 0;' for i in slices})
         for i in slices:
             c, name = self.shapes.c_type(self.types[i]), self.local_names[i]
             none = f'none_{self.shapes.short(self.types[i][2])}'
             lines.append(f'{c} {name} = MAKE({c}){{ {name}_ptr != NULL ? {name}_ptr : &{none}, {name}_len }};')
-        return lines
+        ignored = [i for i in range(1, self.function.params + 1) if i not in self.used and i != self.storage.owned]
+        return lines + [f'(void){self.local_names[i]};' for i in ignored]
 
     def declarations(self):
         """Name: declaration, of each local of its own."""

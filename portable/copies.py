@@ -77,7 +77,8 @@ class Storage:
         """The locals that may point into local i."""
         found = set()
         while True:
-            new = {target(s).local for s in self.function.statements if target(s) and (self.takes_address(s, i) or any(mentions(s[2], p) for p in found))}
+            new = {target(s).local for s in self.function.statements
+                   if target(s) and (self.takes_address(s, i) or any(mentions(s[2], p) for p in found))}
             new = {k for k in new if self.program.holds_pointer(self.function.types[k])}
             if new <= found:
                 return found

@@ -20,9 +20,9 @@ typedef char int_has_at_most_32_bits[sizeof(int) <= 4 ? 1 : -1];'''
 class Program:
     def __init__(self, library, sources):
         self.functions, self.sources = library.functions, sources
-        self.entries = [f'{library.name}::{name}' for name in exports(library.interface())]
+        self.entries = [self.exported(library.name, name) for name in exports(library.interface())]
         if not self.entries:
-            refuse('a library without a function that C may call', library.name)
+            refuse('a library without a function that C may call,', library.name)
         declared = {}
         for function in self.functions.values():
             for name, what in function.declared.items():
@@ -32,6 +32,11 @@ class Program:
         self.size, self.holds_pointer = self.shapes.size, self.shapes.holds_pointer
         self.storage, self.helpers = {}, set()
         self.tables = {}  # symbol of a function that gives an array of constants: the array's C name
+
+    def exported(self, crate, name):
+        """The symbol of an exported function, wherever in its crate it stands."""
+        found = [symbol for symbol in self.functions if symbol.split('::')[0] == crate and symbol.split('::')[-1] == name]
+        return found[0] if len(found) == 1 else refuse('an export that is not one function,', name)
 
     def reached(self):
         """The functions that the entries reach, callees first."""

@@ -25,7 +25,7 @@ class Shapes:
     def __init__(self, declared, sources):
         self.declared, self.sources = declared, sources
         self.definitions = {}  # C name: its text, in order
-        self.makers = {}       # (symbol, variant): the function that makes it
+        self.makers = {}       # name of a function that makes variants: its text
 
     # ---- names of fields and variants
 
@@ -104,15 +104,18 @@ class Shapes:
         tag = self.define(c_name(symbol) + '_tag', lambda: self.enumeration(symbol))
         return self.struct([f'{tag} tag;', 'union {', *rows, '} of;'])
 
-    def maker(self, symbol, k):
-        """The name of the function that makes a variant of an enum with fields. C++ has no compound literal of a union's member."""
+    def made(self, symbol, k, texts):
+        """The call that makes a variant of an enum with fields. One function makes all variants without; C++ has no compound literal of
+        a union's member."""
+        self.c_type(('named', symbol))
         name, types = self.variants(symbol)[k]
-        if (symbol, k) not in self.makers:
-            c, tag = self.c_type(('named', symbol)), self.tag(symbol, k)
-            params = ', '.join(self.member(t, f'f{i}')[:-1] for i, t in enumerate(types)) or 'void'
-            lines = [f'{c} made;', '', f'made.tag = {tag};'] + [f'made.of.{name}.f{i} = f{i};' for i in range(len(types))] + ['return made;']
-            self.makers[symbol, k] = f'static {c} make_{tag}({params})\n{{\n    ' + '\n    '.join(lines).replace('    \n', '\n') + '\n}'
-        return f'make_{self.tag(symbol, k)}'
+        c, tag = c_name(symbol), self.tag(symbol, k)
+        made = f'make_{tag}' if types else f'make_{c}'
+        params = [self.member(t, f'f{i}')[:-1] for i, t in enumerate(types)] or [f'{c}_tag tag']
+        fields = [f'made.of.{name}.f{i} = f{i};' for i in range(len(types))]
+        lines = [f'    {line}' for line in (f'made.tag = {tag if types else "tag"};', *fields, 'return made;')]
+        self.makers[made] = '\n'.join([f'static {c} {made}({", ".join(params)})', '{', f'    {c} made;', '', *lines, '}'])
+        return f'{made}({", ".join(texts or [tag])})'
 
     # ---- what copies.py asks
 

@@ -216,13 +216,12 @@ class Values:
 
     def variant(self, parts, type_):
         symbol, k = type_[1], parts[0].constant
-        if k is None or len(self.shapes.variants(symbol)[k][1]) != len(parts) - 1:
+        types = self.shapes.variants(symbol)[k][1] if k is not None else None
+        if types is None or len(types) != len(parts) - 1:
             refuse('the variant of', symbol)
-        self.shapes.c_type(type_)
         if self.shapes.is_plain(symbol):
             return Expr(self.shapes.tag(symbol, k), type_)
-        types = self.shapes.variants(symbol)[k][1]
-        return Expr(f'{self.shapes.maker(symbol, k)}({", ".join(self.convert(p, t).text for p, t in zip(parts[1:], types))})', type_)
+        return Expr(self.shapes.made(symbol, k, [self.convert(p, t).text for p, t in zip(parts[1:], types)]), type_)
 
     def repeat(self, part, count, type_):
         """C fills an array with zeros only."""

@@ -168,7 +168,7 @@ def write_driver(out):
     (out / 'as_c.h').write_text('\n'.join(declaration('c_' + e[0], *e[1:]) for e in entries) + '\n')
     (out / 'as_c.c').write_text('\n'.join(f'#define {e[0]} c_{e[0]}' for e in entries) + '\n#include "cases.c"\n')
     turns = '\n'.join('    for (int i = 0; i < 20000; i++) {\n        ' + '\n        '.join(turn(*e)) + '\n    }' for e in entries)
-    (out / 'driver.c').write_text(f'{DRIVER}int main(void)\n{{\n{turns}\n    printf("{len(entries)} cases, 20000 calls each: alike\\n");\n    return 0;\n}}\n')
+    (out / 'driver.c').write_text(f'{DRIVER}int main(void)\n{{\n{turns}\n    return 0;\n}}\n')
 
 
 STRICT = ['-Wall', '-Wextra', '-Wpedantic', '-Wconversion', '-Wshadow', '-Werror']
