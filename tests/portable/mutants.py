@@ -13,6 +13,10 @@ MUTANTS = [
     ('a negation that keeps high bits', 'exprs.py',
      "return Expr(f'(uint{a.type[1]}_t)~{a.inner()}', a.type)",
      "return Expr(f'(uint64_t)~(uint64_t){a.inner()}', a.type)"),
+    # MIR casts only what fits: no answer shows this one, -Wconversion does
+    ('a cast that keeps high bits', 'exprs.py',
+     "return Expr(f'(uint{width}_t){e.inner()}', ('int', width))",
+     "return Expr(f'(uint64_t){e.inner()}', ('int', width))"),
     ('a cast to fewer bits than asked', 'exprs.py',
      "return Expr(f'(uint{width}_t){e.inner()}', ('int', width))",
      "return Expr(f'(uint{min(width, 16)}_t){e.inner()}', ('int', width))"),
