@@ -38,12 +38,16 @@ def cast(e, width):
     return Expr(f'(uint{width}_t){e.inner()}', ('int', width))
 
 
+def exact(e):
+    """The text of e where C must know its width: a constant has none of its own."""
+    return cast(e, e.type[1]).text if e.constant is not None and e.type[0] == 'int' else e.inner()
+
+
 # ---- two operands. Each rule takes them as expressions of one type.
 
 def typed(a, b, shift=False):
     """The texts of both; a constant on the left takes its type where the right does not give it."""
-    left = cast(a, a.type[1]).text if a.constant is not None and (shift or b.constant is not None) else a.inner()
-    return left, b.inner()
+    return exact(a) if shift or b.constant is not None else a.inner(), b.inner()
 
 
 def comparison(c, negation, types=('int',)):
@@ -105,7 +109,7 @@ static uint32_t leading_zeros(uint64_t x, uint32_t bits)
 def negation(a):
     if a.type == ('bool',):
         return Expr(a.negated or '!' + a.inner(), a.type, atom=not a.negated, negated=a.text)
-    return Expr(f'(uint{a.type[1]}_t)~{a.inner()}', a.type)
+    return Expr(f'(uint{a.type[1]}_t)~{exact(a)}', a.type)
 
 
 def leading_zeros(a):

@@ -180,7 +180,7 @@ class Values:
             index = n.times[0]
         elif n.constant is not None and n.constant % size == 0:
             index = f'{n.constant // size}u'
-        else:  # perhaps the product was not put in here because another temporary of this round was bad
+        else:  # in this round; in the last one the product must be put in
             index, self.failed = n.text, f'{n.text} bytes on from {base.text} in {self.function.symbol}'
         at = f'{base.inner()}[{index}]'
         return Expr('&' + at, base.type, deref=at, atom=False)
@@ -188,9 +188,9 @@ class Values:
     def aggregate(self, parts, type_):
         if type_[0] == 'named' and self.shapes.declared[type_[1]][0] == 'variants':
             return self.variant(parts, type_)
-        names = None
+        names = ()
         if type_[0] == 'slice':
-            names, wanted = ['ptr', 'len'], [('ref',) + type_[1:], ('int', 64)]
+            wanted = [('ref',) + type_[1:], ('int', 64)]
         elif type_[0] == 'array':
             wanted = [type_[1]] * type_[2]
         elif type_[0] == 'named':
@@ -205,7 +205,7 @@ class Values:
             return again
         c, inner = self.shapes.c_type(type_), ', '.join(texts)
         return Expr(f'MAKE({c}){{ {{ {inner} }} }}' if type_[0] == 'array' else f'MAKE({c}){{ {inner} }}', type_,
-                    fields=list(zip(names, texts, parts)) if type_[0] == 'named' else None)
+                    fields=list(zip(names, texts, parts)))
 
     def again(self, parts, texts, type_):
         """A slice made of pointer and length of one slice of the same type is that slice."""
