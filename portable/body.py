@@ -11,6 +11,7 @@ import re
 from exprs import Expr, mixed
 from layout import Lines, fold
 from mir import Place, mentions, refuse, target, whole
+from returns import ends
 from shapes import c_name, safe
 from values import Values
 
@@ -248,7 +249,7 @@ class Body(Values):
     def arm(self, label, body, targets):
         self.lines.label(label)
         self.run(body, targets)
-        if not (body and body[-1][0] in ('return', 'exit')):
+        if not ends(body):
             self.lines.put('break;')
 
     def do_block(self, s, targets):

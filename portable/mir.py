@@ -156,6 +156,10 @@ class Function:
         if next(terms, None) is not None:
             refuse('a body with a rest', symbol)
         self.declared = {one['name']: read_shape(one['shape']) for one in term['types'] if one['lifetimes'] == 0}
+        self.note()
+
+    def note(self):
+        """Lists what the body has."""
         self.statements = [s for body in bodies(self.body) for s in body]
         self.places = list(places(self.body))
 

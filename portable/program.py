@@ -1,6 +1,7 @@
 """The whole C file: which functions, in which order, and what stands at its top."""
+import returns
 from body import Body
-from copies import Storage
+from copies import LARGE, Storage
 from layout import comment
 from mir import calls, refuse, whole
 from shapes import Shapes, c_name
@@ -66,6 +67,8 @@ class Program:
         """The file. header is the C header that declares the entries, head the comment at its top."""
         texts = []
         for function in self.reached():
+            if self.size(function.types[0]) <= LARGE:  # of larger results copies.py wants one place that returns
+                returns.early(function)
             self.storage[function.symbol] = Storage(self, function)
             text = self.table(function) or Body(self, function).text()
             texts.append(comment(self.sources.comments.get(function.symbol)) + text)
