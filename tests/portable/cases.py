@@ -1,11 +1,13 @@
 """The translator's cases: tiny Rattle programs (cases/src), proved and compiled by rt, beside the same programs as C.
 
 The sources have the ending .txt, as every file of Rattle in this repository belongs to a crate of crates.txt."""
+import functools
 import hashlib
 import pathlib
 import shutil
 import subprocess
 import sys
+import threading
 
 ROOT = pathlib.Path(__file__).resolve().parents[2]
 TRANSLATOR = ROOT / 'portable'
@@ -120,6 +122,7 @@ static void check(const char *name, bool same)
 '''
 
 
+@functools.lru_cache(None)
 def signatures():
     """Each entry of the cases: name, result type, parameter types."""
     from mir import Library
@@ -172,17 +175,29 @@ def write_driver(out):
 
 
 STRICT = ['-Wall', '-Wextra', '-Wpedantic', '-Wconversion', '-Wshadow', '-Werror']
+SANITIZE = ['-g', '-O1', '-fsanitize=address,undefined', '-fno-sanitize-recover=all']
+LOCK = threading.Lock()
 
 
-def compile_and_run(out, compiler='gcc -std=c99', options=(), warnings=True):
+def compile_and_run(out, compiler='gcc -std=c99', warnings=True):
     """None if the C of the cases does what rt's code does, or what went wrong."""
     write_driver(out)
-    sanitize = ['-g', '-O1', '-fsanitize=address,undefined', '-fno-sanitize-recover=all', *options]
-    build = [[*compiler.split(), *(STRICT if warnings else ['-w']), *sanitize, '-c', 'as_c.c', '-o', 'as_c.o'],
-             ['clang' if 'clang' in compiler else 'gcc', '-std=c99', *sanitize, 'driver.c', '-c', '-o', 'driver.o'],
-             [compiler.split()[0], *sanitize, 'driver.o', 'as_c.o', ARCHIVE, '-o', 'driver'], ['./driver']]
-    for words in build:
-        done = subprocess.run(words, cwd=out, capture_output=True, text=True, check=False)
+    words = compiler.split()
+    with LOCK:
+        main = driver('clang' if 'clang' in compiler else 'gcc')
+    for line in ([*words, *(STRICT if warnings else ['-w']), *SANITIZE, '-c', 'as_c.c', '-o', 'as_c.o'],
+                 [words[0], *SANITIZE, main, 'as_c.o', ARCHIVE, '-o', 'driver'], ['./driver']):
+        done = subprocess.run(line, cwd=out, capture_output=True, text=True, check=False)
         if done.returncode:
             return (done.stdout + done.stderr).strip() or f'status {done.returncode}'
     return None
+
+
+@functools.lru_cache(None)
+def driver(compiler):
+    """The driver, which is the same for every translator."""
+    out = HOME / f'driver_{compiler}'
+    out.mkdir(exist_ok=True)
+    write_driver(out)
+    subprocess.run([compiler, '-std=c99', *SANITIZE, '-c', 'driver.c', '-o', 'driver.o'], cwd=out, check=True)
+    return out / 'driver.o'
