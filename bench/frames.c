@@ -2,7 +2,6 @@
 
 #include <stdbool.h>
 #include <string.h>
-#include <time.h>
 
 const struct type types[TYPES] = {
     {TECELUME_KIND_MESSAGE, 341}, {TECELUME_KIND_MESSAGE, 1}, {TECELUME_KIND_MESSAGE, 16370}, {TECELUME_KIND_MESSAGE, 16383},
@@ -55,11 +54,4 @@ size_t make_transfer(const struct type *type, unsigned source, unsigned turn, un
         at += part;
     }
     return n;
-}
-
-double nanoseconds(void)
-{
-    struct timespec t;
-    clock_gettime(CLOCK_MONOTONIC, &t);
-    return (double)t.tv_sec * 1e9 + (double)t.tv_nsec;
 }

@@ -15,7 +15,10 @@
 #include "frames.h"
 #include "tecelume.h"
 
-enum { ROUNDS = 101, STEP = 100, OWN = 1, FIRST_SOURCE = 10, ROW_FRAMES_MAX = 20000, REFUSED = 10000 };
+#ifndef ROUNDS /* fewer where a run is an emulated one and each is like the other */
+#define ROUNDS 101
+#endif
+enum { STEP = 100, OWN = 1, FIRST_SOURCE = 10, ROW_FRAMES_MAX = 20000, REFUSED = 10000 };
 
 /* ---- the frames of a row ---- */
 

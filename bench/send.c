@@ -16,7 +16,10 @@
 #include "frames.h"
 #include "tecelume.h"
 
-enum { ROUNDS = 401, STEP = 100, OWN = 1, TURNS = 512, OTHER_TYPES = 1000, REFUSED = 10000 };
+#ifndef ROUNDS /* fewer where a run is an emulated one and each is like the other */
+#define ROUNDS 401
+#endif
+enum { STEP = 100, OWN = 1, TURNS = 512, OTHER_TYPES = 1000, REFUSED = 10000 };
 
 struct row {
     unsigned length;  /* of a payload */

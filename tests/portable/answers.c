@@ -1,0 +1,223 @@
+/* Random calls of every C entry, always the same ones, as a transcript of their answers: what the archive answers on a PC, the C file must
+ * answer on every machine. It uses nothing of a system but printf.
+ *
+ * Every FOLD calls a line has a digest of all answers so far, of the bytes that they left in the output buffer, and of all bytes of the
+ * states. At the end each entry's answers are counted, and each answer that can be given must have been. No two random numbers are drawn
+ * in one expression: C leaves the order of its operands to the compiler. */
+#include <stdbool.h>
+#include <stdio.h>
+#include <string.h>
+
+#include "tecelume.h"
+
+enum { CALLS = 100000, FOLD = 1000, LANES = 6, NODES = 2, TYPES = 6, NUMBERS = 21 };
+enum entry { SETUP, RECEIVE, MAP_SETUP, SEND, OTHERS, ENTRIES };
+
+static const char *const names[ENTRIES] = {"setup", "receive", "map_setup", "send", "others"};
+static const uint32_t must[ENTRIES] = {1u | 1u << 13 | 1u << 20, 0x1FFFu | 1u << 20, 1u | 1u << 20,
+                                       1u | 1u << 8 | 1u << 9 | 1u << 11 | 1u << 14 | 1u << 20, 1u};
+
+static uint8_t state[TECELUME_RECEIVER_SIZE];
+static uint8_t maps[NODES][TECELUME_MAP_SIZE];
+static uint8_t out[TECELUME_FRAMES_MAX * TECELUME_RECORD_SIZE];
+static uint8_t payload[600];
+static uint64_t now;
+static uint32_t own_id; /* of the receiver */
+
+/* The frames of a transfer on their way. */
+static struct lane {
+    uint8_t records[TECELUME_FRAMES_MAX * TECELUME_RECORD_SIZE];
+    size_t count, next;
+} lanes[LANES];
+
+/* ---- randomness, digest, counts ---- */
+
+static uint64_t seed = 1;
+
+static uint32_t below(uint32_t n)
+{
+    seed ^= seed << 13;
+    seed ^= seed >> 7;
+    seed ^= seed << 17;
+    return (uint32_t)((seed >> 16) % n);
+}
+
+static bool once_in(uint32_t n)
+{
+    return below(n) == 0;
+}
+
+static uint64_t digest = 14695981039346656037u;
+static uint32_t calls, counts[ENTRIES][NUMBERS];
+
+static void add(const uint8_t *bytes, size_t n)
+{
+    for (size_t i = 0; i < n; i++)
+        digest = (digest ^ bytes[i]) * 1099511628211u;
+}
+
+static void answered(enum entry entry, uint64_t word, size_t left)
+{
+    for (int i = 0; i < 64; i += 8)
+        digest = (digest ^ (word >> i & 255)) * 1099511628211u;
+    add(out, left);
+    counts[entry][entry == OTHERS ? 0 : tecelume_number(word) % NUMBERS]++;
+    if (++calls % FOLD == 0) {
+        add(state, sizeof state);
+        add(maps[0], sizeof maps);
+        printf("%6lu %08lx%08lx\n", (unsigned long)calls, (unsigned long)(digest >> 32), (unsigned long)(digest & 0xFFFFFFFFu));
+    }
+}
+
+/* ---- calls ---- */
+
+static uint64_t signature_of(uint32_t type_id)
+{
+    return (type_id + 1) * UINT64_C(0x9E3779B97F4A7C15);
+}
+
+/* Mostly within the limit. */
+static uint32_t number_to(uint32_t limit)
+{
+    return once_in(60) ? limit + 1 + below(3) : below(limit + 1);
+}
+
+static void set_up(void)
+{
+    uint8_t list[2 * TYPES * TECELUME_SUBSCRIPTION_SIZE], *next = list;
+    for (uint32_t i = 0; i < 2 * TYPES; i++)
+        next = tecelume_subscription(next, once_in(300) ? 2 : i % 2, i / 2, signature_of(i / 2));
+    if (once_in(10))
+        memcpy(list, list + sizeof list - TECELUME_SUBSCRIPTION_SIZE, TECELUME_SUBSCRIPTION_SIZE);
+    own_id = number_to(127);
+    size_t state_len = sizeof state - once_in(10);
+    size_t list_len = sizeof list - once_in(10);
+    answered(SETUP, tecelume_setup(state, state_len, own_id, list, list_len), 0);
+}
+
+static void set_up_map(void)
+{
+    uint8_t *map = maps[below(NODES)];
+    answered(MAP_SETUP, tecelume_map_setup(map, TECELUME_MAP_SIZE - once_in(5)), 0);
+}
+
+/* A payload of a random length, the short ones and the edges more often. */
+static size_t any_payload(void)
+{
+    static const size_t edges[] = {0, 1, 7, 8, 12, 13, 512, 513};
+    size_t length = once_in(8) ? edges[below(8)] : once_in(8) ? below(600) : below(30);
+    for (size_t i = 0; i < length; i++)
+        payload[i] = (uint8_t)below(256);
+    return length;
+}
+
+static void send_on(struct lane *lane)
+{
+    uint8_t *map = maps[below(NODES)];
+    uint32_t kind = number_to(2);
+    uint32_t own = number_to(127);
+    uint32_t type_id = once_in(20) ? number_to(65535) : below(own == 0 ? 4 : TYPES);
+    uint32_t destination = kind == 0 ? 0 : once_in(3) ? number_to(127) : own_id;
+    uint32_t priority = number_to(31);
+    uint32_t transfer_id = number_to(31);
+    uint32_t discriminator = below(16384);
+    size_t length = any_payload();
+    size_t out_len = once_in(10) ? below(200) : sizeof out;
+    uint64_t word = tecelume_send(map, TECELUME_MAP_SIZE, own, kind, type_id, destination, priority, payload, length,
+                                  signature_of(type_id), now, transfer_id, discriminator, out, out_len);
+    lane->count = tecelume_frames(word);
+    lane->next = 0;
+    memcpy(lane->records, out, lane->count * TECELUME_RECORD_SIZE);
+    answered(SEND, word, lane->count * TECELUME_RECORD_SIZE);
+}
+
+static void receive(uint32_t id, const uint8_t *data, size_t length)
+{
+    uint64_t word = tecelume_receive(state, sizeof state, id, data, length, now, out, once_in(50) ? below(512) : TECELUME_OUTPUT_SIZE);
+    answered(RECEIVE, word, tecelume_length(word));
+}
+
+/* The lane's next frame: as it was sent, damaged, twice or not at all. */
+static void pass_on(struct lane *lane)
+{
+    uint8_t *record = lane->records + lane->next * TECELUME_RECORD_SIZE;
+    if (once_in(40)) {
+        uint8_t *byte = record + below(TECELUME_RECORD_SIZE);
+        *byte ^= (uint8_t)(1u << below(8));
+    }
+    if (!once_in(60))
+        receive(tecelume_record_id(record), tecelume_record_data(record), tecelume_record_length(record) % 9);
+    if (!once_in(60))
+        lane->next++;
+}
+
+/* Any frame, or a long transfer that never ends. */
+static void receive_any(void)
+{
+    static uint8_t turn;
+    uint8_t data[9];
+    for (size_t i = 0; i < sizeof data; i++)
+        data[i] = (uint8_t)below(256);
+    if (once_in(3)) {
+        uint32_t id = below(0xFFFFFFFF);
+        id >>= below(8);
+        receive(id, data, below(10));
+    } else {
+        data[7] = turn == 0 ? 128 : turn % 2 * 32;
+        turn = (uint8_t)((turn + 1) % 80);
+        receive(0x10000000 | 2u << 8 | 120, data, 8);
+    }
+}
+
+static void damage(void)
+{
+    uint8_t *byte = once_in(2) ? state + below(once_in(2) ? 1288 : TECELUME_RECEIVER_SIZE) : maps[0] + below(sizeof maps);
+    *byte = (uint8_t)below(256);
+}
+
+static void ask(void)
+{
+    uint32_t kind = below(3);
+    uint32_t type_id = once_in(2) ? 341 : below(16400);
+    answered(OTHERS, tecelume_signature(kind, type_id), 0);
+    answered(OTHERS, tecelume_receiver_size() + tecelume_map_size(), 0);
+}
+
+static void step(void)
+{
+    struct lane *lane = lanes + below(LANES);
+    uint32_t which = below(1000);
+    now += once_in(3000) ? 2500000 : below(2000);
+    if (which < 2)
+        damage();
+    else if (which < 8)
+        set_up();
+    else if (which < 14)
+        set_up_map();
+    else if (which < 20)
+        ask();
+    else if (which < 250)
+        receive_any();
+    else if (lane->next < lane->count)
+        pass_on(lane);
+    else
+        send_on(lane);
+}
+
+int main(void)
+{
+    bool all = true;
+    while (calls < CALLS)
+        step();
+    for (int entry = 0; entry < ENTRIES; entry++) {
+        printf("%s:", names[entry]);
+        for (uint32_t number = 0; number < NUMBERS; number++) {
+            if (counts[entry][number] > 0)
+                printf(" %lu of %lu", (unsigned long)counts[entry][number], (unsigned long)number);
+            all = all && (counts[entry][number] > 0 || !(must[entry] >> number & 1));
+        }
+        printf("\n");
+    }
+    printf(all ? "every answer was given\n" : "an answer was NEVER given\n");
+    return !all;
+}
