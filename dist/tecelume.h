@@ -1,24 +1,29 @@
-/* Tecelume: UAVCAN v0 (DroneCAN) transfers from CAN 2.0B frames, and frames from transfers. Compile tecelume.c beside
- * your program, or link libtecelume.a (x86-64 Linux).
+/* Tecelume 0.1.0: UAVCAN v0 (DroneCAN) transfers from CAN 2.0B frames, and frames from transfers. For C99 and later, and C++11 and later.
  *
- * A receiver lives in bytes that the caller lends to every call, and so does the map that a sender counts transfers in. The library
- * allocates nothing, has no globals and keeps no pointer past a call. Every call accepts every input and ends; what it cannot take it
- * answers by number.
+ * The functions are in libtecelume.a, which is for x86-64 Linux only, and in tecelume.c, the same library as one file of portable C. This
+ * header goes with both. At the start of your program compare tecelume_version() with TECELUME_VERSION.
+ *
+ * A receiver is a block of bytes that the caller lends to every call, and so is the map in which a sender counts its transfers. The library
+ * allocates nothing, has no globals and keeps no pointer after a call. Every call accepts every input and ends; what it cannot take it
+ * answers by a number.
  *
  * A slice is two arguments, a pointer and a length in bytes. An empty slice may be (NULL, 0). No buffer needs an alignment.
  *
- * What the caller keeps to, since no call can check it:
+ * Rules for the caller, which no call can check:
  *
  * - Pointer and length belong together: that many bytes may be read and, where the pointer is not const, written.
  * - The buffers of one call do not overlap.
  * - One call at a time on one state or map. Calls on different ones do not touch each other.
- * - From setup on, nothing but the library writes the state or the map. Neither holds pointers, so a whole copy serves as well.
+ * - From setup on, nothing but the library writes the state or the map. Neither holds pointers, so a copy of the whole works as well.
  *
- * Answer 20 is the net under the last rule: tecelume_receive and tecelume_send first check that the state or map is long enough, that
- * each number in it is in its range and that no two entries are alike. One that fails is refused and stays as it was; set it up again.
- * So whatever others wrote there, no call reaches outside the lent buffers. A write that leaves all numbers in range is not noticed: it
- * counts as what was received or sent before. A stream recovers from that with its next start that is taken; the own ID and the
- * subscriptions do not recover. */
+ * Answer 20 helps where the last rule is broken. tecelume_receive and tecelume_send first check that the state or map is long enough, that
+ * no value in it is out of range, that no session has toggle 1 with nothing gathered, and that no two entries are alike. If the check fails
+ * they refuse and leave it as it was. So no call reaches outside the lent buffers, whatever was written there. A write that leaves every
+ * value in range is not noticed: it counts as what was received or sent before. A stream recovers from it at its next start that is taken;
+ * the own ID and the subscriptions do not recover. All zeros are in range: as a state they are a receiver without an ID or subscriptions,
+ * so memory that was never set up may answer 7 and not 20; as a map they are a map without entries.
+ *
+ * docs/RULES.md in the repository has all rules in numbered sections; "RULES 4.5" below is one of them. */
 #ifndef TECELUME_H
 #define TECELUME_H
 
@@ -29,6 +34,16 @@
 extern "C" {
 #endif
 
+/* ---- version ---- */
+
+#define TECELUME_VERSION_MAJOR 0
+#define TECELUME_VERSION_MINOR 1
+#define TECELUME_VERSION_PATCH 0
+#define TECELUME_VERSION (TECELUME_VERSION_MAJOR * 0x10000u + TECELUME_VERSION_MINOR * 0x100u + TECELUME_VERSION_PATCH)
+
+/* The version of the library. Header and library go together only if it equals TECELUME_VERSION; equal sizes do not show it. */
+uint32_t tecelume_version(void);
+
 /* ---- sizes in bytes ---- */
 
 #define TECELUME_RECEIVER_SIZE 17736   /* the state of a receiver */
@@ -37,36 +52,69 @@ extern "C" {
 #define TECELUME_RECORD_SIZE 13        /* a frame from tecelume_send: ID (4, low byte first), data length (1), data (8) */
 #define TECELUME_SUBSCRIPTION_SIZE 13  /* a subscription record: kind (1), type ID (4), signature (8), low bytes first */
 
+/* The output buffer of tecelume_send for a payload of n bytes, at most TECELUME_PAYLOAD_MAX. It is a constant if n is one, and evaluates n
+ * more than once. */
+#define TECELUME_SEND_SIZE(n) (TECELUME_RECORD_SIZE * ((size_t)(n) > 7 ? ((size_t)(n) + 8) / 7 : 1))
+
 /* ---- limits ---- */
 
 #define TECELUME_SUBSCRIPTIONS_MAX 64
-#define TECELUME_SESSIONS_MAX 32  /* streams that a receiver follows at once */
+#define TECELUME_SESSIONS_MAX 32     /* streams that a receiver follows at once */
+#define TECELUME_MAP_ENTRIES_MAX 32  /* topics that a map counts at once */
 #define TECELUME_PAYLOAD_MAX 512
-#define TECELUME_FRAMES_MAX 74    /* what a payload of that length is sent as */
+#define TECELUME_FRAMES_MAX 74       /* what a payload of that length is sent as */
 
 /* ---- the numbers answered ---- */
 
-/* Under 2 to 9, 13, 14 and 20 a call changes nothing. Under 10, 11 and 12 a reception changes at most the session of the frame's
- * stream; a send that answers 11 changes nothing. */
+/*  no.  meaning                                                                  what to do
+ *
+ *   0   setup, send: success                                                     -
+ *       receive: frame taken, its transfer is not finished                       go on with the next frame
+ *   1   receive: a transfer is complete, its payload is in out                   use the payload before the next call
+ *   2   receive: CAN ID of 2^29 or more                                          mask the driver's flags off: id & 0x1FFFFFFF
+ *   3   receive: no data bytes or more than 8                                    give data frames of CAN 2.0B only
+ *   4   receive: service with source or destination 0                            nothing: a faulty node or another protocol
+ *   5   receive: the tail byte does not fit the frame. A start with toggle 1;    nothing: a faulty node, another protocol or
+ *       anonymous, but not both start and end; no end, but under 8 bytes; an     another version of UAVCAN
+ *       end without start that has the tail byte alone
+ *   6   receive: service for another node                                        nothing: normal on a shared bus
+ *   7   receive: no subscription                                                 nothing; if it is wanted, set up with it
+ *   8   receive: out has under TECELUME_OUTPUT_SIZE bytes                        call again with more room
+ *       send: out has under TECELUME_SEND_SIZE(payload_len) bytes                the same
+ *   9   receive: start of a new stream, 32 sessions in use and none is old       subscribe to less; a later start may be taken
+ *       send: new topic, 32 entries in use, none unused for 2,000,000 or more    use fewer topics, or call again later
+ *  10   receive: passed over. A repeat; a part of a transfer whose start or an   nothing; if it is often, frames are lost or two
+ *       earlier frame was missed; the rest of a transfer that 11 dropped         nodes have the same ID
+ *  11   receive: payload over 512 bytes; the transfer is dropped                 nothing: too long for this library
+ *       send: payload over 512 bytes                                             send less
+ *  12   receive: the checksum differs; the transfer is dropped                   nothing; if always for one type, correct its
+ *                                                                                signature
+ *  13   setup: own ID or subscriptions not allowed                               correct the arguments
+ *  14   send: a value out of range, or an anonymous transfer that cannot be      correct the arguments
+ *  20   setup: state or map too short                                            lend more
+ *       receive, send: state or map too short, or it holds a value out of        set it up again, and look for what wrote over it
+ *       range, toggle 1 with nothing gathered, or two like entries
+ *
+ * Under 2 to 9, 13, 14 and 20 a call leaves state or map and out byte for byte as they were. Under 10, 11 and 12 tecelume_receive leaves
+ * out as it was and changes at most the session of the frame's stream; a tecelume_send that answers 11 changes nothing. */
 enum tecelume_answer {
-    TECELUME_SUCCESS = 0,            /* of setup and sending */
-    TECELUME_TAKEN = 0,              /* of tecelume_receive: frame taken, transfer unfinished */
-    TECELUME_HANDED_OUT = 1,         /* a transfer is complete, its payload is in the output buffer */
-    TECELUME_ID_TOO_LARGE = 2,       /* CAN ID of 2^29 or more */
-    TECELUME_DATA_LENGTH = 3,        /* no data bytes or more than 8 */
-    TECELUME_SERVICE_UNNAMED = 4,    /* service with source or destination 0 */
-    TECELUME_TAIL = 5,               /* start with toggle 1; anonymous and not both start and end; under 8 bytes and no end; end
-                                        without start and nothing but the tail */
-    TECELUME_OTHER_NODE = 6,         /* service for another node */
+    TECELUME_SUCCESS = 0, /* of setup and sending */
+    TECELUME_TAKEN = 0,   /* of tecelume_receive */
+    TECELUME_HANDED_OUT = 1,
+    TECELUME_ID_TOO_LARGE = 2,
+    TECELUME_DATA_LENGTH = 3,
+    TECELUME_SERVICE_UNNAMED = 4,
+    TECELUME_TAIL = 5,
+    TECELUME_OTHER_NODE = 6,
     TECELUME_NO_SUBSCRIPTION = 7,
-    TECELUME_OUTPUT_TOO_SMALL = 8,   /* reception: under TECELUME_OUTPUT_SIZE bytes; sending: under its records. The call may be made again */
-    TECELUME_TABLE_FULL = 9,         /* a new stream, every session is in use and none is old; sending: the same of the map */
-    TECELUME_PASSED_OVER = 10,       /* a repeat, or part of a transfer whose start or an earlier frame was missed */
-    TECELUME_PAYLOAD_TOO_LONG = 11,  /* over 512 bytes; the transfer is dropped */
-    TECELUME_CHECKSUM_DIFFERS = 12,  /* the transfer is dropped */
-    TECELUME_SETUP_REFUSED = 13,     /* own ID or subscriptions not allowed */
-    TECELUME_NOT_SENDABLE = 14,      /* sending: a number out of its range, or an anonymous transfer that cannot be */
-    TECELUME_STATE_FAULT = 20        /* the state or map is too short or holds what the library never writes */
+    TECELUME_OUTPUT_TOO_SMALL = 8,
+    TECELUME_TABLE_FULL = 9,
+    TECELUME_PASSED_OVER = 10,
+    TECELUME_PAYLOAD_TOO_LONG = 11,
+    TECELUME_CHECKSUM_DIFFERS = 12,
+    TECELUME_SETUP_REFUSED = 13,
+    TECELUME_NOT_SENDABLE = 14,
+    TECELUME_STATE_FAULT = 20
 };
 
 /* One line for each number up to 20, those of calls that are not in this header included. 19 is not in use. */
@@ -92,9 +140,31 @@ static inline const char *tecelume_text(uint32_t number)
     case 16: return "bytes or items too many";
     case 17: return "value not allowed";
     case 18: return "log line not well formed";
-    case 20: return "state too short or at fault";
+    case 20: return "state or map too short or at fault";
     default: return "unknown number";
     }
+}
+
+/* ---- results ---- */
+
+/* What tecelume_receive and tecelume_send give. It is a struct so that a comparison with a number does not compile: the number answered is
+ * only a part of it. The functions below read it. */
+typedef struct {
+    uint64_t word;
+} tecelume_result;
+
+/* The number answered. */
+static inline uint32_t tecelume_number(tecelume_result result)
+{
+    return (uint32_t)(result.word & 255);
+}
+
+/* The transfer ID, 0 to 31, after which a sender goes on with 0. Of tecelume_receive under 1: that of the transfer handed out. Of
+ * tecelume_send under 0: that of the frames; a client finds the response to its request by it, as a response has its request's. 0 under any
+ * other number. */
+static inline uint32_t tecelume_transfer_id(tecelume_result result)
+{
+    return (uint32_t)(result.word >> 55 & 31);
 }
 
 /* ---- setup ---- */
@@ -105,11 +175,16 @@ enum tecelume_kind {
 };
 
 /* The signature of a standard type: messages 341 (NodeStatus), 1 (Allocation), 16370 (KeyValue) and 16383 (LogMessage), service 1
- * (GetNodeInfo). 0 of any other kind or type ID. */
+ * (GetNodeInfo). 0 for any other kind or type ID.
+ *
+ * Check for 0. Setup and send accept every signature, 0 too. Single frames then come through, but transfers of several frames fail with 12:
+ * here, if a sender has the right signature, and at every receiver that has it. For a type of your own take the signature from the tool
+ * that reads its definition. */
 uint64_t tecelume_signature(uint32_t kind, uint32_t type_id);
 
-/* Writes a subscription record of TECELUME_SUBSCRIPTION_SIZE bytes and gives the place behind it, where the next one goes. It checks
- * nothing: setup does. A kind over 255 becomes 255, which setup refuses as well, lest it be cut to a kind that is allowed. */
+/* Writes a subscription record of TECELUME_SUBSCRIPTION_SIZE bytes and gives the place after it, where the next one goes. It checks
+ * nothing: setup does, except for the signature. A kind over 255 becomes 255, which setup refuses as well; cut to a byte it might become
+ * one that is allowed. */
 static inline uint8_t *tecelume_subscription(uint8_t *record, uint32_t kind, uint32_t type_id, uint64_t signature)
 {
     int i;
@@ -121,42 +196,73 @@ static inline uint8_t *tecelume_subscription(uint8_t *record, uint32_t kind, uin
     return record;
 }
 
-/* The bytes of a receiver's state, TECELUME_RECEIVER_SIZE. A program that compares the two knows that header and archive go together. */
+/* The bytes of a receiver's state, TECELUME_RECEIVER_SIZE. */
 uint64_t tecelume_receiver_size(void);
 
-/* Sets a receiver up.
+/* Sets a receiver up. To change the own ID or the subscriptions is a new setup: it loses all sessions, and with them what they have
+ * gathered and which transfers they would know as repeats.
  *
  * Takes    state          at least TECELUME_RECEIVER_SIZE bytes, with any content
  *          own            the own node ID, 1 to 127, or 0 for none yet: then no service frame is for this node
- *          subscriptions  records one behind another, at most TECELUME_SUBSCRIPTIONS_MAX, or none
- * Gives    0: the first TECELUME_RECEIVER_SIZE bytes of state are a receiver without sessions; bytes past them stay.
+ *          subscriptions  records one after another, at most TECELUME_SUBSCRIPTIONS_MAX, or none. Their order changes no answer; but
+ *                         where proofs speak of equal setups (RULES 14.2), the order counts
+ * Gives    0: the first TECELUME_RECEIVER_SIZE bytes of state are a receiver without sessions; bytes after them stay.
  * Refuses  20, state too short; then
  *          13, own over 127, a length that is no multiple of 13, too many records, a kind other than 0 and 1, a type ID over 65535
- *          (of a service over 255), or one kind and type twice, be it with different signatures.
+ *          (of a service over 255), or one kind and type twice, with equal or different signatures.
  * Costs    writes the whole state once and compares each two records. */
 uint32_t tecelume_setup(uint8_t *state, size_t state_len, uint32_t own, const uint8_t *subscriptions, size_t subscriptions_len);
 
+/* ---- time ---- */
+
+/* tecelume_receive and tecelume_send take the time in microseconds of any clock; every value is allowed. The age of a session or map entry
+ * is the call's time less the stored one, and 0 if the stored one is later. So a clock that runs back makes them seem younger. What is
+ * proved of the delivery of a stream asks for a clock that does not run back (RULES 14.6).
+ *
+ * A 32-bit timer of microseconds runs back when it wraps, after 71 minutes. What was stored before the wrap has age 0 for up to 71 minutes
+ * after it, and what was stored in the last two seconds before it never grows old; for a stream this ends with its next start that is
+ * taken, for a topic with its next send. Until then they keep their places, so that new streams and topics may answer 9, and a start with
+ * the transfer ID of the stream's last transfer is passed over, however late it comes. Count the wraps, and give the time in 64 bits. */
+
 /* ---- reception ---- */
+
+/* A stream is a transfer type, type ID, source and destination. A receiver follows each stream in a session of its own (RULES 4.3); only
+ * anonymous messages need none. Single frames use sessions too, by which repeats are known. A session begins with a start and keeps its
+ * place until it is old and the start of a new stream needs one. It is old once the last start taken of its stream is more than 2,000,000
+ * microseconds back, at exactly 2,000,000 not yet; frames that are no start, and starts that were passed over, do not count.
+ *
+ * There are TECELUME_SESSIONS_MAX sessions. So if 40 nodes send a message each second, 32 of them are heard, and the frames of the other 8
+ * answer 9. */
+
+/* Receives one frame as a result word (RULES 13.3), for callers in other languages. C programs call tecelume_receive. */
+uint64_t tecelume_receive_word(uint8_t *state, size_t state_len, uint32_t id, const uint8_t *frame, size_t frame_len, uint64_t time,
+                               uint8_t *out, size_t out_len);
 
 /* Receives one frame.
  *
  * Takes    state  as setup and earlier calls left it
- *          id     the 29-bit CAN ID without flags: of a SocketCAN frame with CAN_EFF_FLAG, can_id & CAN_EFF_MASK
+ *          id     the 29-bit CAN ID without flags. Leave out remote frames, error frames and frames with an 11-bit ID, as no call can tell
+ *                 them from others. From SocketCAN: can_id & CAN_EFF_MASK of the frames in which, of CAN_EFF_FLAG, CAN_RTR_FLAG and
+ *                 CAN_ERR_FLAG, only CAN_EFF_FLAG is set
  *          frame  the data bytes, the tail byte last
- *          time   when the frame came, in microseconds of any clock; every value is allowed. A session is old once its stream's last
- *                 start lies more than 2,000,000 back. A frame that seems earlier than that start counts as of age 0, so a clock that
- *                 runs back delays timeouts; what is proved of the delivery of a stream asks for one that does not
+ *          time   when the frame came, in microseconds: see above
  *          out    at least TECELUME_OUTPUT_SIZE bytes at every frame, as each may complete a transfer
- * Gives    a result word, to be read by the accessors below.
- *          1: the payload stands at the front of out, bytes past it stay. The word also says whose it is.
+ * Gives    a result, to be read by the functions above and below.
+ *          1: the payload is at the front of out, bytes after it stay. The result also says whose it is.
  *          0: the frame was taken and its transfer goes on.
- * Refuses  first match of 20, then 2 to 8, then 9; 10, 11 and 12 as the reception rules say. All leave out as it was, and so does 0.
+ * Refuses  20; then the first match of 2 to 8 (RULES 4.1); then 9 (4.3), 10 (4.5, 4.6), 11 and 12 (4.8). All leave out as it was, and so
+ *          does 0.
  * Costs    the check for 20, which grows with the subscriptions and sessions in use; a look at the session; the checksum, once, at the
- *          end of a multi-frame transfer. At most 3072 bytes of stack, besides what memcpy and its like take. */
-uint64_t tecelume_receive(uint8_t *state, size_t state_len, uint32_t id, const uint8_t *frame, size_t frame_len, uint64_t time,
-                          uint8_t *out, size_t out_len);
+ *          end of a transfer of several frames. In libtecelume.a at most 3072 bytes of stack, besides what memcpy and its like take. */
+static inline tecelume_result tecelume_receive(uint8_t *state, size_t state_len, uint32_t id, const uint8_t *frame, size_t frame_len,
+                                               uint64_t time, uint8_t *out, size_t out_len)
+{
+    tecelume_result result;
+    result.word = tecelume_receive_word(state, state_len, id, frame, frame_len, time, out, out_len);
+    return result;
+}
 
-/* ---- the result word of tecelume_receive ---- */
+/* ---- the transfer that tecelume_receive handed out: with a number other than 1 each gives 0 ---- */
 
 enum tecelume_transfer {
     TECELUME_MESSAGE = 0,
@@ -164,65 +270,64 @@ enum tecelume_transfer {
     TECELUME_RESPONSE = 2
 };
 
-/* The number answered, also by tecelume_send. */
-static inline uint32_t tecelume_number(uint64_t result)
-{
-    return (uint32_t)(result & 255);
-}
-
-/* The others, up to Sending, describe the transfer handed out; with a number other than 1 they give 0. */
-
 /* Bytes of payload, 0 to 512. */
-static inline size_t tecelume_length(uint64_t result)
+static inline size_t tecelume_length(tecelume_result result)
 {
-    return (size_t)(result >> 8 & 1023);
+    return (size_t)(result.word >> 8 & 1023);
 }
 
 /* TECELUME_MESSAGE, TECELUME_REQUEST or TECELUME_RESPONSE. */
-static inline uint32_t tecelume_transfer_type(uint64_t result)
+static inline uint32_t tecelume_transfer_type(tecelume_result result)
 {
-    return (uint32_t)(result >> 18 & 3);
+    return (uint32_t)(result.word >> 18 & 3);
 }
 
-static inline uint32_t tecelume_type_id(uint64_t result)
+static inline uint32_t tecelume_type_id(tecelume_result result)
 {
-    return (uint32_t)(result >> 20 & 65535);
+    return (uint32_t)(result.word >> 20 & 65535);
 }
 
 /* The sending node, 0 for an anonymous message. */
-static inline uint32_t tecelume_source(uint64_t result)
+static inline uint32_t tecelume_source(tecelume_result result)
 {
-    return (uint32_t)(result >> 36 & 127);
+    return (uint32_t)(result.word >> 36 & 127);
 }
 
 /* The own ID for a request or response, 0 for a message. */
-static inline uint32_t tecelume_destination(uint64_t result)
+static inline uint32_t tecelume_destination(tecelume_result result)
 {
-    return (uint32_t)(result >> 43 & 127);
+    return (uint32_t)(result.word >> 43 & 127);
 }
 
 /* Of the frame that completed the transfer; 0 is the highest. */
-static inline uint32_t tecelume_priority(uint64_t result)
+static inline uint32_t tecelume_priority(tecelume_result result)
 {
-    return (uint32_t)(result >> 50 & 31);
-}
-
-/* 0 to 31, after which a sender goes on with 0. */
-static inline uint32_t tecelume_transfer_id(uint64_t result)
-{
-    return (uint32_t)(result >> 55 & 31);
+    return (uint32_t)(result.word >> 50 & 31);
 }
 
 /* ---- sending ---- */
 
+/* The transfer-ID map counts the messages and requests that a node sends. It has TECELUME_MAP_ENTRIES_MAX entries, each for one topic:
+ * transfer type, type ID and destination. The own ID is no part of it, and anonymous messages share the entry of named ones. An entry has
+ * the next transfer ID and the time of the last send. A new topic takes the first empty entry, else the first that was unused for 2,000,000
+ * microseconds or longer, exactly 2,000,000 included, and counts from 0; else the send answers 9. A topic that was replaced counts from 0
+ * again when it comes back. One that still has its entry goes on, however long it was unused. Responses use no entry. */
+
 /* The bytes of a transfer-ID map, TECELUME_MAP_SIZE. */
 uint64_t tecelume_map_size(void);
 
-/* Makes the first TECELUME_MAP_SIZE bytes of map a transfer-ID map without an entry; bytes past them stay.
+/* Sets a map up.
  *
- * Gives    0.
- * Refuses  20, map too short; it stays as it was. */
+ * Takes    map  at least TECELUME_MAP_SIZE bytes, with any content
+ * Gives    0: the first TECELUME_MAP_SIZE bytes of map are a map without entries; bytes after them stay.
+ * Refuses  20, map too short; it stays as it was.
+ * Costs    writes the map once. */
 uint32_t tecelume_map_setup(uint8_t *map, size_t map_len);
+
+/* Sends as a result word (RULES 13.3), for callers in other languages. C programs call tecelume_send. */
+uint64_t tecelume_send_word(uint8_t *map, size_t map_len, uint32_t own, uint32_t transfer_type, uint32_t type_id, uint32_t destination,
+                            uint32_t priority, const uint8_t *payload, size_t payload_len, uint64_t signature, uint64_t time,
+                            uint32_t transfer_id, uint32_t discriminator, uint8_t *out, size_t out_len);
 
 /* Turns a payload into the frames of a transfer. It puts nothing on a bus.
  *
@@ -233,24 +338,31 @@ uint32_t tecelume_map_setup(uint8_t *map, size_t map_len);
  *          destination    0 for a message, 1 to 127 for a service
  *          priority       0, the highest, to 31
  *          payload        at most TECELUME_PAYLOAD_MAX bytes
- *          signature      of the data type; it enters the checksum of a payload over 7 bytes
- *          time           now, in microseconds of any clock; every value is allowed
+ *          signature      of the data type, in the checksum of a payload over 7 bytes. Not 0 from tecelume_signature: see there
+ *          time           now, in microseconds: see above
  *          transfer_id    of a response: that of its request, 0 to 31. Elsewhere ignored, as the map counts
  *          discriminator  of an anonymous message: any number of 14 bits, a random one is best. Elsewhere ignored
- *          out            TECELUME_RECORD_SIZE bytes for each frame: one for up to 7 payload bytes n, else (n + 8) / 7 of them
- * Gives    a result word: 0, with tecelume_frames of it records at the front of out, to be put on the bus in their order. Bytes past
- *          them stay.
- * Refuses  first match of 20, 14, 11, 8 and 9. All leave map and out as they were, and no transfer ID is used up.
- * Costs    the check for 20, which grows with the entries in use; a search of the map; the checksum and a copy of the payload. At most
- *          1024 bytes of stack, besides what memcpy and its like take. */
-uint64_t tecelume_send(uint8_t *map, size_t map_len, uint32_t own, uint32_t transfer_type, uint32_t type_id, uint32_t destination,
-                       uint32_t priority, const uint8_t *payload, size_t payload_len, uint64_t signature, uint64_t time,
-                       uint32_t transfer_id, uint32_t discriminator, uint8_t *out, size_t out_len);
+ *          out            at least TECELUME_SEND_SIZE(payload_len) bytes
+ * Gives    a result: 0, with tecelume_frames of it records at the front of out, to be put on the bus in their order, and
+ *          tecelume_transfer_id of it in their tail bytes. Bytes after the records stay.
+ * Refuses  first match of 20, 14, 11, 8 and 9 (RULES 7.3). All leave map and out as they were, and no transfer ID is used up.
+ * Costs    the check for 20, which grows with the entries in use; a search of the map; the checksum and a copy of the payload. In
+ *          libtecelume.a at most 1024 bytes of stack, besides what memcpy and its like take. */
+static inline tecelume_result tecelume_send(uint8_t *map, size_t map_len, uint32_t own, uint32_t transfer_type, uint32_t type_id,
+                                            uint32_t destination, uint32_t priority, const uint8_t *payload, size_t payload_len,
+                                            uint64_t signature, uint64_t time, uint32_t transfer_id, uint32_t discriminator, uint8_t *out,
+                                            size_t out_len)
+{
+    tecelume_result result;
+    result.word = tecelume_send_word(map, map_len, own, transfer_type, type_id, destination, priority, payload, payload_len, signature,
+                                     time, transfer_id, discriminator, out, out_len);
+    return result;
+}
 
 /* The number of records in out; with a number other than 0 it gives 0. */
-static inline size_t tecelume_frames(uint64_t result)
+static inline size_t tecelume_frames(tecelume_result result)
 {
-    return (size_t)(result >> 8);
+    return (size_t)(result.word >> 8 & 127);
 }
 
 /* ---- a record of tecelume_send ---- */
