@@ -25,7 +25,8 @@ use Rattle.state.proofs.Bools.{and-left, and-right}
 use Rattle.state.proofs.Faultless.{long, setup-fine, table-sound}
 use Rattle.state.proofs.Written.{AllStorable, octets-written, length-written, view-written, raw-written, past-written, setup-written}
 use Rattle.bits.specs.Tabulate.{tabulate}
-use Rattle.state.specs.Layout.{size, setupOf, keyAt, countAt, timeAt, gatheredAt, sessionAt, placeAt, placesOf, streamOfKey}
+use Rattle.state.specs.Layout.{size, setupOf, keyAt, countAt, timeAt, gatheredAt, sessionAt, placeAt, placesOf}
+use Rattle.frame.specs.Key.{streamOfKey}
 use Rattle.state.specs.Place.{written}
 use Rattle.state.specs.Sound.{soundState}
 

@@ -25,7 +25,7 @@ use Rattle.state.proofs.Bools.{and-left, and-right}
 use Rattle.state.proofs.Keys.{stream-key}
 use Rattle.state.proofs.Places.{Holdable}
 use Rattle.state.proofs.Written.{AllStorable, AllPlain}
-use Rattle.state.specs.Layout.{keyOf}
+use Rattle.frame.specs.Key.{keyOf}
 
 -- ── one session ──
 

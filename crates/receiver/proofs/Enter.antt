@@ -18,7 +18,8 @@ use Rattle.rules.specs.Tests.{isNone}
 use Rattle.session.specs.declared.Incoming.{Incoming}
 use Rattle.session.specs.declared.Progress.{Progress}
 use Rattle.session.specs.declared.Session as coded
-use Rattle.state.specs.Layout.{keyAt, keyOf, countAt, gatheredAt, sessionAt}
+use Rattle.state.specs.Layout.{keyAt, countAt, gatheredAt, sessionAt}
+use Rattle.frame.specs.Key.{keyOf}
 use Rattle.state.specs.Sound.{soundState}
 use Rattle.state.proofs.Faultless.{long, count-le}
 use Rattle.receiver.proofs.Lent.{key-some}

@@ -17,7 +17,8 @@ use Rattle.answers.specs.Reception.{told, outAfter}
 use Rattle.session.specs.inside.Session.{sessionOf, InRange}
 use Rattle.answers.specs.declared.Answer.{Answer}
 use Rattle.session.specs.declared.Session as coded
-use Rattle.state.specs.Layout.{keyAt, sessionAt, placeAt, placesOf, keyOf, streamOfKey}
+use Rattle.state.specs.Layout.{keyAt, sessionAt, placeAt, placesOf}
+use Rattle.frame.specs.Key.{keyOf, streamOfKey}
 use Rattle.state.specs.Place.{withPlace, written}
 use Rattle.state.specs.Sound.{soundState}
 use Rattle.state.proofs.Faultless.{long, raw-at, place-held}

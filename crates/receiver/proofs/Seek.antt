@@ -14,7 +14,8 @@ use Rattle.rules.specs.Limits.{oldAge}
 use Rattle.rules.specs.Table.{Place, empty, held, plus1, seek, holds, isFree, isOld, placeFor}
 use Rattle.rules.specs.Tests.{pick}
 use Rattle.bits.specs.Tabulate.{tabulate}
-use Rattle.state.specs.Layout.{size, keyAt, timeAt, sessionAt, placeAt, placesOf, streamOfKey}
+use Rattle.state.specs.Layout.{size, keyAt, timeAt, sessionAt, placeAt, placesOf}
+use Rattle.frame.specs.Key.{streamOfKey}
 use Rattle.keys.specs.inside.Keys.{lowest}
 use Rattle.sessions.specs.inside.Scan.{fitsAt}
 use Rattle.sessions.specs.declared.scan.Want.the-variants.{Key, Old}

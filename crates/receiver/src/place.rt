@@ -16,18 +16,9 @@ ghost use Rattle.receiver.specs.Receive.{result, lent};
 ghost use Rattle.receiver.specs.inside.Called.{Called};
 ghost use Rattle.receiver.specs.declared.place.Way.the-variants.{New};
 ghost use Rattle.session.specs.inside.Session.{sessionOf, streamOf, parsedOf};
-ghost use Rattle.state.specs.Layout.{size, keyAt, keyOf, countAt, sessionAt, placesOf, streamOfKey};
+ghost use Rattle.state.specs.Layout.{size, keyAt, countAt, sessionAt, placesOf};
+ghost use Rattle.frame.specs.Key.{keyOf, streamOfKey};
 ghost use Rattle.state.specs.Place.{withPlace};
-
-// The stream of a head in one number.
-fn key(f: Incoming) -> u32
-    requires { ⌜ (f .head .«transfer_type» < 3) × ((f .head .source < 128) × (f .head .destination < 128)) ⌝ }
-    ensures { λ r. ⌜ r ≡ keyOf (streamOf f) ⌝ }
-{
-    ((f.head.transfer_type as u32 * 65536 + f.head.type_id as u32) * 128 + f.head.source as u32)
-        * 128
-        + f.head.destination as u32
-}
 
 // The session that a frame enters: a new one, that of its place restarted, or that of its place.
 enum Way {
@@ -145,7 +136,7 @@ pub fn arrive(state: &mut [u8], f: Incoming, p: &[u8], out: &mut [u8]) -> Answer
     requires { ⌜ Called (now state) f (now p) (now out) ⌝ }
     ensures { λ r. ⌜ result r (now (state .exit)) (now (out .exit)) ≡ lent (now (state .entry)) (now (out .entry)) (stepSeek (seek (holds (streamOf f)) (placesOf (now (state .entry)))) (placesOf (now (state .entry))) (parsedOf f (now (p .entry)))) ⌝ }
 {
-    let k = key(f);
+    let k = frame::key::key(f.head);
     let i = sessions::scan::scan(state, Want::Key(k));
     if i < 32 {
         return known(state, i, k, f, p, out);

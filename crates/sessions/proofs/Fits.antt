@@ -8,7 +8,8 @@ use borrow.Author.Tests.{lt-ltb, le-ltb, le-leb, lt-leb, eq-eqb, ne-eqb}
 use lib.Dec.{ltb, leb, eqb}
 use Rattle.rules.specs.Limits.{gatheredMax}
 use Rattle.rules.specs.Sound.{streamFits}
-use Rattle.state.specs.Layout.{countAt, expectedAt, toggleAt, streamOfKey}
+use Rattle.state.specs.Layout.{countAt, expectedAt, toggleAt}
+use Rattle.frame.specs.Key.{streamOfKey}
 use Rattle.sessions.specs.inside.Sound.{controlFits}
 
 and-true : (b : Bool) → (b && true) ≡ b

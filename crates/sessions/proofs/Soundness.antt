@@ -21,7 +21,8 @@ use Rattle.rules.specs.Sound.{streamFits, sessionFits, placeFits, noneHolds, no
 use Rattle.rules.specs.Table.{empty, held, holds}
 use Rattle.rules.specs.Tests.{isEmpty}
 use Rattle.sessions.specs.inside.Sound.{controlFits, emptyOrFits, keysOf}
-use Rattle.state.specs.Layout.{size, keyAt, countAt, expectedAt, toggleAt, gatheredAt, sessionAt, placeAt, placesOf, streamOfKey, bytesAt}
+use Rattle.state.specs.Layout.{size, keyAt, countAt, expectedAt, toggleAt, gatheredAt, sessionAt, placeAt, placesOf, bytesAt}
+use Rattle.frame.specs.Key.{streamOfKey}
 use Rattle.state.specs.Sound.{rawFits}
 use Rattle.state.proofs.Soundness.{fit-every, key-lt, holds-key}
 

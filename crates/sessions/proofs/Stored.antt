@@ -18,7 +18,8 @@ use Rattle.rules.specs.Table.{held}
 use Rattle.session.specs.inside.Session.{sessionOf, progressOf, whole}
 use Rattle.session.specs.declared.Progress.{Progress}
 use Rattle.session.specs.declared.Session.{Session}
-use Rattle.state.specs.Layout.{size, timeAt, countAt, expectedAt, toggleAt, gatheredAt, sessionAt, keyOf, streamOfKey, timesAt, streamKeysAt, controlsAt, bytesAt}
+use Rattle.state.specs.Layout.{size, timeAt, countAt, expectedAt, toggleAt, gatheredAt, sessionAt, timesAt, streamKeysAt, controlsAt, bytesAt}
+use Rattle.frame.specs.Key.{keyOf, streamOfKey}
 use Rattle.state.specs.Place.{one, controlOf, withKey, withSession, withPlace}
 use Rattle.state.proofs.Keys.{key-stream}
 

@@ -12,7 +12,8 @@ ghost use lib.ListN.{length};
 ghost use Rattle.rules.specs.Limits.{sessionsMax, gatheredMax};
 ghost use Rattle.rules.specs.Table.{held};
 ghost use Rattle.session.specs.inside.Session.{sessionOf, progressOf, whole};
-ghost use Rattle.state.specs.Layout.{size, keyAt, timeAt, countAt, sessionAt, streamOfKey};
+ghost use Rattle.state.specs.Layout.{size, keyAt, timeAt, countAt, sessionAt};
+ghost use Rattle.frame.specs.Key.{streamOfKey};
 ghost use Rattle.state.specs.Place.{withPlace};
 
 // Internal. The stream key of place i.

@@ -17,7 +17,8 @@ ghost use Rattle.keys.specs.inside.Keys.{distinct};
 ghost use Rattle.rules.specs.Limits.{sessionsMax};
 ghost use Rattle.rules.specs.Sound.{streamFits};
 ghost use Rattle.sessions.specs.inside.Sound.{controlFits, keysOf, emptyOrFits};
-ghost use Rattle.state.specs.Layout.{size, keyAt, streamOfKey};
+ghost use Rattle.state.specs.Layout.{size, keyAt};
+ghost use Rattle.frame.specs.Key.{streamOfKey};
 ghost use Rattle.state.specs.Sound.{soundState};
 
 // The stream of a key is in range.

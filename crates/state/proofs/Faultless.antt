@@ -11,7 +11,8 @@ use Rattle.rules.specs.Limits.{sessionsMax, gatheredMax}
 use Rattle.rules.specs.Setup.{acceptable}
 use Rattle.rules.specs.Sound.{streamFits, sessionFits, placeFits, placesFit, apart, sound}
 use Rattle.rules.specs.Table.{held}
-use Rattle.state.specs.Layout.{size, setupOf, keyAt, countAt, expectedAt, toggleAt, sessionAt, placeAt, placesOf, streamOfKey}
+use Rattle.state.specs.Layout.{size, setupOf, keyAt, countAt, expectedAt, toggleAt, sessionAt, placeAt, placesOf}
+use Rattle.frame.specs.Key.{streamOfKey}
 use Rattle.bits.specs.Tabulate.{every}
 use Rattle.state.specs.Sound.{rawFits, soundState}
 use Rattle.state.proofs.Bools.{and-left, and-right}

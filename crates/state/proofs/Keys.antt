@@ -6,7 +6,7 @@ use native.Mathlib.Omega.{arith}
 use borrow.Author.Tests.{eqb-true, eqb-false, eq-eqb}
 use lib.Dec.{eqb}
 use Rattle.rules.specs.Frame.{Stream, sameStream}
-use Rattle.state.specs.Layout.{keyOf, streamOfKey}
+use Rattle.frame.specs.Key.{keyOf, streamOfKey}
 
 pub key-stream : (k : ℕ) → k < 4294967296 → keyOf (streamOfKey k) ≡ k
 unfolding keyOf streamOfKey

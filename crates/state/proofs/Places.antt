@@ -19,7 +19,8 @@ use Rattle.rules.specs.Frame.{Stream}
 use Rattle.rules.specs.Session.{Session}
 use Rattle.rules.specs.Table.{Place, empty, held}
 use Rattle.rules.specs.Tests.{pick}
-use Rattle.state.specs.Layout.{size, keyAt, countAt, expectedAt, toggleAt, timeAt, gatheredAt, sessionAt, placeAt, keyOf, streamOfKey, timesAt, streamKeysAt, controlsAt, bytesAt}
+use Rattle.state.specs.Layout.{size, keyAt, countAt, expectedAt, toggleAt, timeAt, gatheredAt, sessionAt, placeAt, timesAt, streamKeysAt, controlsAt, bytesAt}
+use Rattle.frame.specs.Key.{keyOf, streamOfKey}
 use Rattle.state.specs.Place.{one, controlOf, withKey, withSession, withPlace}
 use Rattle.state.specs.Sound.{rawFits}
 use Rattle.state.proofs.Bools.{and-left, and-right}

@@ -17,7 +17,8 @@ use Rattle.bits.proofs.Splice.{length-span}
 use Rattle.rules.specs.Sound.{placeFits, placesFit}
 use Rattle.rules.specs.Table.{Place, empty, held, holds}
 use Rattle.rules.specs.Tests.{pick}
-use Rattle.state.specs.Layout.{size, keyAt, sessionAt, placeAt, streamOfKey, streamKeysAt}
+use Rattle.state.specs.Layout.{size, keyAt, sessionAt, placeAt, streamKeysAt}
+use Rattle.frame.specs.Key.{streamOfKey}
 use Rattle.state.proofs.Keys.{same-key}
 
 pub fit-every : (f : ℕ → Place) (n i : ℕ) → placesFit (tabulate f i n) ≡ every (λ l. placeFits (f l)) i n

@@ -14,7 +14,8 @@ use Rattle.rules.specs.Session.{Session}
 use Rattle.rules.specs.Frame.{Stream}
 use Rattle.rules.specs.Table.{Place, empty, held, Places}
 use Rattle.bits.specs.Tabulate.{tabulate}
-use Rattle.state.specs.Layout.{size, placeAt, placesOf, keyOf, timesAt, streamKeysAt, controlsAt, bytesAt}
+use Rattle.state.specs.Layout.{size, placeAt, placesOf, timesAt, streamKeysAt, controlsAt, bytesAt}
+use Rattle.frame.specs.Key.{keyOf}
 use Rattle.state.specs.Place.{one, controlOf, withKey, withSession, withPlace, written}
 use Rattle.state.specs.Sound.{rawFits}
 use Rattle.state.proofs.Places.{Few, length-withPlace, same-raw, same-place, place-kept, place-back, Holdable}

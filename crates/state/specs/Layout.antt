@@ -6,7 +6,7 @@ use lib.ListN.{getD}
 use Rattle.bits.specs.Little.{le}
 use Rattle.bits.specs.Part.{span}
 use Rattle.bits.specs.Tabulate.{tabulate}
-use Rattle.rules.specs.Frame.{Stream}
+use Rattle.frame.specs.Key.{streamOfKey}
 use Rattle.rules.specs.Limits.{sessionsMax, subscriptionsMax, gatheredMax}
 use Rattle.rules.specs.Session.{Session}
 use Rattle.rules.specs.Setup.{Subscription, Setup}
@@ -81,13 +81,6 @@ toggleAt m i = le (span m (controlsAt + 3 + i * 4) 1)
 
 unfoldable pub gatheredAt : List ℕ → ℕ → List ℕ
 gatheredAt m i = span m (bytesAt + i * gatheredMax) (countAt m i)
-
--- a stream as 32 bits; 0 is no stream, since a session's source is never 0
-unfoldable pub keyOf : Stream → ℕ
-keyOf d = ((d .transferType * 65536 + d .type) * 128 + d .source) * 128 + d .destination
-
-unfoldable pub streamOfKey : ℕ → Stream
-streamOfKey k = record { transferType = k / 1073741824; type = k / 16384 % 65536; source = k / 128 % 128; destination = k % 128 }
 
 unfoldable pub sessionAt : List ℕ → ℕ → Session
 sessionAt m i = record { expected = expectedAt m i; gathered = gatheredAt m i; toggle = eqb (toggleAt m i) 1; since = timeAt m i }

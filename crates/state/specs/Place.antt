@@ -8,7 +8,8 @@ use Rattle.bits.specs.Little.{leBytes}
 use Rattle.bits.specs.Part.{splice}
 use Rattle.rules.specs.Session.{Session}
 use Rattle.rules.specs.Table.{Place, empty, held, Places}
-use Rattle.state.specs.Layout.{keyOf, timesAt, streamKeysAt, controlsAt, bytesAt}
+use Rattle.state.specs.Layout.{timesAt, streamKeysAt, controlsAt, bytesAt}
+use Rattle.frame.specs.Key.{keyOf}
 
 abbrev pub one : Bool → ℕ
 one true = 1

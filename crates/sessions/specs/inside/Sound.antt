@@ -6,7 +6,8 @@ use lib.Dec.{ltb, leb, eqb}
 use Rattle.bits.specs.Tabulate.{tabulate}
 use Rattle.rules.specs.Limits.{sessionsMax, gatheredMax}
 use Rattle.rules.specs.Sound.{streamFits}
-use Rattle.state.specs.Layout.{keyAt, countAt, expectedAt, toggleAt, streamOfKey}
+use Rattle.state.specs.Layout.{keyAt, countAt, expectedAt, toggleAt}
+use Rattle.frame.specs.Key.{streamOfKey}
 
 -- the bytes in hand, the expected transfer ID and the toggle of place i
 unfoldable pub controlFits : List ℕ → ℕ → Bool

@@ -15,7 +15,8 @@ use Rattle.rules.specs.Table.{Place, empty}
 use Rattle.receiver.specs.Receive.{lent}
 use Rattle.session.specs.inside.Session.{streamOf, parsedOf}
 use Rattle.session.specs.declared.Incoming.{Incoming}
-use Rattle.state.specs.Layout.{keyAt, keyOf, streamOfKey, sessionAt, placeAt, placesOf}
+use Rattle.state.specs.Layout.{keyAt, sessionAt, placeAt, placesOf}
+use Rattle.frame.specs.Key.{keyOf, streamOfKey}
 use Rattle.state.specs.Sound.{soundState}
 use Rattle.bits.proofs.Tabulate.{tab-at}
 use Rattle.state.proofs.Faultless.{long, place-held}

@@ -10,7 +10,7 @@ use Rattle.answers.specs.Reception.{told, outAfter}
 use Rattle.session.specs.inside.Session.{sessionOf, streamOf, parsedOf, added, InRange}
 use Rattle.session.specs.declared.Session as coded
 use Rattle.session.proofs.Rules.{shut-range, takes-on, takes-last}
-use Rattle.state.specs.Layout.{streamOfKey}
+use Rattle.frame.specs.Key.{streamOfKey}
 use Rattle.state.proofs.Faultless.{long}
 use Rattle.receiver.proofs.Enter.{in-hand, expected-of}
 use Rattle.receiver.proofs.Lent.{head-key, few-of, stored}

@@ -14,7 +14,8 @@ use Rattle.answers.specs.Reception.{told, outAfter}
 use Rattle.session.specs.inside.Session.{streamOf, parsedOf}
 use Rattle.session.specs.declared.Progress.{Progress}
 use Rattle.session.proofs.Rules.{awaited-start, reacts-anew, reacts-skip, reacts-take, reacts-over, reacts-pass}
-use Rattle.state.specs.Layout.{keyAt, sessionAt, placesOf, streamOfKey}
+use Rattle.state.specs.Layout.{keyAt, sessionAt, placesOf}
+use Rattle.frame.specs.Key.{streamOfKey}
 use Rattle.state.specs.Place.{withPlace}
 use Rattle.state.specs.Sound.{soundState}
 use Rattle.state.proofs.Faultless.{long, count-le, expected-lt}

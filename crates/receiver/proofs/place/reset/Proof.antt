@@ -4,7 +4,7 @@ use native.Mathlib.Omega.{arith}
 use Rattle.rules.specs.Session.{Session, restarted}
 use Rattle.rules.specs.Table.{held}
 use Rattle.session.specs.inside.Session.{sessionOf}
-use Rattle.state.specs.Layout.{streamOfKey}
+use Rattle.frame.specs.Key.{streamOfKey}
 use Rattle.state.specs.Place.{withPlace}
 use borrow.Author.Needs.{needs}
 use Rattle.receiver.proofs.place.reset.Statement.{statement}

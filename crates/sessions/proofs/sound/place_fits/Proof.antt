@@ -6,7 +6,8 @@ use Prim.Native.Nat.{ℕ}
 use borrow.Author.Tests.{eq-eqb, ne-eqb}
 use Rattle.rules.specs.Sound.{streamFits}
 use Rattle.sessions.specs.inside.Sound.{controlFits, emptyOrFits}
-use Rattle.state.specs.Layout.{keyAt, streamOfKey}
+use Rattle.state.specs.Layout.{keyAt}
+use Rattle.frame.specs.Key.{streamOfKey}
 use borrow.Author.Needs.{needs}
 use Rattle.sessions.proofs.sound.place_fits.Statement.{statement}
 use Rattle.sessions.proofs.sound.place_fits.Tie as tie

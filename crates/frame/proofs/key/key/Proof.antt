@@ -1,9 +1,9 @@
--- `place::key` meets its contract.
+-- `key::key` meets its contract.
 use mathlib.Core.Path.{refl}
-use Rattle.state.specs.Layout.{keyOf}
+use Rattle.frame.specs.Key.{keyOf}
 use borrow.Author.Needs.{needs}
-use Rattle.receiver.proofs.place.key.Statement.{statement}
-use Rattle.receiver.proofs.place.key.Tie as tie
+use Rattle.frame.proofs.key.key.Statement.{statement}
+use Rattle.frame.proofs.key.key.Tie as tie
 
 cast-result : tie.Need-cast-result
 cast-result c = search needs
