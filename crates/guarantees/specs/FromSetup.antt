@@ -1,4 +1,4 @@
--- From a call of setup to lists of calls of `receive`: what an integrator may rely on.
+-- RULES 5.7, 4.11 and 14.14: from a call of setup to lists of calls of `receive`. This is what an integrator may rely on.
 use mathlib.Core.Path.{_≡_}
 use mathlib.Core.List.{List, map}
 use Prim.Native.Nat.{ℕ}

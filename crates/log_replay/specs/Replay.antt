@@ -1,4 +1,4 @@
--- 01, The log program: what one line gives. A line is read, its frame goes to the receiver, and the answer is written behind the time.
+-- RULES 12.5, 12.6 and 12.8: what one line gives. It is read, its frame goes to the receiver, and the answer is written after the time.
 use mathlib.Core.Bool.{Bool, true, false}
 use mathlib.Core.List.{List, [], _∷_, _++_}
 use mathlib.Core.Option.{Option, none, some}
@@ -19,7 +19,7 @@ use Rattle.answers.specs.declared.Answer.{Answer}
 use Rattle.answers.specs.declared.Answer.the-variants.{Taken, Handed, Refused, Full, Passed, TooLong, BadChecksum, Faulty}
 use Rattle.digits.specs.Digits.{words}
 
--- ── counting ──
+-- ── counting (RULES 12.6) ──
 
 -- a counter stays at the largest number of 64 bits
 unfoldable pub up : ℕ → ℕ
@@ -39,7 +39,7 @@ isHanded TooLong = false
 isHanded BadChecksum = false
 isHanded Faulty = false
 
--- the last line: "end", lines read, transfers handed out
+-- RULES 12.7, the last line: `end`, lines read, payloads handed out
 unfoldable pub endText : Counts → List ℕ
 endText c = 101 ∷ 110 ∷ 100 ∷ (words (c .lines ∷ c .transfers ∷ []) ++ (10 ∷ []))
 
@@ -54,12 +54,12 @@ pub record Reply : Type 0 where
 unfoldable pub answered : ℕ → receive.Result → Reply
 answered time r = record { text = timeText time ++ answerText (r .answer) (r .out); state = r .state; handed = isHanded (r .answer) }
 
--- a line that is not well formed leaves the receiver as it was; the receiver is lent 512 bytes
+-- RULES 12.5: a line that is not well formed leaves the receiver as it was; 12.1: the receiver is lent 512 bytes
 unfoldable pub reply : List ℕ → Option Frame → Reply
 reply m none = record { text = 63 ∷ numbered 45 18; state = m; handed = false }
 reply m (some f) = answered (f .time) (received m f (replicate 512 0))
 
--- ── the call: the text goes into a buffer from `at` on ──
+-- ── the call (RULES 12.8): the text goes into a buffer from `at` on ──
 
 -- room for the longest text of a line
 abbrev pub room : ℕ
