@@ -1,4 +1,4 @@
-// Frames: the ID and the tail byte read once into a head, which is then checked, and the record of a frame.
+// Frames (RULES 2): the ID and the tail byte read once into a head, which is then checked, and the record of a frame.
 pub mod check;
 pub mod head;
 pub mod record;
