@@ -1,4 +1,4 @@
--- RULES 1.3: the limits of the rules, each written once. src/limits.rt has the same numbers for the code.
+-- RULES 1.3: the limits of the rules. src/limits.rt has the same numbers for the code.
 use Prim.Native.Nat.{ℕ}
 
 -- sessions that a receiver holds, and the places of its table (RULES 4.3)
