@@ -94,7 +94,7 @@ static struct baseline_stream *add(struct baseline *r, uint32_t key, uint8_t tra
     return s;
 }
 
-/* A new chunk behind the last one, which may be none; NULL if the pool is empty. */
+/* A new chunk after the last one, which may be none; NULL if the pool is empty. */
 static struct baseline_chunk *grow(struct baseline *r, struct baseline_stream *s, struct baseline_chunk *last)
 {
     baseline_link b = get_block(r);

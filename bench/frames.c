@@ -21,7 +21,7 @@ static unsigned crc(unsigned c, uint8_t byte)
     return c;
 }
 
-/* What the frames of a transfer carry: its payload, behind a checksum if it needs more than one frame. */
+/* What the frames of a transfer carry: its payload, after a checksum if it needs more than one frame. */
 static size_t carried(uint64_t signature, unsigned source, unsigned turn, unsigned length, uint8_t *bytes)
 {
     size_t front = length > 7 ? 2 : 0;

@@ -35,7 +35,7 @@ awk -v entries="$work/entries" '
         return negative ? 4294967296 - n : n
     }
 
-    # the digits behind "0x" in the first operand
+    # the digits after "0x" in the first operand
     function operand(text) {
         sub(/^[^x]*x/, "", text)
         sub(/[^0-9a-f].*$/, "", text)

@@ -408,7 +408,7 @@ static void refused_sends(void)
     CHECK(tecelume_number(send_topic(&known, 0)) == TECELUME_STATE_FAULT);
 }
 
-/* What 20 names, at the places of docs/ARCHITECTURE.md; and a value in range, which is not noticed. */
+/* The faults that answer 20 (RULES 5.4), at the places of docs/ARCHITECTURE.md; and a value in range, which is not noticed. */
 static void faults(void)
 {
     enum { STREAMS = 1032, CONTROLS = 1160, FIELD = 4, EXPECTED = 2, TOGGLE_OF = 3 };

@@ -76,7 +76,7 @@ impl Map {
         empty.or_else(|| self.places.iter().position(unused))
     }
 
-    /// The map that the bytes hold; none if they have a fault that 20 names.
+    /// The map that the bytes hold; none if they have a fault (RULES 8.5).
     pub fn read(bytes: &[u8]) -> Option<Map> {
         if bytes.len() < SIZE {
             return None;

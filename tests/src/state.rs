@@ -1,4 +1,4 @@
-//! The receiver as the bytes that C lends: layout, reading with the faults of 20, and writing.
+//! The receiver as the bytes that C lends: layout, reading with faults (RULES 5.4), and writing.
 //!
 //! A write touches only what means something: nothing of an empty place but its key, and of a
 //! session's room only the bytes in hand. So it leaves all else as it was.
@@ -19,7 +19,7 @@ pub const CONTROLS: usize = 1160;
 pub const GATHERED: usize = 1288;
 pub const SIZE: usize = 17736;
 
-/// The receiver that the bytes hold; none if they have a fault that 20 names.
+/// The receiver that the bytes hold; none if they have a fault (RULES 5.4).
 pub fn read(bytes: &[u8]) -> Option<Receiver> {
     if bytes.len() < SIZE
         || u32::from(bytes[OWN]) > LARGEST_NODE

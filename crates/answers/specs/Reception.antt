@@ -1,4 +1,4 @@
--- The answers of a reception: the number of each case, the values of the one that hands a transfer out, and the rules' answer as the code tells it.
+-- RULES 13.1, 4.10: the answers of a reception. The number of each case, the values of answer 1, and the rules' answer as the code tells it.
 use mathlib.Core.List.{List, []}
 use Prim.Native.Nat.{ℕ}
 use lib.ListN.{length}
@@ -23,7 +23,7 @@ numberOf Faulty = 20
 abbrev pub noTransfer : Transfer
 noTransfer = record { len = 0; «transfer_type» = 0; «type_id» = 0; source = 0; destination = 0; priority = 0; transfer = 0 }
 
--- the transfer that is handed out
+-- the transfer that is handed out (RULES 4.10)
 abbrev pub transferIn : Answer → Transfer
 transferIn Taken = noTransfer
 transferIn (Handed t) = t

@@ -1,4 +1,4 @@
--- The answers of a send: the number of each case, what the one that succeeds made, and the rules' answer as the code tells it.
+-- RULES 13.1, 7.1: the answers of a send. The number of each case, what a success made, and the rules' answer as the code tells it.
 use Prim.Native.Nat.{ℕ}
 use Rattle.answers.specs.declared.Dispatch.{Dispatch}
 use Rattle.answers.specs.declared.Sent.{Sent}

@@ -1,4 +1,4 @@
--- The answers of setting up a receiver or a transfer-ID map.
+-- RULES 13.1, 3.5 and 8.4: the answers of setting up a receiver or a transfer-ID map.
 use Prim.Native.Nat.{ℕ}
 use Rattle.answers.specs.declared.Outcome.{Outcome}
 use Rattle.answers.specs.declared.Outcome.the-variants.{Done, Unacceptable, Short}

@@ -1,4 +1,4 @@
-// What the calls of the transport answer: an enum for each, with its number. What a reader of answers needs to tell apart is the number and, of a
+// What the calls of the transport answer (RULES 13.1): an enum for each, with its number. What a reader has to tell apart is the number and, of a
 // reception, the transfer that was handed out.
 ghost use mathlib.Core.Path.{_≡_};
 ghost use Prim.Native.Nat.{_<_};

@@ -58,7 +58,7 @@ unfolding leBytes
 zero-bytes zero = refl
 zero-bytes (suc n) = ap (λ (l : List ℕ). 0 ∷ l) (zero-bytes n)
 
--- more bytes than a number has are zeros behind them
+-- more bytes than a number has are zeros after them
 pub leBytes-padded : (bs : List ℕ) (n : ℕ) → Octets bs → length bs ≤ n → leBytes n (le bs) ≡ bs ++ replicate (n - length bs) 0
 unfolding le leBytes
 leBytes-padded [] n h l = rw sub-zero (zero-bytes n)

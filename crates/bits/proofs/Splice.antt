@@ -41,7 +41,7 @@ module _ {A : Type 0} (m : List A) (at : ℕ) (ys : List A) (fits : at + length 
   pub take-splice : (n : ℕ) → n ≡ at + length ys → take n (splice m at ys) ≡ take at m ++ ys
   take-splice n e = ap (λ l. take n l) grouped ∙ take-at (take at m ++ ys) (drop (at + length ys) m) n (head ∙ sym e)
 
-  -- behind what was stored
+  -- after what was stored
   pub drop-splice : drop (at + length ys) (splice m at ys) ≡ drop (at + length ys) m
   drop-splice = ap (λ l. drop (at + length ys) l) grouped ∙ drop-at (take at m ++ ys) (drop (at + length ys) m) (at + length ys) head
 
@@ -57,7 +57,7 @@ module _ {A : Type 0} (m : List A) (at : ℕ) (ys : List A) (fits : at + length 
       ∙ ap (λ l. drop a l) (take-append-le (a + n) (take at m) (ys ++ drop (at + length ys) m) (omega (arith, front)) ∙ take-take (a + n) at m h)
       ∙ sym (span-take m a n (omega arith))
 
-  -- what lies behind is as it was
+  -- what comes after is as it was
   pub span-behind : (a n : ℕ) → at + length ys ≤ a → span (splice m at ys) a n ≡ span m a n
   span-behind a n h =
       let j : (at + length ys) + (a - (at + length ys)) ≡ a = omega arith in
@@ -74,7 +74,7 @@ module _ {A : Type 0} (m : List A) (at : ℕ) (ys : List A) (fits : at + length 
       ∙ drop-drop (length zs) (at + length ys) m ∙ ap (λ (n : ℕ). drop n m) j in
       rw (take-splice (at + length ys) refl, d) (simp append-assoc)
 
--- a store right behind another
+-- a store right after another
 pub splice-next : {A : Type 0} (m m' m'' : List A) (at n : ℕ) (ys zs : List A) → at + n ≤ length m → length ys ≡ n → m' ≡ splice m at ys
     → m'' ≡ splice m' (at + n) zs → m'' ≡ splice m at (ys ++ zs)
 splice-next m m' m'' at n ys zs h l e f =

@@ -18,7 +18,7 @@ module _ (m : List ℕ) (at : ℕ) (bs : List Bool) (h : at + length bs ≤ leng
   pub before-store : take at (unpack (store m at bs)) ≡ take at (unpack m)
   before-store = ap (λ (l : List Bool). take at l) (unpack-store m at bs h) ∙ take-at (take at (unpack m)) (bs ++ drop (at + length bs) (unpack m)) at front
 
-  -- the bits stored, and those behind
+  -- the bits stored, and those after
   pub from-store : drop at (unpack (store m at bs)) ≡ bs ++ drop (at + length bs) (unpack m)
   from-store = ap (λ (l : List Bool). drop at l) (unpack-store m at bs h) ∙ drop-at (take at (unpack m)) (bs ++ drop (at + length bs) (unpack m)) at front
 

@@ -16,7 +16,7 @@ use Rattle.bits.proofs.Splice.{length-splice}
 use Rattle.bits.proofs.Digits.{length-digits, value-digits, digits-add, digits-join, digits-middle, digits-mod-pow}
 use Rattle.bits.proofs.Bytes.{length-unpack, unpack-append, take-unpack, drop-unpack, bytes-unpack}
 
--- the bytes before, the window, the bytes behind
+-- the bytes before, the window, the bytes after
 pub one-byte : (s : List ℕ) (i : ℕ) → i < length s → unpack s ≡ unpack (take i s) ++ (digits 8 (getD s i 0) ++ unpack (drop (suc i) s))
 unfolding unpack
 one-byte s i h =

@@ -1,4 +1,4 @@
--- The laws that the layers above cite. Each speaks of definitions alone; `laws.rt` has a function for each record, whose contract it is.
+-- RULES 9.1 to 9.3: the laws that the layers above cite, of definitions alone; `laws.rt` has a function for each record, whose contract it is.
 use mathlib.Core.Path.{_≡_}
 use mathlib.Core.Bool.{Bool}
 use mathlib.Core.List.{List, _++_}
@@ -12,7 +12,7 @@ use Rattle.bits.specs.Width.{widthOf}
 pub record FieldLaws : Type 0 where
   -- reading what was written gives it back
   pub read-back : (m : List ℕ) (at w v : ℕ) → at + w ≤ length m * 8 → v < 2 ^ w → fromBits w (drop at (unpack (store m at (toBits w v)))) ≡ v
-  -- bits before and behind the field stay, and so does the number of bytes
+  -- bits before and after the field stay, and so does the number of bytes
   pub before : (m : List ℕ) (at : ℕ) (bs : List Bool) → at + length bs ≤ length m * 8 → take at (unpack (store m at bs)) ≡ take at (unpack m)
   pub behind : (m : List ℕ) (at : ℕ) (bs : List Bool) → at + length bs ≤ length m * 8 → drop (at + length bs) (unpack (store m at bs)) ≡ drop (at + length bs) (unpack m)
   pub as-long : (m : List ℕ) (at : ℕ) (bs : List Bool) → length (store m at bs) ≡ length m

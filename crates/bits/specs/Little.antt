@@ -1,4 +1,4 @@
--- Numbers as bytes, lowest byte first.
+-- RULES 1.7: numbers as bytes, low byte first.
 use mathlib.Core.List.{List, [], _∷_}
 use Prim.Native.Nat.{ℕ, zero, suc, _+_, _*_, _/_, _%_}
 

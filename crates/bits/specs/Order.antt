@@ -1,4 +1,4 @@
--- The bit order of 004 (Byte order and bit order): a number is cut into octets from the low end, each octet, the last one perhaps
+-- RULES 9.1, 9.2: the order of bits. A number is cut into octets from the low end; each octet, of which the last one may be
 -- short, is written highest bit first, and bytes are filled from the top. Bits are Bools.
 use mathlib.Core.Bool.{Bool, true, false}
 use mathlib.Core.List.{List, [], _∷_, _++_}
@@ -53,7 +53,7 @@ bytesFor n = (n + 7) / 8
 abbrev pub padding : List Bool → List Bool
 padding bs = replicate (bytesFor (length bs) * 8 - length bs) false
 
--- bits as bytes, the last byte filled up with zeros
+-- RULES 9.1: bits as bytes, the last byte filled up with zeros
 abbrev pub pack : List Bool → List ℕ
 pack bs = bytes (bytesFor (length bs)) (bs ++ padding bs)
 
@@ -63,7 +63,7 @@ unfoldable pub octets : ℕ → ℕ → ℕ → List Bool
 octets zero r n = digits r n
 octets (suc q) r n = digits 8 n ++ octets q r (n / 256)
 
--- the w lowest bits of n: w / 8 octets from the low end and one of w % 8 bits
+-- RULES 9.2: the w lowest bits of n, as w / 8 octets from the low end and one of w % 8 bits
 unfoldable pub toBits : ℕ → ℕ → List Bool
 toBits w n = octets (w / 8) (w % 8) n
 
@@ -77,6 +77,6 @@ fromBits w bs = number (w / 8) (w % 8) bs
 
 -- ── a store ──
 
--- the bytes m with the bits bs in the place of what stands from bit `at` on
+-- the bytes m with the bits bs in the place of those from bit `at` on
 unfoldable pub store : List ℕ → ℕ → List Bool → List ℕ
 store m at bs = bytes (length m) (splice (unpack m) at bs)

@@ -1,4 +1,4 @@
--- The width of a list's length field (004, Dynamic arrays; 01, Messages): the fewest bits that hold the largest length.
+-- RULES 9.3: the width of a list's length field, which is the fewest bits that hold the largest length.
 use Prim.Native.Nat.{ℕ, zero, suc, _/_}
 
 unfoldable pub widthIn : ℕ → ℕ → ℕ

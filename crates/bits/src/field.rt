@@ -1,4 +1,4 @@
-// One field of a serialized message: the bits of a number at any place of a slice, an octet at a time.
+// One field of a serialized message (RULES 9.2): the bits of a number at any place of a slice, an octet at a time.
 use super::le::wide;
 use super::part;
 ghost use mathlib.Core.Path.{_≡_};

@@ -1,4 +1,4 @@
-// Numbers as bytes, lowest byte first.
+// Numbers as bytes, low byte first (RULES 1.7).
 ghost use mathlib.Core.Path.{_≡_};
 ghost use Prim.Native.Nat.{_+_, _≤_};
 ghost use lib.ListN.{length};

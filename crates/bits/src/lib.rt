@@ -1,4 +1,4 @@
-// Bits and bytes: parts of slices, little-endian numbers, fields in the bit order of 004, the width of a length field.
+// Bits and bytes (RULES 9.1 to 9.3): parts of slices, numbers low byte first, fields in the order of bits, the width of a length field.
 // With `checksum` it is the ground of the stack, and knows nothing of frames or messages.
 pub mod field;
 pub mod laws;

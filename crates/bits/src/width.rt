@@ -1,4 +1,4 @@
-// The width of a list's length field.
+// The width of a list's length field (RULES 9.3).
 ghost use mathlib.Core.Path.{_≡_};
 ghost use Rattle.bits.specs.Width.{widthOf};
 

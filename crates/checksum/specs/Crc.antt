@@ -1,4 +1,4 @@
--- A cyclic redundancy check, bit by bit from its polynomial: highest bit of each byte first, nothing reflected.
+-- RULES 6.1: a cyclic redundancy check, bit by bit from its polynomial. The highest bit of each byte comes first, nothing is reflected.
 use mathlib.Core.List.{List, [], _∷_}
 use Prim.Native.Nat.{ℕ, zero, suc, _*_, _-_, _/_, _%_, _^_}
 use lib.Bits.{bitXor}

@@ -1,4 +1,4 @@
--- The transfer checksum (002, Transfer CRC; 01, Reception).
+-- RULES 6.2: the transfer checksum.
 use mathlib.Core.List.{List, _++_}
 use Prim.Native.Nat.{ℕ}
 use Rattle.checksum.specs.Crc.{Crc, crcOver}

@@ -1,4 +1,4 @@
--- The laws of the checksums. They speak of definitions alone; `laws.rt` has a function whose contract they are.
+-- RULES 6.5: the laws of the checksums. They speak of definitions alone; `laws.rt` has a function whose contract they are.
 use mathlib.Core.Path.{_≡_}
 use mathlib.Core.List.{List, [], _∷_}
 use Prim.Native.Nat.{ℕ}

@@ -1,4 +1,4 @@
--- The signature hash (004, Signature hash function) and its extension (004, Data type signature).
+-- RULES 11.2, 11.3: the signature hash and its extension.
 use mathlib.Core.List.{List, _++_}
 use Prim.Native.Nat.{ℕ}
 use lib.Bits.{bitXor}
@@ -13,10 +13,10 @@ we = record { width = 64; polynomial = 0x42F0E1EBA9EA3693 }
 abbrev pub inverted : ℕ → ℕ
 inverted c = bitXor c 0xFFFFFFFFFFFFFFFF
 
--- the hash of bytes that continues the hash h; a hash begins at 0
+-- RULES 11.2: the hash of bytes that continues the hash h; a new hash begins at 0
 unfoldable pub hashFrom : ℕ → List ℕ → ℕ
 hashFrom h bs = inverted (crcOver we (inverted h) bs)
 
--- h extended by a value: the value is fed, then h as it was saved, each lowest byte first
+-- RULES 11.3: h extended by a value, which is fed first, then h as it was before; each low byte first
 unfoldable pub extended : ℕ → ℕ → ℕ
 extended h v = hashFrom h (leBytes 8 v ++ leBytes 8 h)

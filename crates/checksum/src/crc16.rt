@@ -1,4 +1,4 @@
-// CRC-16-CCITT-FALSE by a table of 256 entries, a byte a step. The table is private: callers see the checksum's definition.
+// The transfer checksum (RULES 6.2) by a table of 256 entries (6.4), a byte a step. The table is private: callers see the checksum's definition.
 ghost use mathlib.Core.Path.{_≡_};
 ghost use Prim.Native.Nat.{_+_, _≤_};
 ghost use lib.ListN.{length};

@@ -1,4 +1,4 @@
-// The signature hash of 004: CRC-64-WE, and its extension by the signature of a nested type.
+// The signature hash, CRC-64-WE (RULES 11.2), and its extension by the signature of a nested type (11.3).
 ghost use mathlib.Core.Path.{_≡_};
 ghost use Rattle.checksum.specs.Crc.{shift, crcByte, crcOver};
 ghost use Rattle.checksum.specs.Signature.{we, hashFrom, extended};

@@ -5,7 +5,7 @@ use codec_text::put;
 ghost use Prim.Native.Nat.{_≤_};
 ghost use lib.ListN.{length};
 
-// What comes behind the verb: a type's name, and the rest behind a space.
+// What comes after the verb: a type's name, and the rest after a space.
 fn of_type(encodes: bool, rest: &[u8], out: &mut [u8], at: usize) -> usize
     requires { ⌜ length (now rest) ≤ 8192 ⌝ }
 {

@@ -12,7 +12,7 @@ pub enum Encoded {
     Answer(Written),
 }
 
-// A name, behind a space, and the equals sign.
+// A name, after a space, and the equals sign.
 fn label(out: &mut [u8], at: usize, name: &[u8]) -> usize {
     let a = put::byte(out, at, 32);
     let b = put::bytes(out, a, name);

@@ -1,4 +1,4 @@
-// The fields that a request gives: words of a name, an equals sign and a value, each behind a space.
+// The fields that a request gives: words of a name, an equals sign and a value, each after a space.
 use super::hex;
 use super::hex::Length;
 use super::names;
@@ -10,7 +10,7 @@ use shape::part;
 ghost use Prim.Native.Nat.{_+_, _≤_};
 ghost use lib.ListN.{length};
 
-// Where the value of the first word of that name stands; at 0, where no value can, if there is no such word.
+// Where the value of the first word of that name is; 0, where no value can be, if there is no such word.
 fn find(words: &[u8], name: &[u8]) -> Place
     ensures { λ r. ⌜ r .at + r .len ≤ length (now (words .entry)) ⌝ }
 {
@@ -50,7 +50,7 @@ fn number(values: &mut [u64], i: usize, s: &[u8]) -> bool {
     }
 }
 
-// The i-th field, whose value s stands at `at`: a number as long as there are numbers, then a list, whose bytes go to the same place.
+// The i-th field, whose value s is at `at`: a number as long as there are numbers, then a list, whose bytes go to the same place.
 fn value(values: &mut [u64], i: usize, s: &[u8], bytes: &mut [u8], at: usize) -> bool
     requires { ⌜ at + length (now s) ≤ length (now bytes) ⌝ }
 {
@@ -90,7 +90,7 @@ fn word(
     }
 }
 
-// Internal. Reads every word: the numbers into `values`, in the order of the names, the lists into `bytes`, each where its digits stand in
+// Internal. Reads every word: the numbers into `values`, in the order of the names, the lists into `bytes`, each where its digits are in
 // the words. A field that is not named stays as it is. Whether all is well formed.
 pub fn read(names: &[u8], words: &[u8], values: &mut [u64], bytes: &mut [u8]) -> bool
     requires { ⌜ length (now words) ≤ length (now bytes) ⌝ }

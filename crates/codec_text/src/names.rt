@@ -1,6 +1,6 @@
 // The names of a type's fields: one text, with a space between two names.
 
-// Where a name stands among the names.
+// The place of a name among the names.
 pub enum Found {
     At(usize),
     Nothing,

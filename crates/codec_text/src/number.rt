@@ -8,7 +8,7 @@ pub enum Number {
     Not,
 }
 
-// A number with one digit more behind it.
+// A number with one digit more after it.
 fn grow(n: Number, d: u64) -> Number
     requires { ⌜ d ≤ 9 ⌝ }
 {

@@ -28,7 +28,7 @@ past c [] (suc i) h = refl
 past c (x ∷ xs) zero h = absurd (omega arith)
 past c (x ∷ xs) (suc i) h = past c xs i (omega arith)
 
--- there it stands
+-- there it is
 pub at-before : (c : ℕ) (xs : List ℕ) → before c xs < length xs → getD xs (before c xs) 0 ≡ c
 unfolding before
 at-before c [] h = absurd (omega arith)

@@ -1,4 +1,4 @@
--- Text put behind text.
+-- Text put after text.
 use mathlib.Core.Path.{_≡_, refl, sym, ap, _∙_}
 use mathlib.Core.List.{List, [], _∷_, _++_, append-assoc, append-nil}
 use Prim.Native.Nat.{ℕ, suc, _+_, _*_, _-_, _/_, _%_, _≤_, _<_}
@@ -18,7 +18,7 @@ use Rattle.digits.proofs.Digits.{length-digits}
 pub set-splice : (m : List ℕ) (k c : ℕ) → k < length m → set m k c ≡ splice m k (c ∷ [])
 set-splice m k c h = set-split m k c h ∙ rw (add-one k)
 
--- behind a text that is to come
+-- after a text that is to come
 pub behind-set : (m ys : List ℕ) (at n c : ℕ) → length ys ≡ n → at + n < length m
     → splice (set m (at + n) c) at ys ≡ splice m at (ys ++ (c ∷ []))
 behind-set m ys at n c e h =
@@ -33,7 +33,7 @@ behind-set m ys at n c e h =
 pub splice-nil : (m : List ℕ) (at : ℕ) → splice m at [] ≡ m
 splice-nil m at = rw (add-zero at) (take-append-drop at m)
 
--- one text behind another
+-- one text after another
 pub puts-next : (a b d : List ℕ) (at p q : ℕ) (x y : List ℕ) → Puts a b at p x → Puts b d p q y → at + length x ≤ length a
     → Puts a d at q (x ++ y)
 puts-next a b d at p q x y f g h =

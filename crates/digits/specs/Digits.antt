@@ -1,4 +1,4 @@
--- Numbers in text. A base is 10 or 16; digits above 9 are capital letters.
+-- RULES 12.3: numbers in text. A base is 10 or 16; digits above 9 are capital letters.
 use mathlib.Core.List.{List, [], _∷_, _++_}
 use mathlib.Core.Option.{Option, none, some}
 use Prim.Native.Nat.{ℕ, zero, suc, _+_, _*_, _-_, _/_, _%_, _^_}
@@ -43,7 +43,7 @@ hexes (b ∷ bs) = digits 16 2 b ++ hexes bs
 unfoldable pub digitOf : ℕ → ℕ
 digitOf c = pick (ltb c 48) 16 (pick (ltb c 58) (c - 48) (pick (ltb c 65) 16 (pick (ltb c 71) (c - 55) 16)))
 
--- a number that is in hand, with the digits of text behind it
+-- the number a so far, continued by the digits of text
 unfoldable pub numberFrom : ℕ → ℕ → List ℕ → Option ℕ
 numberFrom b a [] = some a
 numberFrom b a (c ∷ cs) = pick (ltb (digitOf c) b) (numberFrom b (a * b + digitOf c) cs) none

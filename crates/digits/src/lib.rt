@@ -1,4 +1,4 @@
-// Numbers in text: decimal and capital hexadecimal digits, read and written.
+// Numbers in text (RULES 12.3): decimal and capital hexadecimal digits, read and written.
 ghost use mathlib.Core.Path.{_≡_};
 ghost use mathlib.Core.List.{_∷_, []};
 ghost use Prim.Native.Nat.{_+_, _*_, _%_, _≤_, _<_};

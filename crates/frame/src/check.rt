@@ -1,4 +1,4 @@
-// The frame checks 2 to 6: 2 and 3 before a frame can be read, 4 to 6 on its head.
+// The frame checks 2 to 6 (RULES 4.1): 2 and 3 before a frame can be read, 4 to 6 on its head.
 use super::head::Head;
 use rules::limits::FRAME_DATA;
 ghost use mathlib.Core.Path.{_≡_};

@@ -1,4 +1,4 @@
-// What an ID and a tail byte say.
+// What an ID and a tail byte say (RULES 2.2 to 2.4).
 ghost use mathlib.Core.Path.{_≡_};
 ghost use Prim.Native.Nat.{_^_, _<_};
 ghost use Rattle.frame.specs.inside.Head.{headOf};

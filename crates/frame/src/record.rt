@@ -1,4 +1,4 @@
-// The record of a frame: ID, data length, data. Data bytes go as one number, low byte first: those that are not used are its zeros.
+// The record of a frame (RULES 2.6): ID, data length, data. Data bytes go as one number, low byte first: those that are not used are its zeros.
 ghost use mathlib.Core.Path.{_≡_};
 ghost use mathlib.Core.List.{_∷_, _++_};
 ghost use Prim.Native.Nat.{_+_, _≤_};

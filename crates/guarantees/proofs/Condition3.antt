@@ -1,4 +1,4 @@
--- Condition 3 over lent bytes: they answer and move as the rules' table does, through the view.
+-- Condition 3 over lent bytes (RULES 14.14): they answer and move as the rules' table does, through the view.
 use mathlib.Core.Path.{_≡_, refl, ap, _∙_}
 use mathlib.Core.List.{List}
 use Prim.Native.Nat.{ℕ}

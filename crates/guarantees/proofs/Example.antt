@@ -1,4 +1,4 @@
--- The example: its tables stand in lent bytes, and its premises come over from those of the rules.
+-- The example: its tables are in lent bytes, and its premises come over from those of the rules.
 use mathlib.Core.Path.{_≡_, refl, sym, ap, ap₂, subst, _∙_}
 use mathlib.Core.Bool.{Bool, true, _&&_}
 use mathlib.Core.List.{List, [], _∷_, append-nil, map}

@@ -1,4 +1,4 @@
--- The receivers that `receive` makes of lent bytes, for condition 3 (rules, Condition3.antt).
+-- RULES 14.14: the receivers that `receive` makes of lent bytes, for condition 3 (rules, Condition3.antt).
 use mathlib.Core.Path.{_≡_}
 use mathlib.Core.Bool.{true}
 use mathlib.Core.List.{List}
@@ -12,7 +12,7 @@ use Rattle.answers.specs.Reception.{numberOf}
 use Rattle.state.specs.Layout.{setupOf}
 use Rattle.state.specs.Sound.{soundState}
 
--- a lent state of a setup with any past: setup leaves one without a fault, every reception keeps it one, and 20 answers any other
+-- RULES 14.2: a lent state of a setup with any past. Setup leaves one without a fault, every reception keeps it one, and any other is answered 20.
 pub record Lent (u : Setup) (m : List ℕ) : Type 0 where
   pub setup : setupOf m ≡ u
   pub sound : soundState m ≡ true

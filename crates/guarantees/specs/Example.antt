@@ -1,4 +1,4 @@
--- A case that meets every premise of condition 3 over lent bytes, and what follows of it: the rules' example, in the bytes of states that were set up.
+-- RULES 14.15 over lent bytes (14.14): the rules' example, in the bytes of states that were set up, and what follows of it.
 use mathlib.Core.Path.{_≡_}
 use mathlib.Core.List.{List, [], _∷_, map}
 use Prim.Native.Nat.{ℕ}

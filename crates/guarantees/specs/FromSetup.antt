@@ -1,4 +1,4 @@
--- From a call of setup to lists of calls of `receive`: what an integrator may rely on.
+-- RULES 5.7, 4.11 and 14.14: from a call of setup to lists of calls of `receive`. This is what an integrator may rely on.
 use mathlib.Core.Path.{_≡_}
 use mathlib.Core.List.{List, map}
 use Prim.Native.Nat.{ℕ}
@@ -29,13 +29,13 @@ abbrev pub setUpBytes : Setup → Machine
 setUpBytes u = receiving (Reached u)
 
 pub record FromSetup : Type 0 where
-  -- setup leaves a state of the setup that was given, without a fault, with nothing held
+  -- RULES 3.5: setup leaves a state of the setup that was given, without a fault, with nothing held
   pub begins : (m : List ℕ) (own : ℕ) (r : List ℕ) → SetUp m own r
       → Lent (given own r) (afterSetup m own r .state) × (placesOf (afterSetup m own r .state) ≡ begun)
-  -- the calls after it read as the rules answer from an empty table
+  -- RULES 5.7: the calls after it read as the rules answer from an empty table
   pub reads : (m : List ℕ) (own : ℕ) (r : List ℕ) → SetUp m own r → (cs : List Call) → AllTyped cs
       → readings (afterSetup m own r .state) cs ≡ map readingOf (run (given own r) begun (receptions cs))
-  -- every state reached so is one that condition 3 is about
+  -- every state reached so is one that condition 3 is about (RULES 14.2)
   pub lasts : (u : Setup) (m : List ℕ) → Reached u m → Lent u m
-  -- and condition 3 holds of two receivers that were set up alike, each with any calls since
+  -- RULES 14.14: and condition 3 holds of two receivers that were set up alike, each with any calls since
   pub condition3 : Condition3 setUpBytes

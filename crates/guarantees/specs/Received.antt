@@ -1,4 +1,4 @@
--- One reception on a lent state without a fault, through the state's view.
+-- RULES 5.6, 5.7: one reception on a lent state without a fault, through the state's view.
 use mathlib.Core.Path.{_≡_}
 use mathlib.Core.Bool.{true}
 use mathlib.Core.List.{List}

@@ -1,4 +1,4 @@
--- Receptions one after the other on a lent state, and what the caller reads of each.
+-- RULES 4.11, 5.7: receptions one after the other on a lent state, and what the caller reads of each.
 use mathlib.Core.Path.{_≡_}
 use mathlib.Core.Bool.{true}
 use mathlib.Core.List.{List, [], _∷_, map}

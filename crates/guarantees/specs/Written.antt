@@ -1,4 +1,4 @@
--- Which tables a lent state can stand for.
+-- RULES 5.7: which tables a lent state can hold.
 use mathlib.Core.Path.{_≡_}
 use mathlib.Core.Bool.{true}
 use mathlib.Core.List.{List, [], _∷_}
@@ -25,7 +25,7 @@ abbrev pub AllWritable : Places → Type 0
 AllWritable [] = Unit {0}
 AllWritable (p ∷ ps) = WritableAt p × AllWritable ps
 
--- with the table ps written a state has no fault and stands for ps; all else of it stays
+-- with the table ps written a state has no fault and holds ps; all else of it stays
 pub record Stands (m : List ℕ) (ps : Places) : Type 0 where
   pub sound : soundState (written m 0 ps) ≡ true
   pub bytes : Octets (written m 0 ps)

@@ -7,37 +7,37 @@ ghost use Rattle.guarantees.specs.Run.{RunLaw};
 ghost use Rattle.guarantees.specs.Written.{TableLaw};
 ghost use Rattle.rules.specs.Condition3.{Condition3};
 
-// Every table without a fault, with times and data in range, is that of a lent state.
+// RULES 5.7: every table without a fault, with times and data in range, is that of a lent state.
 pub fn tables_held()
     ensures { λ _. ⌜ TableLaw ⌝ }
 {}
 
-// The state after a reception stands for the table that the rules' step leaves, under the same setup.
+// RULES 5.7: the state after a reception holds the table that the rules' step leaves, under the same setup.
 pub fn reception_by_view()
     ensures { λ _. ⌜ ViewLaw ⌝ }
 {}
 
-// A lent state without a fault stays one.
+// RULES 5.7: a lent state without a fault stays one.
 pub fn state_lasts()
     ensures { λ _. ⌜ SoundLaw ⌝ }
 {}
 
-// A list of receptions is answered as the rules answer it, and leaves what stands for the rules' table after it.
+// RULES 4.11: a list of receptions is answered as the rules answer it, and leaves a state that holds the rules' table after it.
 pub fn run_by_view()
     ensures { λ _. ⌜ RunLaw ⌝ }
 {}
 
-// Condition 3, of lent bytes.
+// RULES 14.14: condition 3, of lent bytes.
 pub fn condition3_lent()
     ensures { λ _. ⌜ Condition3 lentBytes ⌝ }
 {}
 
-// A case that meets its premises, with the theorem applied.
+// RULES 14.15: a case that meets its premises, with the theorem applied.
 pub fn condition3_lent_example()
     ensures { λ _. ⌜ LentExample ⌝ }
 {}
 
-// From a call of setup to lists of calls: condition 3 among what holds of them.
+// RULES 5.7, 14.14: from a call of setup to lists of calls, condition 3 among what holds of them.
 pub fn setup_then_calls()
     ensures { λ _. ⌜ FromSetup ⌝ }
 {}

@@ -20,7 +20,7 @@ use Rattle.id_map.proofs.Keys.{key-some, key-topic}
 use Rattle.rules.specs.Map.{Topic, Slot, free, used}
 use Rattle.rules.specs.Tests.{pick}
 
--- the n bytes from a on lie before or behind the field of w bytes at `at`
+-- the n bytes from a on come before or after the field of w bytes at `at`
 record Clear (at w a n : ℕ) : Type 0 where
   pub before : a < at → a + n ≤ at
   pub behind : at ≤ a → at + w ≤ a

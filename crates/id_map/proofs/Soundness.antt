@@ -131,7 +131,7 @@ flag-byte true = refl
 flag-byte false = refl
 
 module _ (m : List ℕ) where
-  -- a topic has as many entries as its key stands among the keys
+  -- a topic has an entry for each time that its key is among the keys
   times-count : (k : ℕ) → (k ≡ 0 → ⊥) → (n i : ℕ) → times (topicOfKey k) (tabulate (slotAt m) i n) ≡ count k (tabulate (keyAt m) i n)
   unfolding times count tabulate
   times-count k z zero i = refl

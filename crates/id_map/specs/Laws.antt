@@ -1,4 +1,4 @@
--- What holds of a map that was set up; `laws.rt` has a function whose contract it is.
+-- RULES 8.4, 8.6: what holds of a map that was set up; `laws.rt` has a function whose contract it is.
 use mathlib.Core.Path.{_≡_}
 use mathlib.Core.Bool.{true}
 use mathlib.Core.List.{List}

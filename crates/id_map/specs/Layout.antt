@@ -1,4 +1,4 @@
--- The layout of a transfer-ID map in lent bytes, and its view as the rules' map. Numbers are low byte first; bytes past the layout mean nothing.
+-- RULES 8.1, 8.5: the layout of a map in lent bytes, and its view as the rules' map. Numbers are low byte first; bytes past it are not read.
 use mathlib.Core.List.{List, [], _∷_}
 use Prim.Native.Nat.{ℕ, suc, _+_, _*_, _-_, _/_, _%_}
 use lib.Dec.{eqb}
@@ -41,7 +41,7 @@ nextAt m i = getD m (nextsAt + i) 0
 unfoldable pub keyOf : Topic → ℕ
 keyOf k = (k .transferType * 65536 + k .type) * 256 + (k .destination * 2 + 1)
 
--- an even key has a destination out of range
+-- RULES 8.5: an even key has a destination out of range
 unfoldable pub topicOfKey : ℕ → Topic
 topicOfKey k = record { transferType = k / 16777216; type = k / 256 % 65536; destination = k / 2 % 128 + 128 * (1 - k % 2) }
 

@@ -1,4 +1,4 @@
--- Setting a map up.
+-- RULES 8.4: setting a map up.
 use mathlib.Core.List.{List, _++_}
 use Prim.Native.Nat.{ℕ}
 use lib.Dec.{ltb}

@@ -1,4 +1,4 @@
--- 01, Numbers answered, 20: a lent map without a fault.
+-- RULES 8.5: a lent map without a fault.
 use mathlib.Core.Bool.{Bool, _&&_}
 use mathlib.Core.List.{List}
 use Prim.Native.Nat.{ℕ}

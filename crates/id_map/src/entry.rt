@@ -1,4 +1,4 @@
-// One entry of the map.
+// One entry of the map (RULES 8.1, 8.3).
 use super::layout::KEYS_AT;
 use super::layout::NEXTS_AT;
 use super::layout::TIMES_AT;

@@ -1,4 +1,4 @@
-// The place of a topic's entry, or that of a new one.
+// The place of a topic's entry, or that of a new one (RULES 8.2).
 use super::entry;
 use super::layout::KEYS_AT;
 use rules::limits::MAP_ENTRIES;

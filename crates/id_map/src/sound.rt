@@ -1,4 +1,4 @@
-// The faults of a lent map that answer 20. Every send runs this first.
+// The faults of a lent map (RULES 8.5), which answer 20. Every send runs this first.
 use super::layout::KEYS_AT;
 use super::layout::NEXTS_AT;
 use super::layout::SIZE;
@@ -46,7 +46,7 @@ fn place_fits(map: &[u8], i: usize, k: u32) -> bool
     false
 }
 
-// Place by place, up to the last entry: each fits, and no key stands twice. One walk for both, since it runs at every call.
+// Place by place, up to the last entry: each fits, and no key is there twice. One walk for both, since it runs at every call.
 fn places_sound(map: &[u8], table: &[u32]) -> bool
     requires { ⌜ (size ≤ length (now map)) × (now table ≡ keysOf (now map)) ⌝ }
     ensures { λ r. ⌜ r ≡ (every (emptyOrFits (now (map .entry))) 0 entriesMax && distinct (now (table .entry))) ⌝ }
@@ -71,7 +71,7 @@ fn places_sound(map: &[u8], table: &[u32]) -> bool
     true
 }
 
-// Internal. The map has no fault that 20 names.
+// Internal. The map has no fault (RULES 8.5).
 pub fn is_sound(map: &[u8]) -> bool
     ensures { λ r. ⌜ r ≡ soundMap (now (map .entry)) ⌝ }
 {

@@ -1,4 +1,4 @@
--- How often a key stands in a table.
+-- How often a key is in a table.
 use mathlib.Core.Path.{_≡_, refl, sym, ap, ap₂, _∙_}
 use mathlib.Core.Bool.{Bool, true, false, not}
 use mathlib.Core.List.{List, [], _∷_}

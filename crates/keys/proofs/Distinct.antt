@@ -1,4 +1,4 @@
--- A table has distinct keys exactly if each key in use stands once, and exactly if each is the first of its kind.
+-- A table has distinct keys exactly if each key in use is there once, and exactly if each is the first of its kind.
 use mathlib.Core.Path.{_≡_, refl, sym, ap, ap₂, _∙_}
 use mathlib.Core.Bool.{Bool, true, false, _&&_, _||_}
 use mathlib.Core.List.{List, [], _∷_}

@@ -1,4 +1,4 @@
--- A mark set for every key passed shows which may stand a second time.
+-- A mark set for every key passed shows which may be there a second time.
 use mathlib.Core.Path.{_≡_, refl, sym, ap, subst, _∙_}
 use mathlib.Core.Bool.{Bool, true, false}
 use mathlib.Core.List.{List}

@@ -1,4 +1,4 @@
--- A walk over the keys of a table, up to the last place in use: where it stands, one turn, and its ends.
+-- A walk over the keys of a table, up to the last place in use: where it is, one turn, and its ends.
 use mathlib.Core.Path.{_≡_, refl, sym, ap, subst, _∙_}
 use mathlib.Core.Bool.{Bool, true, false, false≢true, not, _||_}
 use mathlib.Core.List.{List}
@@ -54,7 +54,7 @@ module _ (table marks : List ℕ) (left i : ℕ) (w : Walked table marks left i)
         own true q t z = unmarked (at table) i marks (w .marked) (markAt k) refl (sym q)
         own false q t z = once-first table i here (eqb-true (count k table) 1 (rw (ne-eqb k 0 z) at t))
 
-    -- a key that stands twice
+    -- a key that is there twice
     pub twice : (first : Bool) → alone table k first ≡ false → distinct table ≡ false
     twice true e = absurd (false≢true (sym e))
     twice false e = go (eqb k 0) refl (distinct table) refl where

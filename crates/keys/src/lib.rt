@@ -56,7 +56,7 @@ pub fn mark(marks: &mut [u8; MARKS], k: u32) -> bool
     first
 }
 
-// Internal. The key k is 0 or stands once in the table; `first`: it is known that it stands at no earlier place.
+// Internal. The key k is 0 or is in the table once; `first`: it is known that it is at no earlier place.
 pub fn is_alone(table: &[u32], k: u32, first: bool) -> bool
     requires { ⌜ length (now table) < 4294967296 ⌝ }
     ensures { λ r. ⌜ r ≡ (first || (eqb k 0 || eqb (inside.count k (now (table .entry))) 1)) ⌝ }
@@ -70,7 +70,7 @@ pub fn is_alone(table: &[u32], k: u32, first: bool) -> bool
     count(table, k) == 1
 }
 
-// Internal. No key but 0 stands twice. The walk goes as far as the last key, and counts only keys whose mark is set.
+// Internal. No key but 0 is there twice. The walk goes as far as the last key, and counts only keys whose mark is set.
 pub fn are_distinct(table: &[u32]) -> bool
     requires { ⌜ length (now table) < 4294967296 ⌝ }
     ensures { λ r. ⌜ r ≡ distinct (now (table .entry)) ⌝ }

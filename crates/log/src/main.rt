@@ -1,4 +1,4 @@
-// The log program (01): standard input to standard output, a block at a time. Reading and writing are here, all else is in `log_feed`.
+// The log program (RULES 12): standard input to standard output, a block at a time. Reading and writing are here, all else is in `log_feed`.
 use log_replay::Counts;
 ghost use mathlib.Core.Path.{_≡_};
 ghost use mathlib.Core.Bool.{true};

@@ -1,4 +1,4 @@
--- Text put behind text: a character in front, and two texts with a character between them.
+-- Text put after text: a character in front, and two texts with a character between them.
 use mathlib.Core.List.{List, [], _∷_, _++_}
 use Prim.Native.Nat.{ℕ, _+_, _≤_, _<_}
 use native.Mathlib.Omega.{arith}

@@ -1,4 +1,4 @@
--- 01, The log program: the text of an answer, behind the time.
+-- RULES 12.5: the text of an answer, after the time.
 use mathlib.Core.List.{List, [], _∷_, _++_}
 use Prim.Native.Nat.{ℕ}
 use lib.Dec.{eqb}
@@ -28,7 +28,7 @@ transferText t p =
     32 ∷ letterOf (t .«transfer_type») ∷ (words (t .«type_id» ∷ t .source ∷ t .destination ∷ t .priority ∷ t .transfer ∷ t .len ∷ [])
     ++ (32 ∷ (payloadText p ++ (10 ∷ []))))
 
--- of the receiver's output buffer, where the payload stands in front
+-- of the receiver's output buffer, where the payload is in front
 unfoldable pub answerText : Answer → List ℕ → List ℕ
 answerText a out =
     pick (eqb (numberOf a) 1) (transferText (transferIn a) (take (transferIn a .len) out)) (numbered (pick (eqb (numberOf a) 0) 43 45) (numberOf a))

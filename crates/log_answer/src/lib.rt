@@ -1,4 +1,4 @@
-// The text of an answer in a log, behind the time.
+// The text of an answer in a log, after the time (RULES 12.5).
 use answers::Answer;
 use answers::Transfer;
 ghost use mathlib.Core.Path.{_≡_};

@@ -28,7 +28,7 @@ cut-none (b ∷ bs) h = go (eqb b 10) refl h (cut-none bs) where
   go true q e ih = absurd (omega arith)
   go false q e ih = rw (ih (omega arith))
 
--- a line, and the lines behind it
+-- a line, and the lines after it
 pub cut-line : (s : List ℕ) → before 10 s < length s
     → cut s ≡ cutOf (take (before 10 s + 1) s ∷ cut (drop (before 10 s + 1) s) .whole) (cut (drop (before 10 s + 1) s) .rest)
 unfolding cut before ahead
@@ -45,7 +45,7 @@ cut-line (b ∷ bs) h = go (eqb b 10) refl h (cut-line bs) where
       let k : suc (before 10 bs) + 1 ≡ suc (before 10 bs + 1) = omega arith in
       rw (k, ih (omega arith))
 
--- ── one input behind another ──
+-- ── one input after another ──
 
 -- lines in front
 abbrev pub after : List (List ℕ) → Cut → Cut
@@ -113,7 +113,7 @@ unfolding cut ahead
 cut-plain [] h = refl
 cut-plain (b ∷ bs) h = rw (h .0, cut-plain bs (h .1))
 
--- ── replaying one list of lines behind another ──
+-- ── replaying one list of lines after another ──
 
 pub behind-behind : (t u : List ℕ) (r : Replay) → behind t (behind u r) ≡ behind (t ++ u) r
 behind-behind t u r = rw (append-assoc t u (r .text))

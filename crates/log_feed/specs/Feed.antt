@@ -1,4 +1,4 @@
--- The input comes in blocks. What one block gives, what is left at the end, and the law: the blocks' texts are the output, however the input is cut.
+-- RULES 12.4, with the input in blocks: what one block gives, what is left at the end, and the law that the output does not depend on the cuts.
 use mathlib.Core.Path.{_≡_}
 use mathlib.Core.List.{List, [], _∷_, _++_}
 use Prim.Native.Nat.{ℕ}
@@ -14,7 +14,7 @@ pub record Feed : Type 0 where
   pub counts : Counts
   pub kept : List ℕ
 
--- of what was kept and the block behind it
+-- of what was kept and the block after it
 abbrev pub feed : List ℕ → Counts → List ℕ → Feed
 feed m c p =
     record {

@@ -1,4 +1,4 @@
--- 01, The log program: what is on standard output, as a definition of what came on standard input.
+-- RULES 12.1, 12.4 to 12.7: what is on standard output, as a definition of what came on standard input.
 use mathlib.Core.List.{List, [], _∷_, _++_}
 use Prim.Native.Nat.{ℕ}
 use lib.Dec.{eqb}
@@ -9,7 +9,7 @@ use Rattle.log_line.specs.Reading.{said}
 use Rattle.log_replay.specs.Replay.{counted, endText, reply}
 use Rattle.log_replay.specs.declared.Counts.{Counts}
 
--- "time kind type from to prio id len payload" and a line feed
+-- RULES 12.7: `time kind type from to prio id len payload` and a line feed
 abbrev pub heading : List ℕ
 heading =
     116 ∷ 105 ∷ 109 ∷ 101 ∷ 32 ∷
@@ -22,9 +22,9 @@ heading =
     108 ∷ 101 ∷ 110 ∷ 32 ∷
     112 ∷ 97 ∷ 121 ∷ 108 ∷ 111 ∷ 97 ∷ 100 ∷ 10 ∷ []
 
--- ── the lines of an input ──
+-- ── the lines of an input (RULES 12.4) ──
 
--- those that have their line feed, with it, and what stands behind the last line feed
+-- those that have their line feed, with it, and what comes after the last line feed
 pub record Cut : Type 0 where
   pub whole : List (List ℕ)
   pub rest : List ℕ
@@ -38,7 +38,7 @@ unfoldable pub cut : List ℕ → Cut
 cut [] = record { whole = []; rest = [] }
 cut (b ∷ bs) = pick (eqb b 10) (record { whole = (b ∷ []) ∷ cut bs .whole; rest = cut bs .rest }) (ahead b (cut bs .whole) (cut bs .rest))
 
--- bytes behind the last line feed are one more line
+-- bytes after the last line feed are one more line
 abbrev pub lastLine : List ℕ → List (List ℕ)
 lastLine [] = []
 lastLine (b ∷ bs) = (b ∷ bs) ∷ []
@@ -67,7 +67,7 @@ closed r = r .text ++ endText (r .counts)
 
 -- ── the whole output ──
 
--- the receiver is node 1
+-- RULES 12.1: the receiver is node 1
 abbrev pub begun : List ℕ
 begun = stateOf (given 1 subscriptions)
 

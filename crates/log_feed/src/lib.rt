@@ -1,4 +1,4 @@
-// The log program but for reading and writing: blocks of input in, text out.
+// The log program (RULES 12) but for reading and writing: blocks of input in, text out.
 use log_replay::Counts;
 ghost use mathlib.Core.Path.{_≡_};
 ghost use mathlib.Core.Bool.{true};
@@ -85,7 +85,7 @@ fn keep(block: &mut [u8], from: usize, to: usize) -> usize
     moved(block, from, 48)
 }
 
-// Internal. The first n bytes of the block's buffer: what was kept, and a block of input behind it.
+// Internal. The first n bytes of the block's buffer: what was kept, and a block of input after it.
 pub fn feed(state: &mut [u8], block: &mut [u8], n: usize, out: &mut [u8], counts: Counts) -> Fed
     requires { ⌜ (soundState (now state) ≡ true) × ((n ≤ length (now block)) × (n * 80 + 1200 ≤ length (now out))) ⌝ }
     ensures { λ r. ⌜ seen r (now (state .exit)) (now (block .exit)) (now (out .exit)) ≡ feedOf (now (state .entry)) counts (take n (now (block .entry))) ⌝ }

@@ -1,4 +1,4 @@
--- What reading a line comes to: a line is well formed exactly if it is the line of a frame, and then it says that frame.
+-- RULES 12.2: what reading a line comes to. A line is well formed exactly if it is the line of a frame, and then it says that frame.
 use mathlib.Core.Path.{_≡_}
 use mathlib.Core.List.{List}
 use mathlib.Core.Option.{some}

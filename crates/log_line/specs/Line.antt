@@ -1,4 +1,4 @@
--- 01, The log program: the form of a line. Lines are lists of characters, the closing line feed (10) included.
+-- RULES 12.2: the form of a line. Lines are lists of characters, the closing line feed (character 10) included.
 use mathlib.Core.Path.{_≡_}
 use mathlib.Core.List.{List, [], _∷_, _++_}
 use Prim.Native.Nat.{ℕ, _/_, _%_, _^_, _≤_, _<_}

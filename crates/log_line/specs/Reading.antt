@@ -1,4 +1,4 @@
--- Reading a line, in the steps that the code takes. specs/Laws.antt says what it comes to: a line that reads is the line of what was read.
+-- RULES 12.2, 12.8: reading a line, in the steps that the code takes. specs/Laws.antt says what it comes to.
 use mathlib.Core.Bool.{Bool, true, false, _&&_}
 use mathlib.Core.List.{List, [], _∷_, _++_}
 use mathlib.Core.Option.{Option, none, some}
@@ -27,7 +27,7 @@ unfoldable pub pairs : ℕ → List ℕ → Option (List ℕ)
 pairs zero l = some []
 pairs (suc k) l = paired (pairOf l) (pairs k (drop 3 l))
 
--- ── the line: s characters of seconds stand before the first dot ──
+-- ── the line: s characters of seconds come before the first dot ──
 
 -- 1 to 9 of them; the length is that of a line with 0 to 8 bytes; the space and the line feed are in their places
 unfoldable pub shaped : ℕ → List ℕ → Bool
@@ -55,7 +55,7 @@ said l = pick (shaped (before 46 l) l) (fieldsOf (before 46 l) l) none
 
 -- ── as the code tells it ──
 
--- the reader's struct, where s characters stand before the dot: the frame, its bytes filled up with zeros, and how many characters its time takes
+-- the reader's struct, where s characters come before the dot: the frame, its bytes filled up with zeros, and how many characters its time takes
 abbrev pub lineWith : ℕ → Option Frame → Line
 lineWith s none = record { ok = false; head = 0; id = 0; time = 0; len = 0; bytes = replicate 8 0 }
 lineWith s (some f) =

@@ -1,4 +1,4 @@
-// One line of a log, read into a frame and its time.
+// One line of a log, read into a frame and its time (RULES 12.2).
 use digits::Parsed;
 ghost use mathlib.Core.Path.{_≡_};
 ghost use mathlib.Core.Bool.{true};

@@ -77,7 +77,7 @@ module _ (l : List ℕ) (r : line.Line) (is : r ≡ lineIn l) (ok : r .ok ≡ tr
   pub in-range : Typed (frameSaid r)
   in-range = let c = read l (frameSaid r) says .carried in record { bytes = c .octets; time = omega (arith, c .time) }
 
-  -- the time, and the answer behind it
+  -- the time, and the answer after it
   module _ (m m' pay out out₁ out₂ : List ℕ) (c c' : Counts) (a : Answer) (at p : ℕ) (room : at + r .head ≤ length out) where
     pub replied : receive.result a m' pay ≡ received m (frameSaid r) (replicate 512 0) → out₁ ≡ splice out at (take (r .head) l)
         → Puts out₁ out₂ (at + r .head) p (answerText a pay)

@@ -1,4 +1,4 @@
--- 01, The log program: what one line gives. A line is read, its frame goes to the receiver, and the answer is written behind the time.
+-- RULES 12.5 to 12.7: what one line gives. It is read, its frame goes to the receiver, and the answer is written after the time.
 use mathlib.Core.Bool.{Bool, true, false}
 use mathlib.Core.List.{List, [], _∷_, _++_}
 use mathlib.Core.Option.{Option, none, some}
@@ -17,7 +17,7 @@ use Rattle.answers.specs.Reception.{numberOf}
 use Rattle.answers.specs.declared.Answer.{Answer}
 use Rattle.digits.specs.Digits.{words}
 
--- ── counting ──
+-- ── counting (RULES 12.6) ──
 
 -- a counter stays at the largest number of 64 bits
 unfoldable pub up : ℕ → ℕ
@@ -30,7 +30,7 @@ counted c handed = record { lines = up (c .lines); transfers = pick handed (up (
 abbrev pub isHanded : Answer → Bool
 isHanded a = eqb (numberOf a) 1
 
--- the last line: "end", lines read, transfers handed out
+-- RULES 12.7, the last line: `end`, lines read, payloads handed out
 unfoldable pub endText : Counts → List ℕ
 endText c = 101 ∷ 110 ∷ 100 ∷ (words (c .lines ∷ c .transfers ∷ []) ++ (10 ∷ []))
 
@@ -45,7 +45,7 @@ pub record Reply : Type 0 where
 unfoldable pub answered : ℕ → receive.Result → Reply
 answered time r = record { text = timeText time ++ answerText (r .answer) (r .out); state = r .state; handed = isHanded (r .answer) }
 
--- a line that is not well formed leaves the receiver as it was; the receiver is lent 512 bytes
+-- RULES 12.5: a line that is not well formed leaves the receiver as it was; 12.1: the receiver is lent 512 bytes
 unfoldable pub reply : List ℕ → Option Frame → Reply
 reply m none = record { text = 63 ∷ numbered 45 18; state = m; handed = false }
 reply m (some f) = answered (f .time) (received m f (replicate 512 0))

@@ -1,4 +1,4 @@
-// The log program's work on one line: reading it, receiving its frame, writing the answer, counting.
+// The log program's work on one line (RULES 12.8): reading it, receiving its frame, writing the answer, counting.
 use answers::Answer;
 use log_line::read::Line;
 ghost use mathlib.Core.Path.{_≡_};
@@ -56,7 +56,7 @@ fn is_handed(a: Answer) -> bool
     a.number() == 1
 }
 
-// A line that is not well formed: "? - 18".
+// A line that is not well formed: `? - 18`.
 fn refuse(out: &mut [u8], at: usize, c: Counts) -> Said
     requires { ⌜ at + room ≤ length (now out) ⌝ }
     ensures { λ r. ⌜ (r ≡ given c (now (out .entry)) at (reply [] none) .said) × ((now (out .exit) ≡ given c (now (out .entry)) at (reply [] none) .out) × (r .past ≤ at + 80)) ⌝ }

@@ -1,4 +1,4 @@
--- 01, The log program: what its receiver subscribes to. This is the only place that says so, with the table of lib.rt.
+-- RULES 12.1: what the log program's receiver subscribes to. This is the only place that says so, with the table of lib.rt.
 use mathlib.Core.List.{List, [], _∷_, _++_}
 use Prim.Native.Nat.{ℕ}
 use Rattle.bits.specs.Little.{leBytes}
@@ -18,7 +18,7 @@ types =
     -- LogMessage
     (0, 16383) ∷ []
 
--- a subscription as a setup takes it: kind (1), type ID (4), signature (8), low byte first
+-- RULES 3.3: a subscription as a setup takes it, kind (1), type ID (4), signature (8), low byte first
 unfoldable pub record13 : ℕ → ℕ → List ℕ
 record13 kind type = leBytes 1 kind ++ (leBytes 4 type ++ leBytes 8 (signatureOf kind type))
 

@@ -1,4 +1,4 @@
-// What the log program's receiver subscribes to.
+// What the log program's receiver subscribes to (RULES 12.1).
 ghost use mathlib.Core.Path.{_≡_};
 ghost use Prim.Native.Nat.{_+_, _*_, _≤_};
 ghost use lib.ListN.{length};
@@ -18,7 +18,7 @@ const TYPES: [u32; COUNT] = [
     16383, // LogMessage
 ];
 
-// A type as a record for a receiver's setup: kind (1), type ID (4), signature (8), low byte first.
+// A type as a record for a receiver's setup (RULES 3.3): kind (1), type ID (4), signature (8), low byte first.
 fn put(out: &mut [u8], j: usize, kind: u32, type_id: u32)
     requires { ⌜ j * 13 + 13 ≤ length (now out) ⌝ }
     ensures { λ _. ⌜ now (out .exit) ≡ splice (now (out .entry)) (j * 13) (record13 kind «type_id») ⌝ }

@@ -1,4 +1,4 @@
-// 003, Example: the allocator's three answers in the log, through the sender on a map that was set up.
+// RULES 15.3: the allocator's three answers in the log, through the sender on a map that was set up.
 use super::byte;
 use answers::Sent;
 use sender::Outgoing;

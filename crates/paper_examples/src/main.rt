@@ -1,4 +1,4 @@
-// Runs worked examples of the papers through the proved functions; the stored output is the comparison.
+// Runs the worked examples of RULES 15 through the proved functions; the stored output is the comparison.
 mod allocation;
 
 use bits::field;
@@ -18,7 +18,7 @@ fn show(name: &[u8], s: &[u8; 4]) {
     io::write_all(1, b"\n");
 }
 
-// 01, Messages: the 12-bit 0xEDA and then the 4-bit 5.
+// RULES 15.1, 9.2: the 12-bit 0xEDA and then the 4-bit 5.
 fn two_fields() {
     let mut s = [0u8; 4];
     field::write(&mut s, 0, 12, 0xEDA);
@@ -26,7 +26,7 @@ fn two_fields() {
     show(b"01 two fields", &s);
 }
 
-// 004, Byte order and bit order: 0xBEDA in 12 bits, -1 in 3, -5 in 4, -1 in 2 and 0x88 in 4, of each the low bits.
+// RULES 15.2: 0xBEDA in 12 bits, -1 in 3, -5 in 4, -1 in 2 and 0x88 in 4, of each the low bits.
 fn five_fields() {
     let mut s = [0u8; 4];
     field::write(&mut s, 0, 12, 0xBEDA);
@@ -37,14 +37,14 @@ fn five_fields() {
     show(b"004 five fields", &s);
 }
 
-// 002: the check value of CRC-16-CCITT-FALSE.
+// RULES 15.1: the check value of CRC-16-CCITT-FALSE.
 fn check_value() {
     io::write_all(1, b"002 checksum of 123456789 ");
     io::print_hex(1, crc16::over(0xFFFF, b"123456789") as u64, 4);
     io::write_all(1, b"\n");
 }
 
-// 004: the width of the length field of lists of at most 251 items and of one.
+// RULES 9.3: the width of the length field of lists of at most 251 items and of one.
 fn widths() {
     io::write_all(1, b"004 length fields of 251 and 1: ");
     io::print_decimal(1, bits::width::width(251) as u64);

@@ -154,7 +154,7 @@ module _ (s : List ℕ) (o : Octets s) where
     go false false false ea eb ec = absurd (never (unnamed (ltb-false (length s) (41 + n) ea) (ltb-false 80 (length (nameIn s)) eb) ec) e)
     go false false true ea eb ec = reading.only e (read (ltb-false (length s) (41 + n) ea) (ltb-false 80 (length (nameIn s)) eb) ec)
 
-  -- the struct of what stands at these places
+  -- the struct of what is at these places
   pub made : (m : Numbers) (u c a l : ℕ) → m ≡ numbersAt (unpack s) → u ≡ length (uniqueIdIn s) → c ≡ length (certificateIn s) → a ≡ 41 + length (certificateIn s)
       → l ≡ length (nameIn s)
       → _≡_ {A = Response}

@@ -1,4 +1,4 @@
--- GetNodeInfo's request (01, Messages): it is empty.
+-- RULES 10.6: GetNodeInfo's request. It is empty.
 use Rattle.shape.specs.Answer.{Answer, refused, got}
 use Rattle.shape.specs.Shape.{Shape, end, Values}
 use Rattle.protocol.specs.declared.get_node_info_request.Read.{Read}

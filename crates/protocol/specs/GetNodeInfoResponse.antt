@@ -1,4 +1,4 @@
--- GetNodeInfo's response (01, Messages): NodeStatus; software version major 8, minor 8, flags 8, commit 32, image CRC 64; hardware version
+-- RULES 10.7: GetNodeInfo's response. NodeStatus; software version major 8, minor 8, flags 8, commit 32, image CRC 64; hardware version
 -- major 8, minor 8, unique ID 16 bytes, certificate list of at most 255; name list of at most 80.
 use mathlib.Core.Bool.{Bool}
 use mathlib.Core.List.{List}
@@ -19,22 +19,22 @@ use Rattle.protocol.specs.declared.get_node_info_response.Read.the-varia
 abbrev pub softwareThen : Shape → Shape
 softwareThen d = num 8 (num 8 (num 8 (num 32 (num 64 d))))
 
--- the numbers behind the status, and what follows them
+-- the numbers after the status, and what follows them
 abbrev pub versionsThen : Shape → Shape
 versionsThen d = softwareThen (num 8 (num 8 d))
 
--- "A GetNodeInfo certificate is never last, so it keeps its length field"
+-- RULES 9.4: the name follows the certificate, so the certificate has a length field; nothing follows the name, so it has none
 abbrev pub lists : Shape
 lists = items 8 16 (list 8 255 (tail 8 80 isName))
 
 abbrev pub response : Shape
 response = statusThen (versionsThen lists)
 
--- the certificate starts behind its length field, the name behind the certificate
+-- the certificate starts after its length field, the name after the certificate
 unfoldable pub certificateLength : List ℕ → ℕ
 certificateLength p = fromBits (widthOf 255) (drop 320 (unpack p))
 
--- the lists as parts of the payload
+-- RULES 9.9: the lists as parts of the payload
 abbrev pub uniqueIdIn : List ℕ → List ℕ
 uniqueIdIn p = span p 24 16
 

@@ -1,4 +1,4 @@
--- The return trips of NodeStatus and GetNodeInfo, as instances of the laws over every description. `laws.rt` has a function whose contract they are.
+-- RULES 9.10: the return trips of NodeStatus and GetNodeInfo, instances of the laws over every description; `laws.rt` has a function for them.
 use mathlib.Core.Path.{_≡_}
 use mathlib.Core.List.{List}
 use Prim.Native.Nat.{ℕ}
@@ -9,7 +9,7 @@ use Rattle.protocol.specs.NodeStatus.{nodeStatus, statusValues, statusOf
 use Rattle.protocol.specs.GetNodeInfoRequest.{request}
 use Rattle.protocol.specs.GetNodeInfoResponse.{lists, response, uniqueIdIn, certificateIn, nameIn, numberValues, responseOf, numbersAt}
 
--- what stands in a payload, numbers at their places and lists as the parts that `unique_id`, `certificate_of_authenticity` and `name` give
+-- what is in a payload, numbers at their places and lists as the parts that `unique_id`, `certificate_of_authenticity` and `name` give
 abbrev pub statusFound : List ℕ → Values nodeStatus
 statusFound p = statusValues (statusAt (unpack p)) end tt
 
@@ -20,6 +20,6 @@ pub record Laws : Type 0 where
   pub status : Trips nodeStatus (statusOf end) statusFound
   pub requests : Trips request (λ v. v) (λ p. tt)
   pub responses : Trips response responseOf responseFound
-  -- sub-mode's three bits are all that is not kept
+  -- RULES 9.8: sub-mode's three bits are all that is not kept
   pub status-kept : (p : List ℕ) → cleared nodeStatus p ≡ store p 37 (toBits 3 0)
   pub response-kept : (p : List ℕ) → cleared response p ≡ store p 37 (toBits 3 0)

@@ -1,4 +1,4 @@
--- The node name (01, Messages): "not empty and uses only a-z, 0-9, dot, dash and underscore".
+-- RULES 10.8: the node name. It has at least one letter, and no letter but those below.
 use mathlib.Core.Bool.{Bool, true, _&&_, _||_}
 use mathlib.Core.List.{List, [], _∷_}
 use Prim.Native.Nat.{ℕ}

@@ -1,4 +1,4 @@
--- NodeStatus (01, Messages): uptime 32, health 2, mode 3, sub-mode 3, vendor code 16.
+-- RULES 10.2: NodeStatus. Uptime 32, health 2, mode 3, sub-mode 3, vendor code 16.
 use Prim.Native.Nat.{ℕ}
 use mathlib.Core.Bool.{Bool}
 use mathlib.Core.List.{List}
@@ -10,14 +10,14 @@ use Rattle.protocol.specs.declared.node_status.NodeStatus.{NodeStatus}
 use Rattle.protocol.specs.declared.node_status.Read.{Read}
 use Rattle.protocol.specs.declared.node_status.Read.the-variants.{Refused, Got}
 
--- a status, and what follows it; "sub-mode is read as zero and written as zero"
+-- a status, and what follows it; sub-mode is an ignored field (RULES 9.8)
 abbrev pub statusThen : Shape → Shape
 statusThen d = num 32 (num 2 (num 3 (void 3 (num 16 d))))
 
 abbrev pub nodeStatus : Shape
 nodeStatus = statusThen end
 
--- the struct's values, "any value given" for sub-mode
+-- the struct's values; sub-mode may have any, since none is written
 abbrev pub statusValues : NodeStatus → (d : Shape) → Values d → Values (statusThen d)
 statusValues x d rest = (x .«uptime_sec», (x .health, (x .mode, (x .«vendor_specific_status_code», rest))))
 

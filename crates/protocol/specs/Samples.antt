@@ -1,4 +1,4 @@
--- Worked values, as facts of the definitions: the status of 01's log listing, and a response with a certificate and a name.
+-- RULES 15.2: worked values, as facts of the definitions. A status, and a response with a certificate and a name (10.7).
 -- `laws.rt` has a function whose contract they are.
 use mathlib.Core.Path.{_≡_}
 use mathlib.Core.List.{List, [], _∷_, _++_}
@@ -18,7 +18,7 @@ certificate = 160 ∷ 161 ∷ 162 ∷ []
 abbrev pub name : List ℕ
 name = 97 ∷ 46 ∷ 98 ∷ []
 
--- numbers of several bytes stand low byte first; the certificate's length stands before it, the name has none
+-- numbers of several bytes are low byte first; the certificate's length comes before it, the name has none
 abbrev pub responseBytes : List ℕ
 responseBytes =
     -- uptime 258, health 1, mode 7, sub-mode 0, vendor code 515

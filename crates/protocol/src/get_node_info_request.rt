@@ -1,4 +1,4 @@
-// The request: it holds nothing.
+// The request of GetNodeInfo (RULES 10.6): it holds nothing.
 use shape::answer::Written;
 ghost use mathlib.Core.Path.{_≡_};
 ghost use Rattle.shape.specs.Answer as answer;

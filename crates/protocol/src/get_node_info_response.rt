@@ -1,4 +1,4 @@
-// GetNodeInfo's response (service 1; 01, Messages).
+// GetNodeInfo's response (service 1; RULES 10.7).
 use super::name::is_name;
 use super::node_status;
 use super::node_status::NodeStatus;
@@ -76,7 +76,7 @@ pub fn certificate_of_authenticity(payload: &[u8]) -> &[u8]
     part::within(payload, 41, certificate_length(payload))
 }
 
-// The name, as a part of the payload: all behind the certificate.
+// The name, as a part of the payload: all after the certificate.
 pub fn name(payload: &[u8]) -> &[u8]
     ensures { λ r. ⌜ now r ≡ nameIn (now (payload .entry)) ⌝ }
 {
@@ -188,7 +188,7 @@ fn write_numbers(out: &mut [u8], m: Numbers)
     field::write(out, 184, 8, m.hardware_version_minor);
 }
 
-// The bits of the lists, behind the numbers.
+// The bits of the lists, after the numbers.
 fn write_lists(out: &mut [u8], unique_id: &[u8], certificate: &[u8], name: &[u8])
     requires { ⌜ (length (now «unique_id») ≡ 16) × (41 + length (now certificate) + length (now name) ≤ length (now out)) ⌝ }
     ensures { λ _. ⌜ now (out .exit) ≡ store (now (out .entry)) 192 (shape.encode lists (now («unique_id» .entry), (now (certificate .entry), now (name .entry)))) ⌝ }

@@ -1,4 +1,4 @@
-// What a node's name may hold.
+// What a node's name may hold (RULES 10.8).
 ghost use mathlib.Core.Path.{_≡_};
 ghost use Rattle.protocol.specs.Name.{between, isLetter, isName};
 

@@ -1,4 +1,4 @@
-// NodeStatus (message 341; 01, Messages).
+// NodeStatus (message 341; RULES 10.2).
 use bits::field;
 use shape::answer::Written;
 ghost use mathlib.Core.Path.{_≡_};
@@ -10,7 +10,7 @@ ghost use Rattle.shape.specs.Shape as shape;
 ghost use Rattle.shape.specs.Shape.{end, written};
 ghost use Rattle.protocol.specs.NodeStatus.{nodeStatus, statusValues, statusIn, statusAt, answerOf};
 
-// Sub-mode is read as zero, and any value given is written as zero.
+// Sub-mode is read as zero, and any value given is written as zero (RULES 9.8).
 pub struct NodeStatus {
     pub uptime_sec: u64,
     pub health: u64,

@@ -1,4 +1,4 @@
--- KeyValue (01, Messages): float32 kept as its 32 bits, key list of at most 58.
+-- RULES 10.4: KeyValue. Float32 kept as its 32 bits, key list of at most 58.
 use Prim.Native.Nat.{ℕ}
 use mathlib.Core.List.{List}
 use lib.ListN.{length, drop}
@@ -11,7 +11,7 @@ use Rattle.protocol_debug.specs.declared.key_value.Read.the-variants.{Re
 abbrev pub keyValue : Shape
 keyValue = num 32 (tail 8 58 anything)
 
--- the key as a part of the payload
+-- RULES 9.9: the key as a part of the payload
 abbrev pub keyIn : List ℕ → List ℕ
 keyIn p = drop 4 p
 

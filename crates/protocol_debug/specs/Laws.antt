@@ -1,4 +1,4 @@
--- The return trips of KeyValue and LogMessage, as instances of the laws over every description. `laws.rt` has a function whose contract they are.
+-- RULES 9.10: the return trips of KeyValue and LogMessage, instances of the laws over every description; `laws.rt` has a function for them.
 use mathlib.Core.Path.{_≡_}
 use mathlib.Core.List.{List}
 use Prim.Native.Nat.{ℕ}
@@ -8,7 +8,7 @@ use Rattle.shape.specs.Laws.{Trips}
 use Rattle.protocol_debug.specs.KeyValue.{keyValue, keyIn, keyValueOf}
 use Rattle.protocol_debug.specs.LogMessage.{logMessage, sourceIn, textIn, logMessageOf}
 
--- what stands in a payload, numbers at their places and lists as the parts that `key`, `source` and `text` give
+-- what is in a payload, numbers at their places and lists as the parts that `key`, `source` and `text` give
 abbrev pub keyValueFound : List ℕ → Values keyValue
 keyValueFound p = (fromBits 32 (unpack p), keyIn p)
 

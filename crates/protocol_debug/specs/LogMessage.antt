@@ -1,4 +1,4 @@
--- LogMessage (01, Messages): level 3, source list of at most 31, text list of at most 90.
+-- RULES 10.5: LogMessage. Level 3, source list of at most 31, text list of at most 90.
 use Prim.Native.Nat.{ℕ, _+_}
 use mathlib.Core.List.{List}
 use lib.ListN.{length, take, drop}
@@ -13,7 +13,7 @@ use Rattle.protocol_debug.specs.declared.log_message.Read.the-variants.{
 abbrev pub logMessage : Shape
 logMessage = num 3 (list 8 31 (tail 8 90 anything))
 
--- source and text as parts of the payload
+-- RULES 9.9: source and text as parts of the payload
 unfoldable pub sourceLength : List ℕ → ℕ
 sourceLength p = fromBits (widthOf 31) (drop 3 (unpack p))
 

@@ -1,4 +1,4 @@
--- Worked values, as facts of the definitions. `laws.rt` has a function whose contract they are.
+-- RULES 10.4, 10.5: worked values, as facts of the definitions. `laws.rt` has a function whose contract they are.
 use mathlib.Core.Path.{_≡_}
 use mathlib.Core.List.{List, [], _∷_}
 use Prim.Native.Nat.{ℕ}

@@ -1,4 +1,4 @@
-// KeyValue (message 16370; 01, Messages).
+// KeyValue (message 16370; RULES 10.4).
 use bits::field;
 use shape::answer::Place;
 use shape::answer::Written;
@@ -19,7 +19,7 @@ pub enum Read {
     Got(KeyValue),
 }
 
-// The key, as a part of the payload: all behind the value.
+// The key, as a part of the payload: all after the value.
 pub fn key(payload: &[u8]) -> &[u8]
     ensures { λ r. ⌜ now r ≡ keyIn (now (payload .entry)) ⌝ }
 {

@@ -1,4 +1,4 @@
-// LogMessage (message 16383; 01, Messages).
+// LogMessage (message 16383; RULES 10.5).
 use bits::field;
 use bits::width;
 use shape::answer::Place;
@@ -30,14 +30,14 @@ fn source_length(payload: &[u8]) -> usize
     field::read(payload, 3, width::width(31) as usize) as usize
 }
 
-// The source, as a part of the payload: behind the first byte, as long as its length field says.
+// The source, as a part of the payload: after the first byte, as long as its length field says.
 pub fn source(payload: &[u8]) -> &[u8]
     ensures { λ r. ⌜ now r ≡ sourceIn (now (payload .entry)) ⌝ }
 {
     part::within(payload, 1, source_length(payload))
 }
 
-// The text, as a part of the payload: all behind the source.
+// The text, as a part of the payload: all after the source.
 pub fn text(payload: &[u8]) -> &[u8]
     ensures { λ r. ⌜ now r ≡ textIn (now (payload .entry)) ⌝ }
 {

@@ -1,4 +1,4 @@
--- Allocation (01, Messages): node ID 7, first part 1, unique ID list of at most 16 bytes.
+-- RULES 10.3: Allocation. Node ID 7, first part 1, unique ID list of at most 16 bytes.
 use Prim.Native.Nat.{ℕ}
 use mathlib.Core.List.{List}
 use lib.ListN.{length, drop}
@@ -11,7 +11,7 @@ use Rattle.protocol_dynamic_node_id.specs.declared.allocation.Read.the-v
 abbrev pub allocation : Shape
 allocation = num 7 (num 1 (tail 8 16 anything))
 
--- the unique ID as a part of the payload
+-- RULES 9.9: the unique ID as a part of the payload
 abbrev pub uniqueIdIn : List ℕ → List ℕ
 uniqueIdIn p = drop 1 p
 

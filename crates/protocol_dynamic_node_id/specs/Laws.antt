@@ -1,4 +1,4 @@
--- The return trip of Allocation, as an instance of the laws over every description. `laws.rt` has a function whose contract it is.
+-- RULES 9.10: the return trip of Allocation, as an instance of the laws over every description. `laws.rt` has a function whose contract it is.
 use mathlib.Core.Path.{_≡_}
 use mathlib.Core.List.{List}
 use Prim.Native.Nat.{ℕ}
@@ -8,7 +8,7 @@ use Rattle.shape.specs.Shape.{Values, cleared}
 use Rattle.shape.specs.Laws.{Trips}
 use Rattle.protocol_dynamic_node_id.specs.Allocation.{allocation, uniqueIdIn, allocationOf}
 
--- what stands in a payload, numbers at their places and the list as the part that `unique_id` gives
+-- what is in a payload, numbers at their places and the list as the part that `unique_id` gives
 abbrev pub allocationFound : List ℕ → Values allocation
 allocationFound p = (fromBits 7 (unpack p), (fromBits 1 (drop 7 (unpack p)), uniqueIdIn p))
 

@@ -1,4 +1,4 @@
--- Worked values, as facts of the definitions: the first and the last allocation message of 003's log.
+-- RULES 15.2: worked values, as facts of the definitions. The first and the last allocation message of the log in 15.3.
 -- `laws.rt` has a function whose contract they are.
 use mathlib.Core.Path.{_≡_}
 use mathlib.Core.List.{List, [], _∷_}
@@ -7,7 +7,7 @@ use Rattle.shape.specs.Answer.{got}
 use Rattle.shape.specs.Shape.{decoded, encoded}
 use Rattle.protocol_dynamic_node_id.specs.Allocation.{allocation}
 
--- 003's unique ID in its three stages: 44 C0 8B 63 5E 05, F4 BC 10 96 DF 11, A8 BA 54 47
+-- RULES 15.3: the unique ID in its three stages, 44 C0 8B 63 5E 05, F4 BC 10 96 DF 11, A8 BA 54 47
 abbrev pub stage₁ : List ℕ → List ℕ
 stage₁ rest = 68 ∷ 192 ∷ 139 ∷ 99 ∷ 94 ∷ 5 ∷ rest
 
@@ -15,7 +15,7 @@ abbrev pub uniqueId : List ℕ
 uniqueId = stage₁ (244 ∷ 188 ∷ 16 ∷ 150 ∷ 223 ∷ 17 ∷ 168 ∷ 186 ∷ 84 ∷ 71 ∷ [])
 
 pub record Samples : Type 0 where
-  -- 01 and the first stage: no preferred node ID, the first part
+  -- byte 0x01 and the first stage: no preferred node ID, the first part
   pub first : decoded allocation (1 ∷ stage₁ []) ≡ got (0, (1, stage₁ []))
-  -- FA and the whole: node ID 125
+  -- byte 0xFA and the whole: node ID 125
   pub last : encoded allocation (125, (0, uniqueId)) 17 ≡ got (250 ∷ uniqueId)

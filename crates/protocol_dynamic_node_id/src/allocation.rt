@@ -1,4 +1,4 @@
-// Allocation (message 1; 01, Messages).
+// Allocation (message 1; RULES 10.3).
 use bits::field;
 use shape::answer::Place;
 use shape::answer::Written;
@@ -19,7 +19,7 @@ pub enum Read {
     Got(Allocation),
 }
 
-// The unique ID, as a part of the payload: all behind the first byte.
+// The unique ID, as a part of the payload: all after the first byte.
 pub fn unique_id(payload: &[u8]) -> &[u8]
     ensures { λ r. ⌜ now r ≡ uniqueIdIn (now (payload .entry)) ⌝ }
 {

@@ -1,4 +1,4 @@
--- The public call: a reception on a lent state. Its answer, the state after and the output buffer are those of the rules' step on the view.
+-- RULES 5.3, 5.6 and 4.9: a reception on a lent state. The answer, the state after and the output buffer are those of the rules' step on the view.
 use mathlib.Core.Bool.{Bool, true, false}
 use mathlib.Core.List.{List}
 use Prim.Native.Nat.{ℕ}
@@ -31,7 +31,7 @@ arriving f out = record { frame = f; room = length out }
 abbrev pub lent : List ℕ → List ℕ → Step → Result
 lent m out s = result (told (s .answer)) (written m 0 (s .places)) (outAfter (s .answer) out)
 
--- a state at fault answers 20, first of all
+-- RULES 5.3: a state at fault answers 20, first of all
 unfoldable pub receivedIf : Bool → List ℕ → Frame → List ℕ → Result
 receivedIf false m f out = result Faulty m out
 receivedIf true m f out = lent m out (step (setupOf m) (placesOf m) (arriving f out))

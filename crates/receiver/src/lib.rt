@@ -1,4 +1,4 @@
-// The receiver: one frame on a lent state.
+// The receiver (RULES 4, 5): one frame on a lent state.
 mod place;
 
 use answers::Answer;
@@ -62,7 +62,7 @@ pub fn receive_sound(state: &mut [u8], id: u32, frame: &[u8], time: u64, out: &m
     }
 }
 
-// One frame with its time: the answer, the state after and the output buffer by the rules of 01. A state at fault answers 20.
+// One frame with its time: the answer, the state after and the output buffer (RULES 4.9, 5.6). A state at fault answers 20.
 pub fn receive(state: &mut [u8], id: u32, frame: &[u8], time: u64, out: &mut [u8]) -> Answer
     ensures { λ r. ⌜ result r (now (state .exit)) (now (out .exit)) ≡ received (now (state .entry)) (frameOf id (now (frame .entry)) time) (now (out .entry)) ⌝ }
 {

@@ -1,4 +1,4 @@
-// A frame's session: the place that it has, or gets.
+// A frame's session (RULES 4.3): the place that it has, or gets.
 use answers::Answer;
 use session::Incoming;
 use session::Progress;

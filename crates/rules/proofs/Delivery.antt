@@ -177,7 +177,7 @@ parsed-time : (u : Setup) (id : ℕ) (c : List ℕ) (x : ℕ) → parsed u (fram
 unfolding parsed
 parsed-time u id c x = refl
 
--- closed: the transfer's ID is behind the expected one, so each repeat is passed over
+-- closed: the expected ID is one past the transfer's, so each repeat is passed over
 module _ (u : Setup) (id t since : ℕ) (small : t < 32) where
   abbrev idle : Session
   idle = record { expected = next t; gathered = []; toggle = false; since = since }

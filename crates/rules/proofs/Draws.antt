@@ -212,11 +212,11 @@ module _ (m : Map) (ok : (j : ℕ) → slotFits m (getD m j free) ≡ true) (i :
   flag-none true n = absurd (n refl)
   flag-none false n = refl
 
-  -- the entry itself, once it is known to stand alone
+  -- the entry itself, once it is known to be alone
   own-fits : times k m' ≡ 1 → slotFits m' (getD m' i free) ≡ true
   own-fits e = ap (slotFits m') (getD-set-same m i new free inside) ∙ fits-entry m' k t since (record { topic = fits; transfer = small; alone = e })
 
-  -- the others, once each is known to stand as often as before
+  -- the others, once each is known to be there as often as before
   others-fit : ((j : ℕ) (e : Topic) → (j ≡ i → ⊥) → isOf e (getD m j free) ≡ true → times e m ≡ 1 → times e m' ≡ 1)
       → (j : ℕ) → (j ≡ i → ⊥) → slotFits m' (getD m' j free) ≡ true
   others-fit same j n = ap (slotFits m') (getD-set-other m i j new free n) ∙ go (getD m j free) refl (ok j)

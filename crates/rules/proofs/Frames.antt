@@ -87,7 +87,7 @@ opening-take (suc k) s g t xs =
 
 -- ── the frames that carry bytes ──
 
--- how many full ones stand before the last
+-- how many full ones come before the last
 abbrev pub fulls : List ℕ → ℕ
 fulls xs = (length xs - 1) / 7
 

@@ -58,7 +58,7 @@ length-records id (c ∷ more) h =
 
 -- ── back ──
 
--- a part of what stands behind xs
+-- a part of what comes after xs
 past : (xs ys : List ℕ) (a b n : ℕ) → length xs ≡ a → span (xs ++ ys) (a + b) n ≡ span ys b n
 past xs ys a b n e = ap (take n) (sym (drop-drop b a (xs ++ ys)) ∙ ap (drop b) (drop-at xs ys a e))
 

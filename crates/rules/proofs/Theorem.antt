@@ -1,4 +1,4 @@
--- Condition 3: the theorem.
+-- Condition 3 (RULES 14.1): the theorem.
 use mathlib.Core.Path.{_≡_, refl, sym, ap, ap₂, _∙_, subst}
 use mathlib.Core.Bool.{Bool, true, false}
 use mathlib.Core.List.{List, [], _∷_}

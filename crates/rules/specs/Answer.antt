@@ -1,9 +1,9 @@
--- 01, Numbers answered: the answers of a reception.
+-- RULES 13.1, 4.6 and 4.10: the answers of a reception.
 use mathlib.Core.List.{List, []}
 use Prim.Native.Nat.{ℕ}
 use Rattle.rules.specs.Frame.{Stream}
 
--- why a frame is passed over
+-- why a frame is passed over (RULES 4.6)
 pub data Reason : Type 0 where
   noTransfer : Reason  -- no start, and no transfer is in hand
   wrongToggle : Reason
@@ -12,9 +12,9 @@ pub data Reason : Type 0 where
 
 pub data Answer : Type 0 where
   taken : Answer
-  -- the payload, the stream, the closing frame's priority and transfer ID
+  -- RULES 4.10: the payload, the stream, the closing frame's priority and transfer ID
   handed : List ℕ → Stream → ℕ → ℕ → Answer
-  -- by one of the frame checks, with its number
+  -- by one of the frame checks (RULES 4.1), with its number
   refused : ℕ → Answer
   full : Answer
   passed : Reason → Answer

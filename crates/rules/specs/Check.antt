@@ -1,4 +1,4 @@
--- 01, Reception: what the rules read of a frame, and the frame checks 2 to 8.
+-- RULES 4.1: what the rules read of a frame (2.2 to 2.4, 3.6), and the frame checks 2 to 8.
 use mathlib.Core.Bool.{Bool, true, false, not, _&&_, _||_}
 use mathlib.Core.List.{List, [], _∷_, _++_}
 use mathlib.Core.Option.{Option, none, some}
@@ -15,7 +15,7 @@ pub record Reception : Type 0 where
   pub frame : Frame
   pub room : ℕ
 
--- what the session rules read of a frame that passes the checks
+-- what RULES 4.3 to 4.8 read of a frame that passes the checks
 pub record Parsed : Type 0 where
   pub stream : Stream
   pub signature : ℕ
@@ -45,7 +45,7 @@ parsed u f =
       time = f .time;
     }
 
--- ── the checks, each true where it refuses ──
+-- ── the checks (RULES 4.1), each true where it refuses ──
 
 abbrev pub largeId : ℕ → Bool
 largeId id = leb (2 ^ 29) id
@@ -56,7 +56,7 @@ badLength n = eqb n 0 || ltb frameData n
 abbrev pub unnamedService : Stream → Bool
 unnamedService d = isServiceStream d && (eqb (d .source) 0 || eqb (d .destination) 0)
 
--- start with toggle 1; anonymous not both start and end; not an end with fewer than 8 bytes; end without start and only the tail
+-- 5: a start with toggle 1; anonymous but not start and end; not an end and not full; an end that is no start, with the tail byte alone
 abbrev pub badTail : Bool → Bool → Bool → Bool → ℕ → Bool
 badTail anonymous start last toggle n =
     (start && toggle) || ((anonymous && not (start && last)) || ((not last && ltb n frameData) || (last && (not start && eqb n 1))))

@@ -1,5 +1,5 @@
--- Condition 3, stated once over any machine that takes calls and answers: damage on a stream ends at its next start. The rules' table is such a machine
--- (at the end), and so are the bytes lent to `receive` (crate guarantees).
+-- RULES 14.1 to 14.12: condition 3, stated once over any machine that takes calls and answers. Damage on a stream ends at its next start.
+-- The rules' table is such a machine (at the end), and so are the bytes lent to `receive` (RULES 14.14, crate guarantees).
 use mathlib.Core.Path.{_≡_}
 use mathlib.Core.Bool.{Bool, true, false, not, _&&_}
 use mathlib.Core.List.{List, [], _∷_}
@@ -18,7 +18,7 @@ use Rattle.rules.specs.Sound.{sound}
 use Rattle.rules.specs.Table.{Places, begun}
 use Rattle.rules.specs.Tests.{pick}
 
--- ── receivers ──
+-- ── receivers (RULES 14.2) ──
 
 -- The receivers of one setup. Each call meets the state that the last one left; nothing else writes it.
 pub record Machine : Type 1 where
@@ -39,16 +39,16 @@ pub record Machine : Type 1 where
   -- what the types of a call's arguments give
   pub Typed : Call → Type 0
 
--- ── the stream's part of a list ──
+-- ── the stream's part of a list (RULES 14.3) ──
 
--- A frame is of the stream if its ID, below 2^29, gives that descriptor, refused or not.
+-- A frame is of the stream if its ID is below 2^29 and gives that stream (RULES 2.4), refused or not.
 abbrev pub ofStream : Stream → Frame → Bool
 ofStream d f = ltb (f .id) (2 ^ 29) && sameStream (streamOf (f .id)) d
 
 abbrev pub startOf : Stream → Frame → Bool
 startOf d f = ofStream d f && isStart (tailOf (f .bytes))
 
--- to take a frame is to answer 0 or 1
+-- RULES 14.4: to take a frame is to answer 0 or 1
 abbrev pub took : ℕ → Bool
 took n = ltb n 2
 
@@ -80,7 +80,7 @@ module _ (M : Machine) where
   upTo t (c ∷ cs) zero = []
   upTo t (c ∷ cs) (suc k) = c ∷ upTo t cs (pick (t (frameOf c)) k (suc k))
 
-  -- ── two receivers ──
+  -- ── two receivers (RULES 14.1) ──
 
   -- a receiver with a past: its state, the call that brings the start, and the calls after that
   pub record Receiver : Type 0 where
@@ -103,20 +103,20 @@ module _ (M : Machine) where
   tookStart x = took (M .number (M .answer (x .state) (x .start)))
 
   pub record Premises (d : Stream) (x y : Receiver) : Type 0 where
-    -- each has any past; their setup is equal, since both are of M
+    -- RULES 14.2: each has any past; their setup is equal, since both are of M
     pub pasts : M .Past (x .state) × M .Past (y .state)
     pub typed : All (M .Typed) (x .start ∷ x .list) × All (M .Typed) (y .start ∷ y .list)
-    -- the stream has a named source
+    -- RULES 14.1: the stream has a named source
     pub named : 0 < d .source
-    -- both get the same start of it, at the same time
+    -- RULES 14.1: both get the same start of it, at the same time
     pub start : startOf d (startFrame x) ≡ true
     pub together : startFrame x ≡ startFrame y
-    -- and take it
+    -- RULES 14.4: and take it
     pub take : (tookStart x ≡ true) × (tookStart y ≡ true)
-    -- both lists bring the same frames of the stream, at the same times and in the same order, with whatever else between, different for each
+    -- RULES 14.5: both lists bring the same frames of the stream, with their times and in their order, with whatever else between, different for each
     pub same : frames d x ≡ frames d y
 
-  -- ── while ──
+  -- ── while (RULES 14.6 to 14.8) ──
 
   -- no time is before the one before it, and the first not before t
   abbrev pub forward : ℕ → List (M .Call) → Bool
@@ -139,16 +139,16 @@ module _ (M : Machine) where
 
   -- so far the premises hold for one receiver: nothing is asked of what comes later
   pub record While (d : Stream) (k : ℕ) (x : Receiver) : Type 0 where
-    -- time never runs back from the start on: other streams' frames and refused ones count
+    -- RULES 14.6: time never runs back from the start on; other streams' frames and refused ones count
     pub time : forward (startFrame x .time) (front d k x) ≡ true
-    -- output buffers are large enough
+    -- RULES 14.7: output buffers are large enough
     pub room : roomy d (front d k x) ≡ true
-    -- no start of the stream is refused for a full table
+    -- RULES 14.8: no start of the stream is refused for a full table
     pub table : never 9 (answersTo (startOf d) (M .after (x .state) (x .start)) (front d k x)) ≡ true
 
--- ── a correctly sent transfer ──
+-- ── a correctly sent transfer (RULES 14.10, 14.11) ──
 
--- the frames in order and nothing else, each perhaps repeated before the next, none later than `till`
+-- RULES 14.11: the frames in order and nothing else, each perhaps repeated before the next, none later than `till`
 pub data Brings (id till : ℕ) : List (List ℕ) → List Frame → Type 0 where
   done : Brings id till [] []
   -- the frame's last copy
@@ -161,14 +161,14 @@ pub data Brings (id till : ℕ) : List (List ℕ) → List Frame → Type 0 wher
 -- the start f and the stream's frames fs after it bring the payload p with a priority and the transfer ID t
 pub record Transfer (u : Setup) (d : Stream) (f : Frame) (fs : List Frame) (priority t : ℕ) (p : List ℕ) : Type 0 where
   pub size : length p ≤ payloadMax
-  -- it is sent by the sending rules, under the signature that the receiver subscribed with
+  -- RULES 14.10: it is sent by the sending rules (7.4), under the signature that the receiver subscribed with
   pub fields : (priority < 32) × (t < 32)
   pub signature : ℕ
   pub subscribed : signatureFor u (idOf d priority) ≡ some signature
-  -- within two seconds of the start, repeats too
+  -- RULES 14.11: within two seconds of the start, repeats too
   pub brings : Brings (idOf d priority) (f .time + oldAge) (sent signature t p) (f ∷ fs)
 
--- ── the claim ──
+-- ── the claim (RULES 14.1) ──
 
 module _ (M : Machine) where
   -- the answers that are 1
@@ -177,11 +177,11 @@ module _ (M : Machine) where
   handouts (a ∷ l) = keep (eqb (M .number a) 1) a (handouts l)
 
   pub record Claim (u : Setup) (d : Stream) (x y : Receiver M) : Type 0 where
-    -- Both answer each frame of the stream alike, the start and the k after it, while the premises hold. Equal answers have the same number and, with 1,
-    -- the same payload and all else that 1 gives.
+    -- RULES 14.9: both answer each frame of the stream alike, the start and the k after it, while the premises hold. Equal answers have the same
+    -- number and, with 1, the same payload and all else that 1 gives (RULES 4.10).
     pub alike : (k : ℕ) → While M d k x → While M d k y → take (suc k) (answers M d x) ≡ take (suc k) (answers M d y)
-    -- If the start opens a transfer, each hands out its payload exactly once and unaltered: one alone of the answers to the stream's frames, the start's
-    -- included, is 1, and has the bytes that were sent.
+    -- RULES 14.12: if the start opens a transfer, each hands out its payload exactly once and unaltered. Of the answers to the stream's frames,
+    -- the start's included, exactly one is 1, and it has the bytes that were sent.
     pub delivered : (priority t : ℕ) (p : List ℕ) → Transfer u d (startFrame M x) (frames M d x) priority t p
         → While M d (length (frames M d x)) x → While M d (length (frames M d y)) y
         → (handouts (answers M d x) ≡ M .shows (rules.handed p d priority t) ∷ []) × (handouts (answers M d y) ≡ M .shows (rules.handed p d priority t) ∷ [])
@@ -190,7 +190,7 @@ module _ (M : Machine) where
 abbrev pub Condition3 : (Setup → Machine) → Type 0
 Condition3 machine = (u : Setup) (d : Stream) (x y : Receiver (machine u)) → Premises (machine u) d x y → Claim (machine u) u d x y
 
--- ── the rules' table ──
+-- ── the rules' table (RULES 14.2) ──
 
 -- the table after setup, any lent table without a fault, and either after any list of receptions
 pub data Past (u : Setup) : Places → Type 0 where

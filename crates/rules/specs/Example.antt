@@ -1,4 +1,4 @@
--- A case that meets every premise of condition 3: a transfer of three frames, each repeated, heard by two receivers that have nothing else in common.
+-- RULES 14.15: a case that meets every premise of condition 3. Two receivers hear a transfer of three frames, each repeated, and nothing else alike.
 use mathlib.Core.Path.{_≡_}
 use mathlib.Core.Bool.{true, false}
 use mathlib.Core.List.{List, [], _∷_}
@@ -33,7 +33,7 @@ message source = record { transferType = 0; type = 16370; source = source; desti
 abbrev pub stream : Stream
 stream = message 42
 
--- 13 bytes: with the checksum three frames
+-- 13 bytes (RULES 15.4): with the checksum three frames
 abbrev pub payload : List ℕ
 payload = 0x00 ∷ 0x00 ∷ 0x34 ∷ 0x42 ∷ 0x70 ∷ 0x61 ∷ 0x6E ∷ 0x5F ∷ 0x61 ∷ 0x6E ∷ 0x67 ∷ 0x6C ∷ 0x65 ∷ []
 

@@ -1,4 +1,4 @@
--- 01, The frame (002, CAN frame format): the fields of the ID, the tail byte, the stream.
+-- RULES 2.1 to 2.4: the frame, the fields of its ID, the tail byte, the stream.
 use mathlib.Core.Bool.{Bool, true, false, not, _&&_}
 use mathlib.Core.List.{List}
 use Prim.Native.Nat.{ℕ, _-_, _/_, _%_}
@@ -12,7 +12,7 @@ pub record Frame : Type 0 where
   pub bytes : List ℕ
   pub time : ℕ
 
--- A stream is 01's term for the transfer descriptor of 002. The transfer type is 0 for a message, 1 for a request, 2 for a response.
+-- RULES 2.4. The transfer type is 0 for a message, 1 for a request, 2 for a response (1.7).
 pub record Stream : Type 0 where
   pub transferType : ℕ
   pub type : ℕ
@@ -23,7 +23,7 @@ unfoldable pub sameStream : Stream → Stream → Bool
 sameStream a b =
     eqb (a .transferType) (b .transferType) && (eqb (a .type) (b .type) && (eqb (a .source) (b .source) && eqb (a .destination) (b .destination)))
 
--- ── the ID: bit 0 is the lowest ──
+-- ── the ID (RULES 2.2): bit 0 is the lowest ──
 
 -- bit 7
 abbrev pub isService : ℕ → Bool
@@ -41,7 +41,7 @@ destinationOf id = id / 256 % 128
 abbrev pub priorityOf : ℕ → ℕ
 priorityOf id = id / 16777216
 
--- a service's type is bits 16 to 23 and its request flag bit 15; a message's type is bits 8 to 23, an anonymous one's bits 8 and 9
+-- RULES 2.4: a service's type is bits 16 to 23 and its request flag bit 15; a message's type is bits 8 to 23, an anonymous one's bits 8 and 9
 abbrev pub streamIf : Bool → ℕ → Stream
 streamIf true id = record { transferType = pick (bit id 32768) 1 2; type = id / 65536 % 256; source = sourceOf id; destination = destinationOf id }
 streamIf false id =
@@ -63,7 +63,7 @@ unnamed d = eqb (d .transferType) 0 && eqb (d .source) 0
 abbrev pub isAnonymous : ℕ → Bool
 isAnonymous id = unnamed (streamOf id)
 
--- ── the data: the last byte is the tail, those before it are payload ──
+-- ── the data (RULES 2.3): the last byte is the tail, those before it are payload ──
 
 abbrev pub tailOf : List ℕ → ℕ
 tailOf bs = getD bs (length bs - 1) 0

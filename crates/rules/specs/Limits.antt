@@ -1,42 +1,42 @@
--- The limits of the rules, each written once: src/limits.rt has the same numbers for the code.
+-- RULES 1.3: the limits of the rules. src/limits.rt has the same numbers for the code.
 use Prim.Native.Nat.{ℕ}
 
--- sessions that a receiver holds, and the places of its table
+-- sessions that a receiver holds, and the places of its table (RULES 4.3)
 abbrev pub sessionsMax : ℕ
 sessionsMax = 32
 
--- subscriptions that a receiver is set up with, at most
+-- subscriptions that a receiver is set up with, at most (RULES 3.2)
 abbrev pub subscriptionsMax : ℕ
 subscriptionsMax = 64
 
--- bytes of a payload, at most
+-- bytes of a payload, at most (RULES 4.8, 7.3)
 abbrev pub payloadMax : ℕ
 payloadMax = 512
 
--- bytes that a session gathers, at most: the payload and its checksum
+-- bytes that a session gathers, at most: the payload and its checksum (RULES 4.8)
 abbrev pub gatheredMax : ℕ
 gatheredMax = 514
 
--- a session is old when its age in microseconds is above this
+-- a session is old when its age in microseconds is above this (RULES 4.4)
 abbrev pub oldAge : ℕ
 oldAge = 2000000
 
--- entries of a transfer-ID map
+-- entries of a transfer-ID map (RULES 8.1)
 abbrev pub entriesMax : ℕ
 entriesMax = 32
 
--- a map's entry may be replaced once it was unused for this many microseconds
+-- a map's entry may be replaced once it was unused for this many microseconds (RULES 8.2)
 abbrev pub unusedAge : ℕ
 unusedAge = 2000000
 
--- bytes of a frame record, and of a subscription record
+-- bytes of a frame record (RULES 2.6), and of a subscription record (3.3)
 abbrev pub frameRecord : ℕ
 frameRecord = 13
 
 abbrev pub subscriptionRecord : ℕ
 subscriptionRecord = 13
 
--- bytes of a frame, and those of them that are payload, at most
+-- data bytes of a frame (RULES 2.1), and those of them that are payload (2.3), at most
 abbrev pub frameData : ℕ
 frameData = 8
 

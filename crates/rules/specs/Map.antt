@@ -1,4 +1,4 @@
--- 01, Sending: the map that the transfer IDs of messages and requests come from.
+-- RULES 8.1 to 8.5: the map that the transfer IDs of messages and requests come from.
 use mathlib.Core.Bool.{Bool, true, false, _&&_}
 use mathlib.Core.List.{List, [], _∷_}
 use mathlib.Core.Option.{Option}
@@ -10,7 +10,7 @@ use Rattle.rules.specs.Sent.{flag}
 use Rattle.rules.specs.Table.{seek, orElse}
 use Rattle.rules.specs.Tests.{pick}
 
--- "a map of 32 entries over type, type ID and destination": "Own ID is no part of the map"
+-- RULES 8.1: what transfer IDs are counted by. The own ID is no part of it, so that a node goes on counting when it is given its ID.
 pub record Topic : Type 0 where
   pub transferType : ℕ
   pub type : ℕ
@@ -24,7 +24,7 @@ pub data Slot : Type 0 where
 abbrev pub Map : Type 0
 Map = List Slot
 
--- after setup
+-- after setup (RULES 8.4)
 abbrev pub blank : Map
 blank = replicate 32 free
 
@@ -39,21 +39,21 @@ abbrev pub isFree : Slot → Bool
 isFree free = true
 isFree (used e t since) = false
 
--- "unused for 2,000,000 or more": "An earlier time counts as age 0"
+-- RULES 8.2: exactly 2,000,000 is enough, unlike the age of a session (4.4); a last send that is later than now has age 0
 abbrev pub isUnused : ℕ → Slot → Bool
 isUnused now free = false
 isUnused now (used e t since) = leb unusedAge (now - since)
 
--- the place of a topic's entry, whatever its age; "A new entry takes the lowest empty place, else replaces the lowest unused"
+-- RULES 8.2: the place of the topic's entry, however long unused; for a new entry the lowest empty place, else the lowest unused entry's
 unfoldable pub slotFor : Topic → ℕ → Map → Option ℕ
 slotFor k now m = orElse (seek (isOf k) m) (orElse (seek isFree m) (seek (isUnused now) m))
 
--- the transfer ID that a topic gets at a place: "A new entry starts at 0"
+-- RULES 8.3: the transfer ID that a topic gets at a place; a new entry, also in the place of another topic's, counts from 0
 abbrev pub drawn : Topic → Slot → ℕ
 drawn k free = 0
 drawn k (used e t since) = pick (sameTopic e k) t 0
 
--- ── 20: the maps that may be lent ──
+-- ── the maps without a fault (RULES 8.5) ──
 
 -- a message's type is below 65536 and its destination 0; a request's type is below 256 and its destination named; a response has no entry
 unfoldable pub topicFits : Topic → Bool
@@ -66,7 +66,7 @@ unfoldable pub times : Topic → Map → ℕ
 times k [] = 0
 times k (s ∷ m) = flag (isOf k s) + times k m
 
--- of a map m: what an empty place once held means nothing, and an entry has its topic alone
+-- of a map m: of an empty place nothing else is read, and no other entry has an entry's topic
 abbrev pub slotFits : Map → Slot → Bool
 slotFits m free = true
 slotFits m (used k t since) = topicFits k && (ltb t 32 && eqb (times k m) 1)

@@ -1,4 +1,4 @@
--- 01, Numbers answered: every number that a reception answers, and every value that 1 gives, is in its range, whatever the table was.
+-- RULES 4.10: every number that a reception answers, and every value that 1 gives, is in its range, whatever the table was.
 use mathlib.Core.Path.{_≡_}
 use mathlib.Core.List.{List}
 use Prim.Native.Nat.{ℕ, _≤_, _<_}

@@ -1,4 +1,4 @@
--- 01, Reception: one reception on the whole table, and lists of receptions.
+-- RULES 4.1 to 4.3, 4.9 and 4.11: one reception on the whole table, and lists of receptions.
 use mathlib.Core.Bool.{Bool, true, false}
 use mathlib.Core.List.{List, [], _∷_}
 use mathlib.Core.Option.{Option, none, some}
@@ -19,12 +19,12 @@ pub record Step : Type 0 where
 abbrev pub store : Places → ℕ → Stream → Out → Step
 store ps i d o = record { answer = o .answer; places = set ps i (held d (o .session)) }
 
--- no place: 9, and nothing changes
+-- RULES 4.3: without a place the answer is 9, and nothing changes
 unfoldable pub stepNew : Option ℕ → Places → Parsed → Step
 stepNew none ps v = record { answer = full; places = ps }
 stepNew (some i) ps v = store ps i (v .stream) (proceed (fresh v) v)
 
--- no session: only a start makes one
+-- RULES 4.3: only a start makes a session
 unfoldable pub stepStart : Bool → Places → Parsed → Step
 stepStart false ps v = record { answer = passed noTransfer; places = ps }
 stepStart true ps v = stepNew (placeFor (v .time) ps) ps v
@@ -37,7 +37,7 @@ unfoldable pub stepSeek : Option ℕ → Places → Parsed → Step
 stepSeek (some i) ps v = store ps i (v .stream) (react (sessionIn (getD ps i empty) v) v)
 stepSeek none ps v = stepStart (v .start) ps v
 
--- an anonymous frame is handed out at once, with no session
+-- RULES 4.2: an anonymous frame is handed out at once, with no session
 unfoldable pub stepAnonymous : Bool → Places → Parsed → Step
 stepAnonymous true ps v = record { answer = handed (v .payload) (v .stream) (v .priority) (v .transfer); places = ps }
 stepAnonymous false ps v = stepSeek (seek (holds (v .stream)) ps) ps v
@@ -49,7 +49,7 @@ stepChecked none a ps v = stepAnonymous a ps v
 unfoldable pub step : Setup → Places → Reception → Step
 step u ps r = stepChecked (check u r) (isAnonymous (r .frame .id)) ps (parsed u (r .frame))
 
--- the table after a list, and the answers to all of it
+-- RULES 4.11: the table after a list, and the answers to all of it
 unfoldable pub after : Setup → Places → List Reception → Places
 after u ps [] = ps
 after u ps (r ∷ rs) = after u (step u ps r .places) rs

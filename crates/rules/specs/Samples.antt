@@ -1,4 +1,4 @@
--- 01, Sample values: what the papers say of the definitions, as one list and one claim.
+-- RULES 15.1: the sample values, as one list and one claim.
 use mathlib.Core.Path.{_≡_}
 use mathlib.Core.List.{List, [], _∷_, _++_, map}
 use Prim.Native.Nat.{ℕ}
@@ -10,7 +10,7 @@ use Rattle.rules.specs.Frame.{streamOf, priorityOf}
 use Rattle.rules.specs.Sent.{sent}
 use Rattle.rules.specs.Session.{distance}
 
--- numbers that a definition gives, and the numbers of the papers
+-- numbers that a definition gives, and the numbers that RULES 15.1 prints
 pub record Sample : Type 0 where
   pub value : List ℕ
   pub paper : List ℕ

@@ -1,4 +1,4 @@
--- 01, Sending: one call to send. Its answer, the map after it and the records that it writes.
+-- RULES 7.1 to 7.6, with 2.5, 2.6 and 8.3: one call to send. Its answer, the map after it and the records that it writes.
 use mathlib.Core.Bool.{Bool, true, false, not, _&&_, _||_}
 use mathlib.Core.List.{List, [], _∷_, _++_}
 use mathlib.Core.Option.{Option, none, some}
@@ -13,8 +13,8 @@ use Rattle.rules.specs.Sent.{sent, idOf}
 use Rattle.rules.specs.Session.{next}
 use Rattle.rules.specs.Tests.{pick}
 
--- The own ID 0 sends anonymously. The transfer type is 0 for a message, 1 for a request, 2 for a response. The transfer ID is for a response and the
--- discriminator for an anonymous message; "elsewhere these two are ignored".
+-- RULES 7.1. The own ID 0 sends anonymously. The transfer type is 0 for a message, 1 for a request, 2 for a response. The transfer ID is
+-- read for a response alone and the discriminator for an anonymous message alone: elsewhere they may have any value.
 pub record Call : Type 0 where
   pub own : ℕ
   pub transferType : ℕ
@@ -39,24 +39,24 @@ topicOf c = record { transferType = c .transferType; type = c .type; destination
 abbrev pub streamOf : Call → Stream
 streamOf c = record { transferType = c .transferType; type = c .type; source = c .own; destination = c .destination }
 
--- ── the checks, in their order 14, 11, 8, 9 ──
+-- ── the checks, in their order 14, 11, 8, 9 (RULES 7.3) ──
 
 abbrev pub any : List Bool → Bool
 any [] = false
 any (b ∷ bs) = b || any bs
 
--- "destination (not 0 for a message, not 1-127 for a service)"
+-- RULES 7.2: the limits of type ID and destination go by the transfer type; a message has no destination, a service must have one
 abbrev pub badType : ℕ → ℕ → Bool
 badType transferType type = ltb (pick (eqb transferType 0) 65535 255) type
 
 abbrev pub badDestination : ℕ → ℕ → Bool
 badDestination transferType destination = pick (eqb transferType 0) (ltb 0 destination) (eqb destination 0 || ltb 127 destination)
 
--- "discriminator out of range; anonymous with a type over 3, a payload over 7 or as a service"
+-- RULES 7.2, the last four rows: what no anonymous frame can carry
 abbrev pub badAnonymous : ℕ → ℕ → ℕ → ℕ → Bool
 badAnonymous discriminator type size transferType = any (ltb 16383 discriminator ∷ ltb 3 type ∷ ltb 7 size ∷ not (eqb transferType 0) ∷ [])
 
--- "own ID over 127, unknown transfer type, type ID, destination .., priority, transfer ID of a response or discriminator out of range; anonymous .."
+-- RULES 7.2: all that 14 refuses. The transfer ID counts for a response alone, since any other comes from the map.
 unfoldable pub notSendable : Call → Bool
 notSendable c =
     any (ltb 127 (c .own) ∷
@@ -67,12 +67,12 @@ notSendable c =
     (isResponse c && ltb 31 (c .transfer)) ∷
     (isAnonymous c && badAnonymous (c .discriminator) (c .type) (length (c .payload)) (c .transferType)) ∷ [])
 
--- "Up to 7 payload bytes go in one frame"; "n > 7 bytes makes (n + 8) / 7 frames, rounded down"
+-- RULES 7.4: more than 7 bytes need two more for the checksum, so that n of them take (n + 2) / 7 frames, rounded up
 unfoldable pub frameCount : ℕ → ℕ
 frameCount n = pick (leb n 7) 1 ((n + 8) / 7)
 
 pub data Outcome : Type 0 where
-  -- the number of frames, and their transfer ID
+  -- the number of frames (RULES 7.1), and their transfer ID
   done : ℕ → ℕ → Outcome
   unsendable : Outcome
   long : Outcome
@@ -100,16 +100,16 @@ transferOf long = 0
 transferOf small = 0
 transferOf full = 0
 
--- ── the records ──
+-- ── the records (RULES 7.5) ──
 
--- priority 24-28, discriminator 10-23, type 8-9, source 0
+-- RULES 2.5: priority from bit 24, discriminator from bit 10, type from bit 8, source 0
 unfoldable pub anonymousId : Call → ℕ
 anonymousId c = 16777216 * c .priority + (1024 * c .discriminator + 256 * c .type)
 
 abbrev pub idFor : Call → ℕ
 idFor c = pick (isAnonymous c) (anonymousId c) (idOf (streamOf c) (c .priority))
 
--- "ID (4, low first), data length (1), data (8, unused ones zero)"
+-- RULES 2.6: the ID in 4 bytes, low byte first; the number of data bytes; the data in 8 bytes, filled up with zeros
 unfoldable pub recordOf : ℕ → List ℕ → List ℕ
 recordOf id bytes = leBytes 4 id ++ (length bytes ∷ (bytes ++ replicate (8 - length bytes) 0))
 
@@ -125,7 +125,7 @@ pub record Step : Type 0 where
   pub map : Map
   pub records : List ℕ
 
--- a refusal changes nothing and writes nothing
+-- RULES 7.6: a refusal changes nothing and writes nothing
 abbrev pub refuse : Outcome → Map → Step
 refuse o m = record { answer = o; map = m; records = [] }
 
@@ -134,7 +134,7 @@ unfoldable pub transmit : Call → ℕ → Map → Step
 transmit c t m =
     record { answer = done (frameCount (length (c .payload))) t; map = m; records = recordsOf (idFor c) (sent (c .signature) t (c .payload)) }
 
--- "after a send it rises, 31 to 0"; "A successful send sets the entry's time"
+-- RULES 8.3: the entry after a success has the next transfer ID and the call's time, also if that is the earlier one
 unfoldable pub sendAt : Call → ℕ → ℕ → Map → Step
 sendAt c i t m = transmit c t (set m i (used (topicOf c) (next t) (c .time)))
 
@@ -142,12 +142,12 @@ unfoldable pub sendIn : Option ℕ → Call → Map → Step
 sendIn none c m = refuse full m
 sendIn (some i) c m = sendAt c i (drawn (topicOf c) (getD m i free)) m
 
--- "A response uses no entry"
+-- RULES 7.4, 8.1: a response has the call's transfer ID and no entry, so the map stays as it was
 unfoldable pub sendAs : Bool → Call → Map → Step
 sendAs true c m = transmit c (c .transfer) m
 sendAs false c m = sendIn (slotFor (topicOf c) (c .time) m) c m
 
--- into `room` bytes of output
+-- RULES 7.3: into `room` bytes of output
 unfoldable pub sendStep : Call → Map → ℕ → Step
 sendStep c m room =
     pick (notSendable c) (refuse unsendable m)

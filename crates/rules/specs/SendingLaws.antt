@@ -1,4 +1,4 @@
--- What follows from the definitions of Map.antt and Sending.antt. Each record of laws is the contract of a function in src/lib.rt.
+-- RULES 7.2 to 7.7, 8.6 and 14.10: what follows from Map.antt and Sending.antt. Each record of laws is the contract of a function in src/lib.rt.
 use mathlib.Core.Path.{_≡_}
 use mathlib.Core.Bool.{true, false}
 use mathlib.Core.List.{List, [], _∷_, map}
@@ -26,7 +26,7 @@ use Rattle.rules.specs.Sound.{streamFits}
 use Rattle.rules.specs.Table.{Places}
 use Rattle.rules.specs.Tests.{pick}
 
--- a call that 14 lets through
+-- a call that 14 lets through (RULES 7.2)
 pub record InRange (c : Call) : Type 0 where
   pub own : c .own < 128
   pub transferType : c .transferType < 3
@@ -36,7 +36,7 @@ pub record InRange (c : Call) : Type 0 where
   pub response : c .transferType ≡ 2 → c .transfer < 32
   pub anonymous : c .own ≡ 0 → (c .discriminator < 16384) × ((c .type < 4) × ((length (c .payload) ≤ 7) × (c .transferType ≡ 0)))
 
--- ── the records ──
+-- ── the records (RULES 7.4, 7.5) ──
 
 -- the frame of record n, received at a time
 abbrev pub frameIn : List ℕ → ℕ → ℕ → Frame
@@ -46,7 +46,7 @@ pub record RecordLaws : Type 0 where
   pub fits : (c : Call) → notSendable c ≡ false → InRange c
   -- the frames are as many as the answer says: 1 for up to 7 payload bytes, (n + 8) / 7 for n > 7
   pub count : (signature t : ℕ) (p : List ℕ) → length (sent signature t p) ≡ frameCount (length p)
-  -- a refusal changes nothing and writes nothing
+  -- RULES 7.6: a refusal changes nothing and writes nothing
   pub refusal : (c : Call) (m : Map) (room : ℕ) → (numberOf (sendStep c m room .answer) ≡ 0 → ⊥)
       → (sendStep c m room .map ≡ m) × (sendStep c m room .records ≡ [])
   -- there are as many records, and they fit in the room
@@ -60,7 +60,7 @@ pub record RecordLaws : Type 0 where
   pub back : (id signature t : ℕ) (p : List ℕ) (time n : ℕ) → id < 2 ^ 32 → n < frameCount (length p)
       → frameIn (recordsOf id (sent signature t p)) time n ≡ frameAt id (getD (sent signature t p) n []) time
 
--- ── the ID ──
+-- ── the ID (RULES 2.5) ──
 
 -- what a receiver reads in the ID is what was put in
 pub record AnonymousId (c : Call) : Type 0 where
@@ -69,7 +69,7 @@ pub record AnonymousId (c : Call) : Type 0 where
   pub priority : priorityOf (anonymousId c) ≡ c .priority
   pub anonymous : frame.isAnonymous (anonymousId c) ≡ true
 
--- ── the transfer ID ──
+-- ── the transfer ID (RULES 8.3) ──
 
 -- what a map gives a topic: its entry's ID, and 0 where it has no entry
 unfoldable pub offered : Topic → Map → ℕ
@@ -83,7 +83,7 @@ transferFor c m = pick (isResponse c) (c .transfer) (offered (topicOf c) m)
 
 -- ── a successful send ──
 
--- of a named source: its records are the frames of "correctly sent" (Sent.antt) under the stream's ID and the transfer ID
+-- of a named source: its records are the frames of a correctly sent transfer (RULES 14.10) under the stream's ID and the transfer ID
 pub record Correct (c : Call) (m : Map) (records : List ℕ) : Type 0 where
   pub stream : streamFits (streamOf c) ≡ true
   pub priority : c .priority < 32
@@ -104,12 +104,12 @@ pub record SourceLaws : Type 0 where
 
 -- ── the map ──
 
--- setup leaves a map without a fault, and every send keeps it one
+-- RULES 8.6: setup leaves a map without a fault, and every send keeps it one
 pub record MapLasts : Type 0 where
   pub setup : sound blank ≡ true
   pub send : (c : Call) (m : Map) (room : ℕ) → sound m ≡ true → sound (sendStep c m room .map) ≡ true
 
--- ── sending and then receiving ──
+-- ── sending and then receiving (RULES 7.7) ──
 
 -- a receiver that the call is for: it subscribes to the type under the call's signature, and a service is addressed to it
 pub record Hears (u : Setup) (c : Call) : Type 0 where

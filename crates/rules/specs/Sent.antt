@@ -1,4 +1,4 @@
--- 01, Sending: the frames that a payload becomes. "Correctly sent" in condition 3 means these, and the sender makes these.
+-- RULES 7.4: the frames that a payload becomes. The sender makes these, and condition 3 calls these correctly sent (14.10).
 use mathlib.Core.Bool.{Bool, true, false, not}
 use mathlib.Core.List.{List, [], _∷_, _++_}
 use Prim.Native.Nat.{ℕ, zero, suc, _+_, _*_, _-_, _/_, _%_}
@@ -15,7 +15,7 @@ flag false = 0
 
 -- ── the data ──
 
--- start 128, end 64, toggle 32, and the transfer ID
+-- RULES 2.3: start 128, end 64, toggle 32, and the transfer ID
 abbrev pub tailByte : Bool → Bool → Bool → ℕ → ℕ
 tailByte start last toggle t = 128 * flag start + (64 * flag last + (32 * flag toggle + t))
 
@@ -32,7 +32,7 @@ pieces (suc n) start toggle t bytes = framed (take framePayload bytes) (tailByte
 unfoldable pub carrying : ℕ → List ℕ → List (List ℕ)
 carrying t bytes = pieces ((length bytes - 1) / framePayload) true false t bytes
 
--- the checksum in front, low byte first
+-- RULES 6.3: the checksum in front, low byte first
 abbrev pub withSum : ℕ → List ℕ → List ℕ
 withSum signature p = checksum signature p % 256 ∷ checksum signature p / 256 ∷ p
 
@@ -44,7 +44,7 @@ carried signature p = pick (leb (length p) framePayload) p (withSum signature p)
 unfoldable pub sent : ℕ → ℕ → List ℕ → List (List ℕ)
 sent signature t p = carrying t (carried signature p)
 
--- ── the ID, for a named source ──
+-- ── the ID, for a named source (RULES 2.5) ──
 
 unfoldable pub idOf : Stream → ℕ → ℕ
 idOf d priority =

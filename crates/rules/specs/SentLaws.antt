@@ -1,4 +1,4 @@
--- What follows from the definitions of Sent.antt. Each record is the contract of a function in src/lib.rt.
+-- RULES 7.4, 6.3, 2.3 and 2.5: what follows from the definitions of Sent.antt. Each record is the contract of a function in src/lib.rt.
 use mathlib.Core.Path.{_≡_}
 use mathlib.Core.Bool.{Bool, true, false, not}
 use mathlib.Core.List.{List, [], _∷_, _++_}
@@ -20,7 +20,7 @@ unfoldable pub opening : ℕ → Bool → Bool → ℕ → List ℕ → List (Li
 opening zero start toggle t bytes = []
 opening (suc k) start toggle t bytes = framed (take framePayload bytes) (tailByte start false toggle t) ∷ opening k false (not toggle) t (drop framePayload bytes)
 
--- of any signature, transfer ID and payload
+-- RULES 7.4, of any signature, transfer ID and payload
 pub record SentLaws : Type 0 where
   -- up to 7 bytes go in one frame, start and end, toggle 0
   pub single : (signature t : ℕ) (p : List ℕ) → length p ≤ framePayload → sent signature t p ≡ framed p (tailByte true true false t) ∷ []
@@ -38,7 +38,7 @@ pub record SentLaws : Type 0 where
   pub front : (signature t : ℕ) (p : List ℕ) (k : ℕ) → k < length (sent signature t p)
       → take k (sent signature t p) ≡ opening k true false t (take (framePayload * k) (carried signature p))
 
--- of any stream with a named source and any priority
+-- RULES 2.5, of any stream with a named source and any priority
 pub record IdLaws : Type 0 where
   pub small : (d : Stream) (priority : ℕ) → streamFits d ≡ true → priority < 32 → idOf d priority < 2 ^ 29
   pub stream : (d : Stream) (priority : ℕ) → streamFits d ≡ true → streamOf (idOf d priority) ≡ d

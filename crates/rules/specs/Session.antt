@@ -1,4 +1,4 @@
--- 01, Reception: one session and one frame of its stream. A function that decides is written in stages, by clauses on what it decides.
+-- RULES 4.3 to 4.8: one session and one frame of its stream. A function that decides is written in stages, by clauses on what it decides.
 use mathlib.Core.Bool.{Bool, true, false, not, _&&_, _||_}
 use mathlib.Core.List.{List, [], _∷_, _++_}
 use mathlib.Core.Option.{Option, none, some}
@@ -11,14 +11,14 @@ use Rattle.rules.specs.Check.{Parsed}
 use Rattle.rules.specs.Limits.{gatheredMax, oldAge}
 use Rattle.rules.specs.Tests.{pick, sameBool, isEmpty}
 
--- the expected transfer ID, the bytes gathered, the next toggle and the time of the last start taken
+-- RULES 4.3: the expected transfer ID, the bytes gathered, the next toggle and the time of the last start taken
 pub record Session : Type 0 where
   pub expected : ℕ
   pub gathered : List ℕ
   pub toggle : Bool
   pub since : ℕ
 
--- the forward distance from a to b
+-- RULES 4.4: the forward distance from a to b
 abbrev pub distance : ℕ → ℕ → ℕ
 distance a b = (b + 32 - a) % 32
 
@@ -26,14 +26,14 @@ distance a b = (b + 32 - a) % 32
 abbrev pub next : ℕ → ℕ
 next t = (t + 1) % 32
 
--- an age above the limit; an earlier time counts as age 0
+-- RULES 4.4: an age above the limit; a frame earlier than the session's time finds age 0
 abbrev pub oldSince : ℕ → ℕ → Bool
 oldSince since t = ltb oldAge (t - since)
 
 abbrev pub old : ℕ → Session → Bool
 old t s = oldSince (s .since) t
 
--- ── restart ──
+-- ── restart (RULES 4.5) ──
 
 unfoldable pub restarts : Session → Parsed → Bool
 restarts s v = old (v .time) s || (v .start && ltb 1 (distance (v .transfer) (s .expected)))
@@ -42,7 +42,7 @@ restarts s v = old (v .time) s || (v .start && ltb 1 (distance (v .transfer) (s 
 abbrev pub restarted : Session → ℕ → Session
 restarted s t = record { expected = t; gathered = []; toggle = false; since = s .since }
 
--- ── passed over ──
+-- ── passed over (RULES 4.6) ──
 
 -- of a start: is its ID the expected one, are bytes in hand, is its toggle the next one
 abbrev pub overStart : Bool → Bool → Bool → Option Reason
@@ -65,7 +65,7 @@ overIf false expected empty toggle = overOther expected empty toggle
 unfoldable pub over : Session → Parsed → Option Reason
 over s v = overIf (v .start) (eqb (v .transfer) (s .expected)) (isEmpty (s .gathered)) (sameBool (v .toggle) (s .toggle))
 
--- ── taken ──
+-- ── taken (RULES 4.7) ──
 
 -- the answer and the session after
 pub record Out : Type 0 where
@@ -76,17 +76,17 @@ pub record Out : Type 0 where
 abbrev pub sinceOf : Session → Parsed → ℕ
 sinceOf s v = pick (v .start) (v .time) (s .since)
 
--- nothing in hand, toggle 0, the expected ID raised by one
+-- RULES 4.8, after 1, 11 and 12: nothing in hand, toggle 0, the expected ID raised by one
 abbrev pub closed : Session → ℕ → Session
 closed s t = record { expected = next (s .expected); gathered = []; toggle = false; since = t }
 
--- the first two bytes, low byte first, are the checksum of the rest
+-- RULES 4.8, case 4: the first two bytes, low byte first, are the checksum of the rest
 abbrev pub sumOk : ℕ → List ℕ → Bool
 sumOk signature [] = false
 sumOk signature (a ∷ []) = false
 sumOk signature (a ∷ b ∷ rest) = eqb (a + 256 * b) (checksum signature rest)
 
--- an end: start and end together hand out the bytes, else the checksum in front decides
+-- RULES 4.8, an end: start and end together hand out the bytes, else the checksum in front decides
 unfoldable pub closing : Bool → Bool → List ℕ → Parsed → Answer
 closing true ok all v = handed all (v .stream) (v .priority) (v .transfer)
 closing false true all v = handed (drop 2 all) (v .stream) (v .priority) (v .transfer)
@@ -98,7 +98,7 @@ takeEnd false s v all =
 takeEnd true s v all =
     record { answer = closing (v .start) (sumOk (v .signature) all) all v; session = closed s (sinceOf s v) }
 
--- more than 514 bytes in hand, payload and checksum, end the transfer
+-- RULES 4.8, case 1: more than 514 bytes in hand, payload and checksum, end the transfer
 unfoldable pub takeLong : Bool → Session → Parsed → List ℕ → Out
 takeLong true s v all = record { answer = long; session = closed s (sinceOf s v) }
 takeLong false s v all = takeEnd (v .last) s v all
@@ -106,7 +106,7 @@ takeLong false s v all = takeEnd (v .last) s v all
 unfoldable pub takes : Session → Parsed → Out
 takes s v = takeLong (ltb gatheredMax (length (s .gathered ++ v .payload))) s v (s .gathered ++ v .payload)
 
--- ── the rule ──
+-- ── the rule (RULES 4.5, then 4.6 to 4.8) ──
 
 unfoldable pub proceedIf : Option Reason → Session → Parsed → Out
 proceedIf (some r) s v = record { answer = passed r; session = s }
@@ -115,7 +115,7 @@ proceedIf none s v = takes s v
 unfoldable pub proceed : Session → Parsed → Out
 proceed s v = proceedIf (over s v) s v
 
--- a session restarted by a frame that is no start then expects the next ID
+-- RULES 4.5: a session restarted by a frame that is no start then expects the next ID
 unfoldable pub reactIf : Bool → Bool → Session → Parsed → Out
 reactIf true true s v = proceed (restarted s (v .transfer)) v
 reactIf true false s v = record { answer = passed noTransfer; session = restarted s (next (v .transfer)) }
@@ -124,6 +124,6 @@ reactIf false start s v = proceed s v
 unfoldable pub react : Session → Parsed → Out
 react s v = reactIf (restarts s v) (v .start) s v
 
--- a new session, as one restarted by this frame
+-- RULES 4.3: a new session, as one restarted by this frame
 abbrev pub fresh : Parsed → Session
 fresh v = record { expected = v .transfer; gathered = []; toggle = false; since = v .time }

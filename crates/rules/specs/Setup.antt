@@ -1,4 +1,4 @@
--- 01, Reception: what a receiver is set up with, and the setups that are refused (13).
+-- RULES 3.1, 3.2, 3.4 and 3.6: what a receiver is set up with, the setups that are refused (13), and the signature of a frame.
 use mathlib.Core.Bool.{Bool, true, false, not, _&&_}
 use mathlib.Core.List.{List, [], _∷_}
 use mathlib.Core.Option.{Option, none, some}
@@ -8,18 +8,18 @@ use lib.ListN.{length}
 use Rattle.rules.specs.Frame.{Stream, streamOf}
 use Rattle.rules.specs.Tests.{pick}
 
--- the kind is 0 for a message, 1 for a service: request and response share one subscription
+-- RULES 3.2: the kind is 0 for a message, 1 for a service; request and response share one subscription
 pub record Subscription : Type 0 where
   pub kind : ℕ
   pub type : ℕ
   pub signature : ℕ
 
--- an own node ID of 0 means none yet
+-- RULES 3.1: an own node ID of 0 means none yet
 pub record Setup : Type 0 where
   pub own : ℕ
   pub subscriptions : List Subscription
 
--- ── setups that are accepted ──
+-- ── setups that are accepted (RULES 3.4) ──
 
 -- message types are below 65536, service types below 256, and there is no third kind
 abbrev pub typeFits : ℕ → ℕ → Bool
@@ -32,7 +32,7 @@ abbrev pub unlike : Subscription → List Subscription → Bool
 unlike a [] = true
 unlike a (b ∷ bs) = not (alike a b) && unlike a bs
 
--- each is in range, and no kind and type stands twice, under whatever signatures
+-- each is in range, and no kind and type comes twice, under whatever signatures
 abbrev pub allFit : List Subscription → Bool
 allFit [] = true
 allFit (a ∷ more) = typeFits (a .kind) (a .type) && (unlike a more && allFit more)
@@ -40,7 +40,7 @@ allFit (a ∷ more) = typeFits (a .kind) (a .type) && (unlike a more && allFit m
 unfoldable pub acceptable : Setup → Bool
 acceptable u = ltb (u .own) 128 && (leb (length (u .subscriptions)) 64 && allFit (u .subscriptions))
 
--- ── the signature that a frame's transfer is checked under ──
+-- ── the signature that a frame's transfer is checked under (RULES 3.6) ──
 
 unfoldable pub subscribed : ℕ → ℕ → List Subscription → Option ℕ
 subscribed kind type [] = none

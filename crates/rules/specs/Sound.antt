@@ -1,4 +1,4 @@
--- 01, 20: the table of places that a lent state may hold. Each field is in range, toggle 1 goes with bytes in hand, and no stream stands twice.
+-- RULES 5.4, 5.5 and 5.7: a table of places without a fault. Each field is in range, toggle 1 goes with bytes in hand, no stream has two places.
 use mathlib.Core.Path.{_≡_}
 use mathlib.Core.Bool.{Bool, true, not, _&&_, _||_}
 use mathlib.Core.List.{[], _∷_}
@@ -27,7 +27,7 @@ streamFits d = (ltb 0 (d .source) && ltb (d .source) 128) && (ltb (d .transferTy
 unfoldable pub sessionFits : Session → Bool
 sessionFits s = ltb (s .expected) 32 && (leb (length (s .gathered)) 514 && (not (s .toggle) || not (isEmpty (s .gathered))))
 
--- what an empty place once held means nothing
+-- RULES 5.5: of an empty place nothing but its emptiness is read
 abbrev pub placeFits : Place → Bool
 placeFits empty = true
 placeFits (held d s) = streamFits d && sessionFits s
@@ -52,7 +52,7 @@ apart (p ∷ ps) = notAgain p ps && apart ps
 unfoldable pub sound : Places → Bool
 sound ps = eqb (length ps) 32 && (placesFit ps && apart ps)
 
--- setup leaves such a table, and every reception keeps it one
+-- RULES 5.7: setup leaves such a table, and every reception keeps it one
 pub record Lasting : Type 0 where
   pub setup : sound begun ≡ true
   pub reception : (u : Setup) (ps : Places) (r : Reception) → sound ps ≡ true → sound (step u ps r .places) ≡ true

@@ -1,4 +1,4 @@
--- 01, Reception: the table of 32 places, and the place that a frame's session has or gets.
+-- RULES 4.3: the table of 32 places, and the place that a frame's session has or gets.
 use mathlib.Core.Bool.{Bool, true, false}
 use mathlib.Core.List.{List, [], _∷_}
 use mathlib.Core.Option.{Option, none, some}
@@ -15,7 +15,7 @@ pub data Place : Type 0 where
 abbrev pub Places : Type 0
 Places = List Place
 
--- after setup
+-- after setup (RULES 3.5)
 abbrev pub begun : Places
 begun = replicate 32 empty
 

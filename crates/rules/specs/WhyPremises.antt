@@ -1,5 +1,5 @@
--- Why condition 3 has its premises: for each a case that breaks it alone, and in which the claim fails. A case is given by the numbers answered to the
--- stream's frames, the start's first, or by what is handed out.
+-- RULES 14.13: why condition 3 has its premises. For each there is a case that breaks it alone, and in which the claim fails. A case is
+-- given by the numbers answered to the stream's frames, the start's first, or by what is handed out.
 use mathlib.Core.Path.{_≡_}
 use mathlib.Core.Bool.{Bool, true, false}
 use mathlib.Core.List.{List, [], _∷_, _++_, map}
@@ -84,7 +84,7 @@ pub record Tests : Type 0 where
   pub transfer : (x : Heard) (signature t : ℕ) (p : List ℕ) → Sent x signature t p (true ∷ true ∷ true ∷ [])
       → Transfer setup stream (x .start .frame) (frames (rulesTable setup) stream x) 16 t p
 
--- ── alike ──
+-- ── alike (RULES 14.9) ──
 
 abbrev pub steady : Heard
 steady = receiver (oneFree 10000000) (received two 10100000 ∷ received three 10200000 ∷ [])
@@ -149,7 +149,7 @@ roomLeft = receiver begun (received one 12000002 ∷ [])
 abbrev pub noneLeft : Heard
 noneLeft = receiver (oneFree 12000000) (other 0x103FF22B one 12000001 ∷ received one 12000002 ∷ [])
 
--- ── delivered ──
+-- ── delivered (RULES 14.12) ──
 
 -- an anonymous frame is handed out as often as it comes
 abbrev pub unnamed : Stream
@@ -162,7 +162,7 @@ twice = opened (frameAt 0x10000100 (1 ∷ 0xC0 ∷ []) 10000000) begun (other 0x
 abbrev pub hearing : List (List ℕ) → Heard
 hearing l = opened (frame (getD l 0 []) 10000000) begun (map (λ c. received c 10000000) (drop 1 l))
 
--- 513 bytes are one too many
+-- 513 bytes are one too many (RULES 14.10)
 abbrev pub long : List ℕ
 long = replicate 513 0
 

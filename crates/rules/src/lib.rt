@@ -1,4 +1,4 @@
-// The rules of 01 as definitions, in specs/. The functions here have no body: each one's contract is a theorem about the definitions.
+// The rules (RULES 2 to 4, 7, 8 and 14) as definitions, in specs/. The functions here have no body: each one's contract is a theorem about them.
 pub mod limits;
 
 ghost use Rattle.rules.specs.Condition3.{Condition3, rulesTable};
@@ -10,62 +10,62 @@ ghost use Rattle.rules.specs.SentLaws.{SentLaws, IdLaws};
 ghost use Rattle.rules.specs.Sound.{Lasting};
 ghost use Rattle.rules.specs.WhyPremises.{WhyPremises};
 
-// Condition 3, of the rules' table.
+// RULES 14.1: condition 3, of the rules' table.
 pub fn condition3()
     ensures { λ _. ⌜ Condition3 rulesTable ⌝ }
 {}
 
-// Its premises can be met together.
+// RULES 14.15: its premises can be met together.
 pub fn condition3_example()
     ensures { λ _. ⌜ Example ⌝ }
 {}
 
-// Why they are there: for each premise that the statement names, a case in which the claim fails.
+// RULES 14.13: why they are there. For each premise that the statement names, a case in which the claim fails.
 pub fn why_premises()
     ensures { λ _. ⌜ WhyPremises ⌝ }
 {}
 
-// A table of places without a fault stays one.
+// RULES 5.7: a table of places without a fault stays one.
 pub fn table_lasts()
     ensures { λ _. ⌜ Lasting ⌝ }
 {}
 
-// What a reception answers is in its range, and number 1 is a hand-out.
+// RULES 4.10: what a reception answers is in its range, and number 1 is a hand-out.
 pub fn answers_in_range()
     ensures { λ _. ⌜ RangeLaw × OneLaw ⌝ }
 {}
 
-// The frames of a payload: how many, what each carries, and what the first of them are.
+// RULES 7.4: the frames of a payload. How many, what each carries, and what the first of them are.
 pub fn frames_of_payload()
     ensures { λ _. ⌜ SentLaws ⌝ }
 {}
 
-// The ID of a stream and a priority: what is read in it is what was put in.
+// RULES 2.5: the ID of a stream and a priority. What is read in it is what was put in.
 pub fn id_of_stream()
     ensures { λ _. ⌜ IdLaws ⌝ }
 {}
 
-// The records of a send: how many, how long, and that each gives its frame back.
+// RULES 7.5, 7.6: the records of a send. How many, how long, and that each gives its frame back.
 pub fn records_of_send()
     ensures { λ _. ⌜ RecordLaws ⌝ }
 {}
 
-// What a named source sends is correctly sent; what a receiver reads in the ID of an anonymous message.
+// RULES 14.10: what a named source sends is correctly sent. RULES 2.5: what a receiver reads in the ID of an anonymous message.
 pub fn source_of_send()
     ensures { λ _. ⌜ SourceLaws ⌝ }
 {}
 
-// A transfer-ID map without a fault stays one.
+// RULES 8.6: a transfer-ID map without a fault stays one.
 pub fn map_lasts()
     ensures { λ _. ⌜ MapLasts ⌝ }
 {}
 
-// What is sent and then received is handed out.
+// RULES 7.7: what is sent and then received is handed out.
 pub fn sent_is_received()
     ensures { λ _. ⌜ Delivered ⌝ }
 {}
 
-// The sample values of 01.
+// RULES 15.1: the sample values.
 pub fn samples()
     ensures { λ _. ⌜ Samples ⌝ }
 {}

@@ -1,4 +1,4 @@
-// The limits of the rules for the code: specs/Limits.antt has the same numbers for the definitions. Each number is written in these two files alone.
+// The limits of the rules (RULES 1.3) for the code: specs/Limits.antt has the same numbers for the definitions, with their sections.
 
 // Sessions that a receiver holds, and the places of its table.
 pub const SESSIONS: usize = 32;

@@ -122,7 +122,7 @@ module _ (m : List ℕ) (fine : soundMap m ≡ true) (bytes : Octets m) where
         ∙ ap (λ x. lent m out (sendAt c i x (mapOf m))) (sym s)
         ∙ ap (λ x. lent m out (sendIn x c (mapOf m))) (sym p)
 
--- ── 20 ──
+-- ── a map at fault: 20 ──
 
 pub faulty : (m : List ℕ) (c : Call) (out : List ℕ) → soundMap m ≡ false → result Faulty m out ≡ sends m c out
 unfolding sends sendsIf

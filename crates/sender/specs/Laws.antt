@@ -1,4 +1,4 @@
--- What holds of the map after a send, so that sends can follow each other; `laws.rt` has a function whose contract it is.
+-- RULES 8.6: what holds of the map after a send, so that sends can follow each other; `laws.rt` has a function whose contract it is.
 use mathlib.Core.Path.{_≡_}
 use mathlib.Core.Bool.{true}
 use mathlib.Core.List.{List}

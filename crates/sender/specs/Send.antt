@@ -1,4 +1,4 @@
--- The public call: a send on a lent map. Its answer, the map after and the output buffer are those of the rules' step on the view.
+-- RULES 7.1 to 7.6: a send on a lent map. Its answer, the map after and the output buffer are those of the rules' step on the view.
 use mathlib.Core.Bool.{Bool, true, false}
 use mathlib.Core.List.{List}
 use Prim.Native.Nat.{ℕ}
@@ -35,11 +35,11 @@ pub record Result : Type 0 where
 abbrev pub result : Sent → List ℕ → List ℕ → Result
 result a m out = record { answer = a; map = m; out = out }
 
--- a step of the rules on the lent bytes: the records stand at the front of the output, and the bytes past them stay
+-- a step of the rules on the lent bytes: the records are at the front of the output, and the bytes past them stay
 abbrev pub lent : List ℕ → List ℕ → Step → Result
 lent m out s = result (told (s .answer)) (written m 0 (s .map)) (splice out 0 (s .records))
 
--- a map at fault answers 20, first of all
+-- RULES 7.3: a map at fault answers 20, first of all
 unfoldable pub sendsIf : Bool → List ℕ → Call → List ℕ → Result
 sendsIf false m c out = result Faulty m out
 sendsIf true m c out = lent m out (sendStep c (mapOf m) (length out))

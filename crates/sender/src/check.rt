@@ -1,4 +1,4 @@
-// What 14 refuses, in the order of 01.
+// What 14 refuses (RULES 7.2).
 use super::Outgoing;
 ghost use mathlib.Core.Path.{_≡_};
 ghost use mathlib.Core.Bool.{_&&_, _||_};

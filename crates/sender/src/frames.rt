@@ -1,4 +1,4 @@
-// The records of a payload's frames. Data bytes go as one number, low byte first: those that are not used are its zeros.
+// The records of a payload's frames (RULES 7.4, 7.5). Data bytes go as one number, low byte first: those that are not used are its zeros.
 use super::Outgoing;
 use frame::record;
 use rules::limits::FRAME_PAYLOAD;

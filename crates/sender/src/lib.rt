@@ -1,4 +1,4 @@
-// The sender: a payload into records of frames, over a lent transfer-ID map.
+// The sender (RULES 7): a payload into records of frames, over a lent transfer-ID map.
 mod check;
 mod frames;
 pub mod laws;
@@ -76,7 +76,7 @@ fn dispatch(map: &mut [u8], c: Outgoing, payload: &[u8], out: &mut [u8]) -> Sent
     number(map, c, payload, out)
 }
 
-// Sends a payload: the answer, the map after and the output buffer by the rules of 01. A map at fault answers 20.
+// Sends a payload: the answer, the map after and the output buffer (RULES 7.3, 7.6). A map at fault answers 20.
 pub fn send(map: &mut [u8], c: Outgoing, payload: &[u8], out: &mut [u8]) -> Sent
     ensures { λ r. ⌜ result r (now (map .exit)) (now (out .exit)) ≡ sends (now (map .entry)) (callOf c (now (payload .entry))) (now (out .entry)) ⌝ }
 {

@@ -1,4 +1,4 @@
--- The bytes in hand are the first ones of the session's array: whether there are any, those added behind them, the checksum in front.
+-- The bytes in hand are the first ones of the session's array: whether there are any, those added after them, the checksum in front.
 use mathlib.Core.Path.{_≡_, refl, sym, ap, _∙_}
 use mathlib.Core.Bool.{Bool, true, false, false≢true}
 use mathlib.Core.List.{List, [], _∷_, _++_}

@@ -1,4 +1,4 @@
-// A session by value with its methods, and the tests and answers of one frame of its stream.
+// A session by value with its methods, and the tests and answers of one frame of its stream (RULES 4.3 to 4.8).
 use answers::Answer;
 use answers::Transfer;
 use frame::head::Head;
@@ -66,7 +66,7 @@ impl Session {
         self
     }
 
-    // Internal. A frame is taken: its bytes come behind those in hand, a start sets the time, the toggle turns.
+    // Internal. A frame is taken: its bytes come after those in hand, a start sets the time, the toggle turns.
     pub fn take(mut self, start: bool, time: u64, p: &[u8]) -> Self
         requires { ⌜ self .len + length (now p) ≤ gatheredMax ⌝ }
         ensures { λ r. ⌜ (sessionOf r ≡ added (sessionOf self) start time (now (p .entry))) × ((r .len ≡ self .len + length (now (p .entry))) × (r .expected ≡ self .expected)) ⌝ }

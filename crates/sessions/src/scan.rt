@@ -1,4 +1,4 @@
-// The lowest place that holds a stream, is empty, or is old.
+// The lowest place that holds a stream, is empty, or is old (RULES 4.3, 4.4).
 use super::place;
 use rules::limits::OLD_AGE;
 use rules::limits::SESSIONS;

@@ -1,4 +1,4 @@
-// The faults of a lent state that answer 20. Every call of the receiver runs this first.
+// The faults of a lent state (RULES 5.4), which answer 20. Every call of the receiver runs this first.
 use keys::MARKS;
 use rules::limits::GATHERED;
 use rules::limits::SESSIONS;
@@ -77,7 +77,7 @@ fn place_fits(state: &[u8], i: usize, k: u32) -> bool
     false
 }
 
-// Place by place, up to the last session: each fits, and no key stands twice. One walk for both, since it runs at every call.
+// Place by place, up to the last session: each fits, and no key is there twice. One walk for both, since it runs at every call.
 fn places_sound(state: &[u8], table: &[u32]) -> bool
     requires { ⌜ (size ≤ length (now state)) × (now table ≡ keysOf (now state)) ⌝ }
     ensures { λ r. ⌜ r ≡ (every (emptyOrFits (now (state .entry))) 0 sessionsMax && distinct (now (table .entry))) ⌝ }
@@ -102,7 +102,7 @@ fn places_sound(state: &[u8], table: &[u32]) -> bool
     true
 }
 
-// Internal. The state has no fault that 20 names.
+// Internal. The state has no fault (RULES 5.4).
 pub fn is_sound(state: &[u8]) -> bool
     ensures { λ r. ⌜ r ≡ soundState (now (state .entry)) ⌝ }
 {

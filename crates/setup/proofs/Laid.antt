@@ -28,7 +28,7 @@ zeros a b n e t =
 length-filled : (n : ℕ) (xs : List ℕ) → length xs ≤ n → length (filled n xs) ≡ n
 length-filled n xs h = length-append xs (replicate (n - length xs) 0) ∙ omega (arith, length-replicate {A = ℕ} (n - length xs) 0)
 
--- a store behind what is there
+-- a store after what is there
 fill-more : (pre xs ys post : List ℕ) (n at : ℕ) → length pre + length xs ≡ at → length xs + length ys ≤ n
     → splice (pre ++ (filled n xs ++ post)) at ys ≡ pre ++ (filled n (xs ++ ys) ++ post)
 fill-more pre xs ys post n at e h =
@@ -63,7 +63,7 @@ placesSize = size - streamKeysAt
 unfoldable pub laid : ℕ → ℕ → List ℕ → List ℕ → List ℕ → List ℕ
 laid own n ss ks rest = own ∷ n ∷ (replicate unused 0 ++ (filled signaturesSize ss ++ (replicate timesSize 0 ++ (filled keysSize ks ++ (replicate placesSize 0 ++ rest)))))
 
--- what stands before the signatures, before the keys, and before the places
+-- what comes before the signatures, before the keys, and before the places
 abbrev pub head : ℕ → ℕ → List ℕ
 head own n = own ∷ n ∷ replicate unused 0
 

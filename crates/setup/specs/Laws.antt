@@ -1,4 +1,4 @@
--- What holds after a setup that was accepted; `laws.rt` has a function whose contract it is.
+-- RULES 3.5: what holds after a setup that was accepted; `laws.rt` has a function whose contract it is.
 use mathlib.Core.Path.{_≡_}
 use mathlib.Core.Bool.{true}
 use mathlib.Core.List.{List, _++_}
@@ -20,5 +20,5 @@ pub record Fresh (u : Setup) (m : List ℕ) : Type 0 where
 pub record SetupLaws : Type 0 where
   -- a state fills the layout
   pub as-long : (u : Setup) → acceptable u ≡ true → length (stateOf u) ≡ size
-  -- whatever stands past the layout. That the records are bytes bounds their signatures
+  -- whatever is past the layout. That the records are bytes bounds their signatures
   pub fresh : (own : ℕ) (r past : List ℕ) → accepted own r ≡ true → Octets r → Fresh (given own r) (stateOf (given own r) ++ past)

@@ -1,4 +1,4 @@
--- 01, Reception: setting a receiver up in lent bytes. The subscriptions come as records of 13 bytes: kind (1), type ID (4, low first),
+-- RULES 3.3 to 3.5: setting a receiver up in lent bytes. The subscriptions come as records of 13 bytes: kind (1), type ID (4, low first),
 -- signature (8, low first).
 use mathlib.Core.Bool.{Bool, _&&_}
 use mathlib.Core.List.{List, [], _∷_, _++_}
@@ -26,11 +26,11 @@ recordAt r j =
 unfoldable pub given : ℕ → List ℕ → Setup
 given own r = record { own = own; subscriptions = tabulate (recordAt r) 0 (length r / subscriptionRecord) }
 
--- a list that is no whole number of records is refused too
+-- RULES 3.4: a list that is no whole number of records is refused too
 unfoldable pub accepted : ℕ → List ℕ → Bool
 accepted own r = eqb (length r % subscriptionRecord) 0 && acceptable (given own r)
 
--- ── the state of a setup: nothing is held ──
+-- ── the state of a setup (RULES 3.5): nothing is held ──
 
 unfoldable pub signatures : List Subscription → List ℕ
 signatures [] = []
@@ -58,7 +58,7 @@ pub record Result : Type 0 where
 abbrev pub result : Outcome → List ℕ → Result
 result a m = record { answer = a; state = m }
 
--- 20 comes first; a refused setup leaves the state as it was; bytes past the layout stay
+-- RULES 3.5: 20 comes first; a refused setup leaves the state as it was; bytes past the layout stay
 unfoldable pub afterSetup : List ℕ → ℕ → List ℕ → Result
 afterSetup m own r =
     pick (ltb (length m) size) (result Short m)

@@ -1,4 +1,4 @@
-// Setting a receiver up in a lent state.
+// Setting a receiver up in a lent state (RULES 3.3 to 3.5).
 pub mod laws;
 
 use answers::Outcome;

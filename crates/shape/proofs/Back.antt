@@ -29,7 +29,7 @@ abbrev pub Good : (d : Shape) → List Bool → Answer (Values d) → Type 0
 Good d bs (refused n) = Unit {0}
 Good d bs (got v) = Came d bs v
 
--- in front what was taken off, behind it the rest
+-- in front what was taken off, after it the rest
 joined : (t a c e pad : List Bool) → a ≡ t → c ≡ e ++ pad → t ++ c ≡ (a ++ e) ++ pad
 joined t a c e pad h g = rw (← h, g) (sym (append-assoc a e pad))
 
@@ -90,7 +90,7 @@ good-items w k d bs false e (got v) g =
           (and-both (allBelow (2 ^ w) (itemsOf w k bs)) (fits d v) (items-below w k bs l) (g .fit));
     }
 
--- n: the length that was read, rest: what stands behind it
+-- n: the length that was read, rest: what comes after it
 good-list : (w m : ℕ) (d : Shape) (bs : List Bool) (b₁ b₂ b₃ : Bool) → ltb (length bs) (widthOf m) ≡ b₁
     → ltb (length (drop (widthOf m) bs)) (fromBits (widthOf m) bs * w) ≡ b₂ → ltb m (fromBits (widthOf m) bs) ≡ b₃
     → (r : Answer (Values d)) → Good d (drop (fromBits (widthOf m) bs * w) (drop (widthOf m) bs)) r

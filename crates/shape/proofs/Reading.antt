@@ -36,7 +36,7 @@ abbrev total : List Slot → ℕ
 total [] = 0
 total (s ∷ ss) = width s + total ss
 
--- the numbers that stand from bit `at` on, before v
+-- the numbers from bit `at` on, before v
 abbrev pub withHead : (ss : List Slot) (d : Shape) → List Bool → ℕ → Values d → Values (slots ss d)
 withHead [] d bs at v = v
 withHead (value w ∷ ss) d bs at v = (fromBits w (drop at bs), withHead ss d bs (at + w) v)
@@ -201,13 +201,13 @@ module _ (k : ℕ) (d : Shape) (s : List ℕ) (os : Octets s) where
   unfolding decode refuseIf
   items-read h = rw (le-ltb (length (unpack s)) (k * 8) (omega (arith, length-unpack s)), byte-items k s os h, drop-unpack k s)
 
--- a length field, and bytes behind it
+-- a length field, and bytes after it
 module _ (m : ℕ) (d : Shape) (bs : List Bool) where
   pub list-none : length bs < widthOf m → decode (list 8 m d) bs ≡ refused 15
   unfolding decode refuseIf
   list-none h = rw (lt-ltb (length bs) (widthOf m) h)
 
-  -- s: the bytes behind it, n: the length that is read
+  -- s: the bytes after it, n: the length that is read
   module _ (h : widthOf m ≤ length bs) (s : List ℕ) (os : Octets s) (e : drop (widthOf m) bs ≡ unpack s) (n : ℕ) (en : n ≡ fromBits (widthOf m) bs) where
     there : ltb (length bs) (widthOf m) ≡ false
     there = le-ltb (length bs) (widthOf m) h

@@ -22,7 +22,7 @@ unfolding mapAnswer
 through f (refused n) x e = absurd (let z : _≡_ {A = ℕ} 0 1 = cc in omega arith)
 through f (got a) x e = record { from = a; is = refl; maps = cc }
 
--- only: nothing is read but what stands at its place
+-- only: nothing is read but what is at its place
 pub trips : (d : Shape) → Sound d → {A : Type 0} (of : Values d → A) (at : List ℕ → Values d)
     → ((p : List ℕ) → Octets p → (v : Values d) → decoded d p ≡ got v → v ≡ at p) → Trips d of at
 trips d s {A} of at only = record { there = go; back = come } where

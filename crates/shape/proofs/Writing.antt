@@ -40,7 +40,7 @@ module _ (d : Shape) (v : Values d) (m : List ℕ) where
         let b : m' ≡ message d v ++ drop n m = e ∙ store-front m n (encode d v) o l h ∙ ap (λ (x : List ℕ). x ++ drop n m) (sym packed) in
         rw (f, size, le-ltb (length m) n h, b, size)
 
--- one field more behind those written from bit b on
+-- one field more after those written from bit b on
 pub more-from : (b : ℕ) (m m' m'' : List ℕ) (xs ys : List Bool) (at : ℕ) → m' ≡ store m b xs → b + length xs ≡ at → at ≤ length m * 8 → m'' ≡ store m' at ys
     → m'' ≡ store m b (xs ++ ys)
 more-from b m m' m'' xs ys at e l h f =

@@ -1,4 +1,4 @@
--- What a message call answers (01, Numbers answered): a refusal by its number, or success, number 0, with a value.
+-- RULES 13.1, 9.6 and 9.7: what a message call answers. A refusal by its number, or success, number 0, with a value.
 use mathlib.Core.Bool.{Bool, true, false}
 use mathlib.Core.List.{List, _++_}
 use Prim.Native.Nat.{ℕ}
@@ -23,7 +23,7 @@ abbrev pub answerOf : Written → Answer ℕ
 answerOf (Refused n) = refused n
 answerOf (Wrote n) = got n
 
--- the answer, and the buffer m after it: a refusal touches nothing, bytes stand at the front, and those past them stay
+-- RULES 1.5: the answer, and the buffer m after it. A refusal touches nothing, output is at the front, and the bytes past it stay
 abbrev pub wrote : Answer (List ℕ) → List ℕ → Answer ℕ × List ℕ
 wrote (refused n) m = (refused n, m)
 wrote (got bs) m = (got (length bs), bs ++ drop (length bs) m)

@@ -1,4 +1,4 @@
--- A message described once, field by field (01, Messages; 004, Serialization). Its bits, its reading and its refusals follow from the description.
+-- RULES 9.1 to 9.11: a message described once, field by field. Its bits, its reading and its refusals follow from the description.
 use mathlib.Core.Bool.{Bool, true, not, _&&_}
 use mathlib.Core.List.{List, [], _∷_, _++_}
 use Prim.Native.Nat.{ℕ, zero, suc, _*_, _/_, _%_, _^_}
@@ -12,15 +12,15 @@ use Rattle.shape.specs.Answer.{Answer, got, refuseIf, mapAnswer, wrote}
 
 pub data Shape : Type 0 where
   end : Shape
-  -- a number of w bits
+  -- a number of w bits (RULES 9.2)
   num : ℕ → Shape → Shape
-  -- w bits that are written as zero and ignored in reading
+  -- w bits that are written as zero and ignored in reading (RULES 9.8)
   void : ℕ → Shape → Shape
-  -- exactly k items of w bits: w, k
+  -- exactly k items of w bits (RULES 9.5): w, k
   items : ℕ → ℕ → Shape → Shape
-  -- at most m items of w bits, behind a length field: w, m
+  -- at most m items of w bits, after a length field (RULES 9.3): w, m
   list : ℕ → ℕ → Shape → Shape
-  -- at most m items of w bits, the last thing of all, with no length field: w, m, what the content must pass
+  -- at most m items of w bits, the last thing of all, with no length field (RULES 9.4): w, m, what the content must pass
   tail : ℕ → ℕ → (List ℕ → Bool) → Shape
 
 -- what a message of this shape holds
@@ -65,7 +65,7 @@ encode (items w k d) v = itemBits w (v .0) ++ encode d (v .1)
 encode (list w m d) v = toBits (widthOf m) (length (v .0)) ++ (itemBits w (v .0) ++ encode d (v .1))
 encode (tail w m ok) v = itemBits w v
 
--- ── reading, field by field: 15 the payload ends in a field, 16 too many, 25 padding not zero, 17 not allowed ──
+-- ── reading, field by field (RULES 9.6, 9.11): 15 the payload ends in a field, 16 too many, 25 padding not zero, 17 not allowed ──
 -- The five types fill whole bytes: none of them answers 25.
 
 unfoldable pub decode : (d : Shape) → List Bool → Answer (Values d)
@@ -87,7 +87,7 @@ decode (tail w m ok) bs =
     (refuseIf (not (allZero (drop (n * w) bs))) 25
     (refuseIf (not (ok (itemsOf w n bs))) 17 (got (itemsOf w n bs)))))
 
--- ── writing: 17 over all fields, then 8 ──
+-- ── writing (RULES 9.7): 17 over all fields, then 8 ──
 
 unfoldable pub fits : (d : Shape) → Values d → Bool
 fits end v = true
@@ -112,7 +112,7 @@ encoded d v room = refuseIf (not (fits d v)) 17 (refuseIf (ltb room (length (mes
 abbrev pub written : (d : Shape) → Values d → List ℕ → Answer ℕ × List ℕ
 written d v m = wrote (encoded d v (length m)) m
 
--- ── a payload with its ignored bits zero ──
+-- ── a payload with its ignored bits zero (RULES 9.8) ──
 
 unfoldable pub clear : Shape → List Bool → List Bool
 clear end bs = bs

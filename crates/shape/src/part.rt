@@ -1,9 +1,9 @@
-// Parts of a lent payload that may end anywhere.
+// Parts of a lent payload that may end anywhere (RULES 9.9).
 ghost use mathlib.Core.Path.{_≡_};
 ghost use lib.ListN.{drop};
 ghost use Rattle.bits.specs.Part.{span};
 
-// Internal. What stands behind the first `at` bytes: nothing, where the payload ends before.
+// Internal. What comes after the first `at` bytes: nothing, where the payload ends before.
 pub fn behind(payload: &[u8], at: usize) -> &[u8]
     ensures { λ r. ⌜ now r ≡ drop at (now (payload .entry)) ⌝ }
 {

@@ -1,4 +1,4 @@
-// Works out the signatures of the five message types by the rule of 004, from the bytes of their normalized definitions, and prints
+// Works out the signatures of the five message types (RULES 11), from the bytes of their normalized definitions, and prints
 // each beside the number of the public DroneCAN set.
 use checksum::crc64;
 
@@ -53,7 +53,7 @@ saturated uint8[<=255] certificate_of_authenticity",
     )
 }
 
-// Each nested type, in the order of the fields, extends the hash by its own signature.
+// RULES 11.4: each nested type, in the order of the fields, extends the hash by its own signature.
 fn get_node_info() -> u64 {
     let own = plain(
         b"uavcan.protocol.GetNodeInfo

@@ -23,7 +23,7 @@ length-control s = length-append (leBytes 2 (length (s .gathered))) (s .expected
 
 -- ── a part that a place's fields do not touch ──
 
--- the n bytes from a on lie before or behind the field of w bytes at `at`
+-- the n bytes from a on come before or after the field of w bytes at `at`
 pub record Clear (at w a n : ℕ) : Type 0 where
   pub before : a < at → a + n ≤ at
   pub behind : at ≤ a → at + w ≤ a

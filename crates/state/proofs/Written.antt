@@ -62,7 +62,7 @@ record Writes (m : List ℕ) (j : ℕ) (ps : Places) : Type 0 where
   inTable : j + length ps ≤ sessionsMax
   storable : AllStorable ps
 
--- those behind the first
+-- those after the first
 behind : (m : List ℕ) (j : ℕ) (p : Place) (ps : Places) → Writes m j (p ∷ ps) → Writes (withPlace m j p) (suc j) ps
 behind m j p ps w =
     let n = w .inTable in

@@ -1,4 +1,4 @@
--- The layout of a receiver's state in lent bytes (docs/ARCHITECTURE.md has the table), and its view as setup and places.
+-- RULES 5.2: the layout of a receiver's state in lent bytes (docs/ARCHITECTURE.md has the table), and its view as setup and places.
 use mathlib.Core.List.{List}
 use Prim.Native.Nat.{ℕ, _+_, _*_, _/_, _%_}
 use lib.Dec.{eqb}

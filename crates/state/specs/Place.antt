@@ -1,4 +1,4 @@
--- Writing a place, and a whole table, into the state. An empty place has key 0; its other bytes stay as they were.
+-- RULES 5.6: writing a place, and a whole table, into the state. An empty place has key 0; its other bytes stay as they were.
 use mathlib.Core.Bool.{Bool, true, false}
 use mathlib.Core.List.{List, [], _∷_, _++_}
 use Prim.Native.Nat.{ℕ, suc, _+_, _*_}

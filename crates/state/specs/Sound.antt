@@ -1,4 +1,4 @@
--- 01, Numbers answered, 20: a lent state without a fault.
+-- RULES 5.4: a lent state without a fault.
 use mathlib.Core.Bool.{Bool, _&&_, _||_}
 use mathlib.Core.List.{List}
 use Prim.Native.Nat.{ℕ}

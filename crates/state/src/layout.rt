@@ -1,4 +1,4 @@
-// Where each part of a receiver's state starts, for the code: specs/Layout.antt has the same for the definitions, and says what stands there.
+// Where each part of a receiver's state starts, for the code: specs/Layout.antt has the same for the definitions, and says what is there.
 use rules::limits::GATHERED;
 use rules::limits::SESSIONS;
 use rules::limits::SUBSCRIPTIONS;

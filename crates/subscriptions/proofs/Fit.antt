@@ -138,7 +138,7 @@ module _ (f : ℕ → Subscription) where
       length-is : length (entries 0 n) ≡ n
       length-is = length-tabulate entry 0 n
 
-  -- one stands a second time
+  -- one is there a second time
   pub twice-unfit : (n l j : ℕ) → l < j → j < n → entryOf (f l) ≡ entryOf (f j) → allFit (tabulate f 0 n) ≡ false
   twice-unfit n l j a b e = go (allFit (tabulate f 0 n)) refl where
     entry : ℕ → ℕ

@@ -1,4 +1,4 @@
-// The subscriptions in a receiver's state.
+// The subscriptions in a receiver's state (RULES 3.4, 3.6).
 use keys::MARKS;
 use state::layout::SIGNATURES_AT;
 use state::layout::SUBSCRIPTION_COUNT_AT;
@@ -47,7 +47,7 @@ fn key_fits(state: &[u8], k: u32, j: usize, first: bool) -> bool
     keys::find(state, SUBSCRIPTION_KEYS_AT, j, k) == j
 }
 
-// Internal. Every subscription has a kind and a type in range, and none stands twice. Only a key whose mark is set is looked for among those
+// Internal. Every subscription has a kind and a type in range, and none is there twice. Only a key whose mark is set is looked for among those
 // before it.
 pub fn all_fit(state: &[u8]) -> bool
     requires { ⌜ size ≤ length (now state) ⌝ }

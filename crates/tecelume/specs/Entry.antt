@@ -1,4 +1,4 @@
--- What a C entry gives: its number or word, and the lent buffers after.
+-- RULES 13.3, 1.5: what a C entry gives, its number or word, and the lent buffers after.
 use mathlib.Core.List.{List}
 use Prim.Native.Nat.{ℕ, _+_, _*_, _^_}
 use Rattle.answers.specs.Setup.{numberOf}

@@ -1,4 +1,4 @@
--- The result word of a reception: the number in bits 0 to 7; with number 1 the payload's length in 8 to 17, the transfer type in 18 and 19,
+-- RULES 13.3: the result word of a reception. The number in bits 0 to 7; with 1 the payload's length in 8 to 17, the transfer type in 18 and 19,
 -- the type ID in 20 to 35, source in 36 to 42, destination in 43 to 49, priority in 50 to 54 and transfer ID in 55 to 59. All other bits are 0.
 use mathlib.Core.Path.{_≡_}
 use mathlib.Core.List.{List}
@@ -19,7 +19,7 @@ transferWord t =
 unfoldable pub wordOf : Answer → ℕ
 wordOf a = numberOf a + transferWord (transferIn a)
 
--- ── every answer fits: no field runs into the next ──
+-- ── every answer fits (RULES 4.10): no field runs into the next ──
 
 pub record TransferFits (t : Transfer) : Type 0 where
   pub len : t .len ≤ 512
@@ -34,7 +34,7 @@ pub record Fits (a : Answer) : Type 0 where
   pub number : numberOf a < 2 ^ 8
   pub transfer : TransferFits (transferIn a)
 
--- so C reads the number and each value in its field
+-- RULES 13.3: so C reads the number and each value in its field
 pub record ReadBack (w : ℕ) (a : Answer) : Type 0 where
   pub number : w % 2 ^ 8 ≡ numberOf a
   pub len : w / 2 ^ 8 % 2 ^ 10 ≡ transferIn a .len

@@ -1,4 +1,4 @@
-// Answers as numbers.
+// Answers as numbers (RULES 13.3).
 use transport::Answer;
 use transport::Sent;
 use transport::Transfer;

@@ -1,4 +1,4 @@
--- 01, Messages: the standard types, with the signatures of the public DroneCAN set. The program `signatures` works them out by the rule of 004.
+-- RULES 10.1: the standard types, with the signatures of the public DroneCAN set. The program `signatures` works them out (11).
 use mathlib.Core.List.{List, [], _∷_}
 use Prim.Native.Nat.{ℕ}
 use Rattle.rules.specs.Check.{orZero}

@@ -1,4 +1,4 @@
-// The five standard types of 01: kind, data type ID and signature. What is proved and uses a signature takes it from here.
+// The five standard types (RULES 10.1): kind, data type ID and signature. What is proved and uses a signature takes it from here.
 ghost use mathlib.Core.Path.{_≡_};
 ghost use Rattle.types.specs.Types.{signatureOf};
 

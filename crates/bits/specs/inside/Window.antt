@@ -1,4 +1,4 @@
--- What the private function `field::patch` computes on a window of one or two bytes.
+-- For RULES 9.2: what the private function `field::patch` computes on a window of one or two bytes.
 use Prim.Native.Nat.{ℕ, _+_, _*_, _/_, _%_, _^_}
 
 -- the number x with v in the place of the k bits above its r lowest

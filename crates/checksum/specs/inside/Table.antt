@@ -1,4 +1,4 @@
--- The table of the transfer checksum.
+-- RULES 6.4: the table of the transfer checksum.
 use mathlib.Core.Path.{_≡_}
 use mathlib.Core.List.{List}
 use Prim.Native.Nat.{ℕ, _*_, _<_}

@@ -16,7 +16,7 @@ use Rattle.digits.proofs.put_hexes.Tie as tie
 length-front : (s : List ℕ) (i : ℕ) → i ≤ length s → length (hexes (take i s)) ≡ i * 2
 length-front s i h = omega (arith, length-hexes (take i s), length-take-le i s h)
 
--- a turn: two characters behind those of the bytes before
+-- a turn: two characters after those of the bytes before
 turn : (m₀ m s : List ℕ) (at i x y : ℕ) → i < length s → at + length s * 2 ≤ length m₀ → length m ≡ length m₀ → getD s i 0 < 256
     → x ≡ glyph (getD s i 0 / 16) → y ≡ glyph (getD s i 0 % 16) → m ≡ splice m₀ at (hexes (take i s))
     → set (set m (at + i * 2) x) (at + i * 2 + 1) y ≡ splice m₀ at (hexes (take (suc i) s))

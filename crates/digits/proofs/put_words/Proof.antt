@@ -13,7 +13,7 @@ use mathlib.Core.Path.{_≡_, refl, sym, ap, _∙_}
 use Rattle.digits.proofs.put_words.Statement.{statement}
 use Rattle.digits.proofs.put_words.Tie as tie
 
--- a turn: one word behind the others
+-- a turn: one word after the others
 turn : (a b d vs : List ℕ) (at i p q : ℕ) → i < length vs → p + 21 ≤ length a → Puts a b at p (words (take i vs))
     → Puts b d p q (words (getD vs i 0 ∷ [])) → Puts a d at q (words (take (suc i) vs))
 turn a b d vs at i p q h l f g =

@@ -1,4 +1,4 @@
--- What the functions on text give: text in a buffer, and a number or none.
+-- RULES 12.3: what the functions on text give, text in a buffer, and a number or none.
 use mathlib.Core.Path.{_≡_}
 use mathlib.Core.List.{List}
 use mathlib.Core.Option.{Option, none, some}

@@ -1,4 +1,4 @@
--- The code's head of a frame, as the rules see it.
+-- RULES 2.2 to 2.4: the code's head of a frame, as the rules see it.
 use mathlib.Core.List.{List}
 use Prim.Native.Nat.{ℕ}
 use Rattle.frame.specs.declared.head.Head.{Head}
@@ -24,6 +24,6 @@ headOf id tail =
       transfer = transferOf tail;
     }
 
--- the checks 4 to 6 of a head and n data bytes
+-- RULES 4.1: the checks 4 to 6 of a head and n data bytes
 abbrev pub headTestsOf : ℕ → Head → ℕ → List Test
 headTestsOf own h n = headTests own (streamOf h) (h .start) (h .end) (h .toggle) n

@@ -1,4 +1,4 @@
--- Condition 3 over lent states.
+-- Condition 3 over lent states (RULES 14.14).
 use Rattle.guarantees.proofs.Condition3.{lent-theorem}
 use Rattle.guarantees.proofs.condition3_lent.Statement.{statement}
 use Rattle.guarantees.proofs.condition3_lent.Tie as tie

@@ -1,4 +1,4 @@
--- The premises of condition 3 over lent states, met.
+-- The premises of condition 3 over lent states, met (RULES 14.15).
 use Rattle.guarantees.proofs.Example.{lent-example}
 use Rattle.guarantees.proofs.condition3_lent_example.Statement.{statement}
 use Rattle.guarantees.proofs.condition3_lent_example.Tie as tie

@@ -1,4 +1,4 @@
--- The number that a search for a place answers.
+-- RULES 8.2: the number that a search for a place answers.
 use mathlib.Core.Option.{Option, none, some}
 use Prim.Native.Nat.{ℕ}
 use Rattle.rules.specs.Limits.{entriesMax}

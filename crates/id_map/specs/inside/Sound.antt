@@ -1,4 +1,4 @@
--- The test for 20 as the code goes: each place by itself, and then the keys of all.
+-- RULES 8.5: the test for faults as the code goes, each place by itself, and then the keys of all.
 use mathlib.Core.Bool.{Bool, _&&_, _||_}
 use mathlib.Core.List.{List}
 use Prim.Native.Nat.{ℕ}

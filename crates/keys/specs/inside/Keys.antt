@@ -1,4 +1,4 @@
--- Tables of keys, 0 for an empty place.
+-- For RULES 3.4, 5.4 and 8.5: tables of keys, 0 for an empty place.
 use mathlib.Core.Bool.{Bool, true, _&&_, _||_}
 use mathlib.Core.List.{List, [], _∷_}
 use Prim.Native.Nat.{ℕ, zero, suc, _+_, _*_, _/_, _%_}
@@ -12,12 +12,12 @@ use Rattle.rules.specs.Tests.{pick}
 abbrev pub wordAt : List ℕ → ℕ → ℕ → ℕ
 wordAt s at i = le (span s (at + i * 4) 4)
 
--- how often k stands in a list
+-- how often k is in a list
 unfoldable pub count : ℕ → List ℕ → ℕ
 count k [] = 0
 count k (x ∷ xs) = boolByte (eqb x k) + count k xs
 
--- no key but 0 stands twice
+-- no key but 0 is there twice
 unfoldable pub distinct : List ℕ → Bool
 distinct [] = true
 distinct (k ∷ more) = (eqb k 0 || eqb (count k more) 0) && distinct more

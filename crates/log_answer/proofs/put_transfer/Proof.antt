@@ -13,7 +13,7 @@ use borrow.Author.Needs.{needs}
 use Rattle.log_answer.proofs.put_transfer.Statement.{statement}
 use Rattle.log_answer.proofs.put_transfer.Tie as tie
 
--- the six parts, one behind the other, in a buffer of n bytes
+-- the six parts, one after the other, in a buffer of n bytes
 joined : (t : Transfer) (pay m m₁ m₂ m₃ m₄ m₅ m₆ : List ℕ) (n at a b c d e f l : ℕ) → at + 131 + length pay * 2 ≤ n → length m ≡ n
     → length m₁ ≡ n → length m₂ ≡ n
     → length m₃ ≡ n → length m₄ ≡ n → length m₅ ≡ n → l ≡ letterOf (t .«transfer_type») → Puts m m₁ at a (32 ∷ []) → Puts m₁ m₂ a b (l ∷ [])

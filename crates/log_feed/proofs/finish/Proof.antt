@@ -35,7 +35,7 @@ unfolding replay
 both m c [] h = absurd (h refl)
 both m c (x ∷ k) h = ap (λ (t : List ℕ). t ++ endText (counted c (reply m (said (x ∷ k)) .handed))) (sym (append-nil (reply m (said (x ∷ k)) .text)))
 
--- a line, and the end behind it
+-- a line, and the end after it
 module _ (m kept out m' out₁ out₂ : List ℕ) (c : Counts) (s : Said) (r : ℕ) (e : result s m' out₁ ≡ replayed m kept c out 0)
     (f : Puts out₁ out₂ (s .past) r (endText (s .counts))) where
   line : Puts out out₁ 0 (s .past) (reply m (said kept) .text)

@@ -1,4 +1,4 @@
--- What the loop over the lines of a block leaves.
+-- RULES 12.4: what the loop over the lines of a block leaves.
 use mathlib.Core.Path.{_≡_}
 use mathlib.Core.Bool.{true}
 use mathlib.Core.List.{List}

@@ -1,4 +1,4 @@
--- What the call leaves in the caller's buffers.
+-- RULES 12.4: what the call on a block leaves in the caller's buffers.
 use mathlib.Core.List.{List}
 use Prim.Native.Nat.{ℕ}
 use lib.ListN.{take}

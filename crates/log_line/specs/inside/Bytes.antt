@@ -1,4 +1,4 @@
--- Data bytes as the code tells them.
+-- RULES 12.2: data bytes as the code tells them.
 use mathlib.Core.List.{List}
 use mathlib.Core.Option.{Option, none, some}
 use Prim.Native.Nat.{ℕ}

@@ -1,4 +1,4 @@
--- The call on one line: the text goes into a buffer from `at` on.
+-- RULES 12.8: the call on one line. The text goes into a buffer from `at` on.
 use mathlib.Core.List.{List}
 use Prim.Native.Nat.{ℕ, _+_}
 use lib.ListN.{length}

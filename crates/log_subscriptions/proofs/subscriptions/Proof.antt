@@ -1,4 +1,4 @@
--- `subscriptions` meets its contract: each turn puts a record behind those that are there; what is there after the last is computed.
+-- `subscriptions` meets its contract: each turn puts a record after those that are there; what is there after the last is computed.
 use borrow.Author.Needs.{needs}
 use mathlib.Core.Path.{_≡_, refl, ap, _∙_}
 use mathlib.Core.List.{List, [], _∷_}

@@ -1,4 +1,4 @@
--- What the functions after the checks are called with.
+-- RULES 4.1, 5.3: what the functions after the checks are called with.
 use mathlib.Core.Path.{_≡_}
 use mathlib.Core.Bool.{true, false}
 use mathlib.Core.List.{List}

@@ -1,4 +1,4 @@
--- The session that a frame enters.
+-- RULES 4.3, 4.5: the session that a frame enters.
 use mathlib.Core.Path.{_≡_}
 use mathlib.Core.Bool.{true, false}
 use mathlib.Core.List.{List, []}
@@ -16,7 +16,7 @@ entered New m i h = fresh (parsedOf h [])
 entered Again m i h = restarted (sessionAt m i) (h .head .transfer)
 entered On m i h = sessionAt m i
 
--- the frame is the one that this session waits for, and its bytes have room
+-- RULES 4.6, 4.8: the frame is the one that this session waits for, and its bytes have room
 pub record Enters (way : Way) (m : List ℕ) (i : ℕ) (h : Incoming) (p : List ℕ) : Type 0 where
   pub stored : (way ≡ New → ⊥) → countAt m i ≤ 514
   pub expected : entered way m i h .expected < 32

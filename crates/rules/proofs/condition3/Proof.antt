@@ -1,4 +1,4 @@
--- Condition 3.
+-- Condition 3 (RULES 14.1).
 use Rattle.rules.proofs.Theorem.{theorem}
 use Rattle.rules.proofs.condition3.Statement.{statement}
 use Rattle.rules.proofs.condition3.Tie as tie

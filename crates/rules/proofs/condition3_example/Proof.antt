@@ -1,4 +1,4 @@
--- A case that meets the premises of condition 3.
+-- A case that meets the premises of condition 3 (RULES 14.15).
 use Rattle.rules.proofs.Examples.{example}
 use Rattle.rules.proofs.condition3_example.Statement.{statement}
 use Rattle.rules.proofs.condition3_example.Tie as tie

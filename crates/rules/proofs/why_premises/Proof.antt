@@ -1,4 +1,4 @@
--- Cases that break a premise of condition 3.
+-- Cases that break a premise of condition 3 (RULES 14.13).
 use Rattle.rules.proofs.Examples.{why-premises}
 use Rattle.rules.proofs.why_premises.Statement.{statement}
 use Rattle.rules.proofs.why_premises.Tie as tie

@@ -29,7 +29,7 @@ fit : (e : tie.Else1) → notSendable (call (e .before .before .before .before .
 unfolding call
 fit e = sym (e .before .not-sendable .ensures) ∙ e .if1 .left
 
--- what is known behind the check for room
+-- what is known after the check for room
 ranged : (e : tie.Else1) → InRange (call (e .before .before .before .before .before))
 ranged e = in-range (call (e .before .before .before .before .before)) (fit e)
 

@@ -1,4 +1,4 @@
--- `sum_ok` meets its contract: the two bytes in front, low byte first, against the checksum of those behind them.
+-- `sum_ok` meets its contract: the two bytes in front, low byte first, against the checksum of those after them.
 use mathlib.Core.Path.{_≡_}
 use native.Mathlib.Omega.{arith}
 use borrow.Author.Needs.{needs}

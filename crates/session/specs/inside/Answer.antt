@@ -1,4 +1,4 @@
--- What a frame that ends a transfer gives: the answer and the output buffer.
+-- RULES 4.8: what a frame that ends a transfer gives, the answer and the output buffer.
 use mathlib.Core.Path.{_≡_}
 use mathlib.Core.List.{List, []}
 use Prim.Native.Nat.{ℕ}

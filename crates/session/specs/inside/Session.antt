@@ -1,4 +1,4 @@
--- The code's session and incoming frame, as the rules see them.
+-- RULES 4.3 to 4.8: the code's session and incoming frame, as the rules see them.
 use mathlib.Core.List.{List, _++_}
 use mathlib.Core.Bool.{Bool, false, not, _&&_, _||_}
 use Prim.Native.Nat.{ℕ, _-_, _≤_, _<_}
@@ -18,7 +18,7 @@ use Rattle.session.specs.declared.Session.{Session}
 unfoldable pub sessionOf : Session → rules.Session
 sessionOf s = record { expected = s .expected; gathered = take (s .len) (s .bytes); toggle = s .toggle; since = s .time }
 
--- what a session of the receiver always keeps
+-- RULES 5.4: what a session of the receiver always keeps
 pub record InRange (s : Session) : Type 0 where
   pub expected : s .expected < 32
   pub len : s .len ≤ gatheredMax
@@ -41,7 +41,7 @@ parsedOf h p =
       time = h .time;
     }
 
--- a frame's bytes added and the toggle turned, and the time set by a start
+-- RULES 4.7: a frame's bytes added and the toggle turned, and the time set by a start
 abbrev pub added : rules.Session → Bool → ℕ → List ℕ → rules.Session
 added s start time p =
     record { expected = s .expected; gathered = s .gathered ++ p; toggle = not (s .toggle); since = pick start time (s .since) }

@@ -1,4 +1,4 @@
--- What a scan of the places looks for.
+-- RULES 4.3, 4.4: what a scan of the places looks for.
 use mathlib.Core.Bool.{Bool, not, _&&_}
 use mathlib.Core.List.{List}
 use Prim.Native.Nat.{ℕ, _-_}

@@ -24,7 +24,7 @@ module _ (m s : List ℕ) (own n : ℕ) (e : s ≡ replicate size 0 ++ drop size
 as-long : (s : List ℕ) (own n : ℕ) → length (set (set s 0 own) 1 n) ≡ length s
 as-long s own n = simp length-set
 
--- behind the loop
+-- after the loop
 finished : (own n j : ℕ) (r s rest rest' : List ℕ) → s ≡ laidOut own n (tabulate (recordAt r) 0 j) rest → j ≡ n → n ≡ length r / subscriptionRecord → rest ≡ rest'
     → s ≡ stateOf (given own r) ++ rest'
 finished own n j r s rest rest' e ej en er =

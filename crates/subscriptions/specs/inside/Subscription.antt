@@ -1,4 +1,4 @@
--- What a look-up gives, the test of one key, and one subscription written into the state.
+-- RULES 3.4, 3.6: what a look-up gives, the test of one key, and one subscription written into the state.
 use mathlib.Core.Bool.{Bool, _&&_, _||_}
 use mathlib.Core.List.{List}
 use mathlib.Core.Option.{Option, none, some}

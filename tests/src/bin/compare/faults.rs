@@ -1,4 +1,4 @@
-//! The faults of lent state that 20 names, each put alone into a state that has none.
+//! The faults of lent state (RULES 5.4), each put alone into a state that has none.
 
 use crate::random::Random;
 use reference::frame::{Stream, TransferType};

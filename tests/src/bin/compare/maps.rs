@@ -1,4 +1,4 @@
-//! Transfer-ID maps at random, and the faults of a lent map that 20 names.
+//! Transfer-ID maps at random, and the faults of a lent map (RULES 8.5).
 
 use crate::random::Random;
 use crate::states::{time_near, transfer_id};

@@ -1,4 +1,4 @@
--- `hex::pairs` is safe and ends: the pairs are run through, and each byte stands before where its digits end.
+-- `hex::pairs` is safe and ends: the pairs are run through, and each byte is before where its digits end.
 use borrow.Author.Needs.{needs}
 use Prim.Native.Nat.{_≤_, _-_}
 use lib.ListN.{length}

@@ -1,4 +1,4 @@
--- `Session::take` meets its contract. The invariant: the array is the one at entry with the first i bytes of p behind those in hand.
+-- `Session::take` meets its contract. The invariant: the array is the one at entry with the first i bytes of p after those in hand.
 use mathlib.Core.Path.{_≡_, sym, ap, _∙_}
 use mathlib.Core.Bool.{Bool, not}
 use mathlib.Core.List.{List}

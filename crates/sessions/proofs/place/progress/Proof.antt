@@ -1,4 +1,4 @@
--- `place::progress` meets its contract: the fields stand where the layout says.
+-- `place::progress` meets its contract: the fields are where the layout says.
 use mathlib.Core.Path.{ap}
 use Prim.Native.Nat.{ℕ}
 use native.Mathlib.Omega.{arith}

@@ -43,7 +43,7 @@ module _ (m : List ℕ) where
       unfolding soundState acceptable setupOf
       too-many h = rw (le-leb size (length m) long, named, length-tabulate (subscriptionAt m) 0 n, lt-leb n subscriptionsMax h)
 
-      -- behind the length and the numbers: subscriptions, then places
+      -- after the length and the numbers: subscriptions, then places
       module _ (few : n ≤ subscriptionsMax) (b : Bool) (fit : allFit (setupOf m .subscriptions) ≡ b) (bytes : Octets m) where
         tested : (b && (every (emptyOrFits m) 0 sessionsMax && distinct (keysOf m))) ≡ soundState m
         unfolding soundState acceptable setupOf

@@ -1,4 +1,4 @@
--- `sound::places_sound` meets its contract. The invariant: where the walk stands, and the places passed fit.
+-- `sound::places_sound` meets its contract. The invariant: where the walk is, and the places passed fit.
 use mathlib.Core.Path.{_≡_, refl, sym, ap, ap₂, _∙_}
 use mathlib.Core.Bool.{true, _&&_, and-false}
 use mathlib.Core.List.{List}
