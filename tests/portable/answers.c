@@ -58,10 +58,11 @@ static void add(const uint8_t *bytes, size_t n)
 
 static void answered(enum entry entry, uint64_t word, size_t left)
 {
+    tecelume_result result = {word};
     for (int i = 0; i < 64; i += 8)
         digest = (digest ^ (word >> i & 255)) * 1099511628211u;
     add(out, left);
-    counts[entry][entry == OTHERS ? 0 : tecelume_number(word) % NUMBERS]++;
+    counts[entry][entry == OTHERS ? 0 : tecelume_number(result) % NUMBERS]++;
     if (++calls % FOLD == 0) {
         add(state, sizeof state);
         add(maps[0], sizeof maps);
@@ -123,18 +124,18 @@ static void send_on(struct lane *lane)
     uint32_t discriminator = below(16384);
     size_t length = any_payload();
     size_t out_len = once_in(10) ? below(200) : sizeof out;
-    uint64_t word = tecelume_send(map, TECELUME_MAP_SIZE, own, kind, type_id, destination, priority, payload, length,
-                                  signature_of(type_id), now, transfer_id, discriminator, out, out_len);
-    lane->count = tecelume_frames(word);
+    tecelume_result sent = tecelume_send(map, TECELUME_MAP_SIZE, own, kind, type_id, destination, priority, payload, length,
+                                         signature_of(type_id), now, transfer_id, discriminator, out, out_len);
+    lane->count = tecelume_frames(sent);
     lane->next = 0;
     memcpy(lane->records, out, lane->count * TECELUME_RECORD_SIZE);
-    answered(SEND, word, lane->count * TECELUME_RECORD_SIZE);
+    answered(SEND, sent.word, lane->count * TECELUME_RECORD_SIZE);
 }
 
 static void receive(uint32_t id, const uint8_t *data, size_t length)
 {
-    uint64_t word = tecelume_receive(state, sizeof state, id, data, length, now, out, once_in(50) ? below(512) : TECELUME_OUTPUT_SIZE);
-    answered(RECEIVE, word, tecelume_length(word));
+    tecelume_result received = tecelume_receive(state, sizeof state, id, data, length, now, out, once_in(50) ? below(512) : TECELUME_OUTPUT_SIZE);
+    answered(RECEIVE, received.word, tecelume_length(received));
 }
 
 /* The lane's next frame: as it was sent, damaged, twice or not at all. */
