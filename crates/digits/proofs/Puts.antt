@@ -9,7 +9,8 @@ use lib.ListN.{length, take, drop, set, length-append, take-append-drop}
 use lib.Seq.{set-split, take-set-le, drop-at, length-take-le, append-snoc}
 use Rattle.bits.specs.Part.{splice}
 use Rattle.bits.proofs.Splice.{splice-next}
-use Rattle.digits.specs.Digits.{glyph, digits, countOf, decimal, words, hexes, Puts}
+use Rattle.digits.specs.Digits.{glyph, digits, countOf, decimal, words, hexes}
+use Rattle.digits.specs.inside.Text.{Puts}
 use Rattle.digits.proofs.Digits.{length-digits}
 
 -- ── stores of one character ──

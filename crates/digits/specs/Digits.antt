@@ -1,14 +1,9 @@
 -- Numbers in text. A base is 10 or 16; digits above 9 are capital letters.
-use mathlib.Core.Path.{_≡_}
 use mathlib.Core.List.{List, [], _∷_, _++_}
 use mathlib.Core.Option.{Option, none, some}
 use Prim.Native.Nat.{ℕ, zero, suc, _+_, _*_, _-_, _/_, _%_, _^_}
 use lib.Dec.{ltb}
-use lib.ListN.{length}
-use Rattle.bits.specs.Part.{splice}
 use Rattle.rules.specs.Tests.{pick}
-use Rattle.digits.specs.declared.Parsed.{Parsed}
-use Rattle.digits.specs.declared.Parsed.the-variants.{Is, Not}
 
 -- ── a number as digits ──
 
@@ -42,11 +37,6 @@ unfoldable pub hexes : List ℕ → List ℕ
 hexes [] = []
 hexes (b ∷ bs) = digits 16 2 b ++ hexes bs
 
--- text put at a place of a buffer, and the place past it
-pub record Puts (before after : List ℕ) (at past : ℕ) (text : List ℕ) : Type 0 where
-  pub out : after ≡ splice before at text
-  pub end : past ≡ at + length text
-
 -- ── digits as a number ──
 
 -- the digit that a character is; 16, which is a digit in no base, of any other character
@@ -61,7 +51,3 @@ numberFrom b a (c ∷ cs) = pick (ltb (digitOf c) b) (numberFrom b (a * b + digi
 -- the number that text stands for in base b, if every character is a digit
 abbrev pub number : ℕ → List ℕ → Option ℕ
 number b cs = numberFrom b 0 cs
-
-abbrev pub asNumber : Option ℕ → Parsed
-asNumber none = Not
-asNumber (some n) = Is n

@@ -4,7 +4,8 @@ ghost use mathlib.Core.List.{_∷_, []};
 ghost use Prim.Native.Nat.{_+_, _*_, _%_, _≤_, _<_};
 ghost use lib.ListN.{length, drop};
 ghost use Rattle.bits.specs.Part.{splice};
-ghost use Rattle.digits.specs.Digits.{glyph, digits, countOf, words, hexes, Puts, digitOf, number as numberOf, asNumber};
+ghost use Rattle.digits.specs.Digits.{glyph, digits, countOf, words, hexes, digitOf, number as numberOf};
+ghost use Rattle.digits.specs.inside.Text.{Puts, asNumber};
 ghost use Rattle.digits.specs.Find.{before};
 
 // What text stands for: a number, or none.

@@ -3,7 +3,7 @@ use mathlib.Core.List.{List, [], _∷_, _++_}
 use Prim.Native.Nat.{ℕ, _+_, _≤_, _<_}
 use native.Mathlib.Omega.{arith}
 use lib.ListN.{length}
-use Rattle.digits.specs.Digits.{Puts}
+use Rattle.digits.specs.inside.Text.{Puts}
 use Rattle.digits.proofs.Puts.{puts-next}
 
 pub char-next : (a b d : List ℕ) (at p q c : ℕ) (y : List ℕ) → Puts a b at p (c ∷ []) → Puts b d p q y → at < length a → Puts a d at q (c ∷ y)

@@ -6,7 +6,7 @@ ghost use mathlib.Core.List.{[], _∷_};
 ghost use Prim.Native.Nat.{_+_, _*_, _≤_, _<_};
 ghost use lib.ListN.{length};
 ghost use Rattle.log_answer.specs.Answer.{numbered as numberedText, letterOf, payloadText, transferText, answerText};
-ghost use Rattle.digits.specs.Digits.{Puts};
+ghost use Rattle.digits.specs.inside.Text.{Puts};
 
 fn put(out: &mut [u8], at: usize, c: u8) -> usize
     requires { ⌜ at < length (now out) ⌝ }

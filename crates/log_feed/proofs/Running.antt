@@ -11,8 +11,9 @@ use Rattle.bits.proofs.Splice.{take-splice}
 use Rattle.digits.specs.Find.{before}
 use Rattle.state.specs.Sound.{soundState}
 use Rattle.log_line.specs.Reading.{said}
-use Rattle.log_replay.specs.Replay as one
-use Rattle.log_replay.specs.Replay.{counted, reply, result, replayed}
+use Rattle.log_replay.specs.inside.Call as one
+use Rattle.log_replay.specs.Replay.{counted, reply}
+use Rattle.log_replay.specs.inside.Call.{result, replayed}
 use Rattle.log_replay.specs.declared.Counts.{Counts}
 use Rattle.log_replay.specs.declared.Said.{Said}
 use Rattle.log_feed.specs.Log.{cut, Replay, behind, replay}

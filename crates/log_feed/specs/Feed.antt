@@ -5,7 +5,6 @@ use Prim.Native.Nat.{ℕ}
 use lib.ListN.{take}
 use Rattle.log_replay.specs.declared.Counts.{Counts}
 use Rattle.log_feed.specs.Log.{heading, cut, lastLine, replay, closed, begun, zero, logOf}
-use Rattle.log_feed.specs.declared.Fed as fed
 
 -- the text for the lines that are whole, the receiver's state and the counts after them, and what is kept of the unfinished line: 48 bytes are
 -- enough, since no line of that many is well formed
@@ -28,10 +27,6 @@ feed m c p =
 -- the unfinished line, and the count
 abbrev pub finish : List ℕ → Counts → List ℕ → List ℕ
 finish m c kept = closed (replay m c (lastLine kept))
-
--- what the call leaves in the caller's buffers
-abbrev pub seen : fed.Fed → List ℕ → List ℕ → List ℕ → Feed
-seen r m block out = record { text = take (r .len) out; state = m; counts = r .counts; kept = take (r .kept) block }
 
 -- ── all blocks ──
 

@@ -8,7 +8,8 @@ ghost use Rattle.bits.specs.Part.{span};
 ghost use Rattle.state.specs.Layout.{size};
 ghost use Rattle.state.specs.Sound.{soundState};
 ghost use Rattle.log_feed.specs.Log.{heading, begun};
-ghost use Rattle.log_feed.specs.Feed.{feed as feedOf, finish as finishOf, seen, BlockLaw};
+ghost use Rattle.log_feed.specs.Feed.{feed as feedOf, finish as finishOf, BlockLaw};
+ghost use Rattle.log_feed.specs.inside.Seen.{seen};
 ghost use Rattle.log_feed.specs.inside.Lines.{Lined};
 
 const HEADING: [u8; 43] = *b"time kind type from to prio id len payload\n";

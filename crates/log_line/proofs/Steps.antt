@@ -13,7 +13,8 @@ use lib.Seq.{drop-drop, getD-drop, append-snoc, take-suc-set, length-take-le}
 use Rattle.bits.specs.Part.{span}
 use Rattle.bits.proofs.Splice.{length-span}
 use Rattle.rules.specs.Tests.{pick}
-use Rattle.digits.specs.Digits.{countOf, number, asNumber}
+use Rattle.digits.specs.Digits.{countOf, number}
+use Rattle.digits.specs.inside.Text.{asNumber}
 use Rattle.digits.specs.declared.Parsed.{Parsed}
 use Rattle.digits.specs.declared.Parsed.the-variants.{Is, Not}
 use Rattle.digits.proofs.Digits.{number-lt}

@@ -8,7 +8,8 @@ ghost use lib.ListN.{length, drop, replicate};
 ghost use Rattle.bits.specs.Part.{span};
 ghost use Rattle.log_line.specs.Reading.{pairOf, pairs as pairsOf, shaped, fieldsOf, lineWith, lineIn};
 ghost use Rattle.log_line.specs.inside.Bytes.{orBad, bytesIn};
-ghost use Rattle.digits.specs.Digits.{number as numberOf, asNumber};
+ghost use Rattle.digits.specs.Digits.{number as numberOf};
+ghost use Rattle.digits.specs.inside.Text.{asNumber};
 
 // A line that was read: whether it is well formed, how many characters its time takes, and the frame.
 pub struct Line {

@@ -21,10 +21,11 @@ use Rattle.rules.specs.Reception.{step}
 use Rattle.state.specs.Layout.{setupOf, placesOf}
 use Rattle.state.specs.Sound.{soundState}
 use Rattle.guarantees.specs.Received.{Typed}
-use Rattle.log_replay.specs.Replay.{counted, isHanded, answered, reply, result, replayed}
+use Rattle.log_replay.specs.Replay.{counted, isHanded, answered, reply}
+use Rattle.log_replay.specs.inside.Call.{result, replayed}
 use Rattle.log_replay.specs.declared.Counts.{Counts}
 use Rattle.answers.specs.declared.Answer.{Answer}
-use Rattle.digits.specs.Digits.{Puts}
+use Rattle.digits.specs.inside.Text.{Puts}
 use Rattle.digits.specs.Find.{before}
 
 -- the frame that a line says

@@ -4,8 +4,7 @@ use mathlib.Core.List.{List, [], _∷_, _++_}
 use mathlib.Core.Option.{Option, none, some}
 use Prim.Native.Nat.{ℕ, _+_, _-_, _^_}
 use lib.Dec.{ltb}
-use lib.ListN.{length, replicate}
-use Rattle.bits.specs.Part.{splice}
+use lib.ListN.{replicate}
 use Rattle.log_line.specs.Line.{timeText}
 use Rattle.log_line.specs.Reading.{said}
 use Rattle.rules.specs.Frame.{Frame}
@@ -13,7 +12,6 @@ use Rattle.rules.specs.Tests.{pick}
 use Rattle.receiver.specs.Receive as receive
 use Rattle.receiver.specs.Receive.{received}
 use Rattle.log_replay.specs.declared.Counts.{Counts}
-use Rattle.log_replay.specs.declared.Said.{Said}
 use Rattle.log_answer.specs.Answer.{numbered, answerText}
 use Rattle.answers.specs.declared.Answer.{Answer}
 use Rattle.answers.specs.declared.Answer.the-variants.{Taken, Handed, Refused, Full, Passed, TooLong, BadChecksum, Faulty}
@@ -58,24 +56,3 @@ answered time r = record { text = timeText time ++ answerText (r .answer) (r .ou
 unfoldable pub reply : List ℕ → Option Frame → Reply
 reply m none = record { text = 63 ∷ numbered 45 18; state = m; handed = false }
 reply m (some f) = answered (f .time) (received m f (replicate 512 0))
-
--- ── the call: the text goes into a buffer from `at` on ──
-
--- room for the longest text of a line
-abbrev pub room : ℕ
-room = 1200
-
-pub record Result : Type 0 where
-  pub said : Said
-  pub state : List ℕ
-  pub out : List ℕ
-
-abbrev pub result : Said → List ℕ → List ℕ → Result
-result s m out = record { said = s; state = m; out = out }
-
--- the place past the text and the counts, the receiver's state, and the buffer
-abbrev pub given : Counts → List ℕ → ℕ → Reply → Result
-given c out at r = result (record { past = at + length (r .text); counts = counted c (r .handed) }) (r .state) (splice out at (r .text))
-
-abbrev pub replayed : List ℕ → List ℕ → Counts → List ℕ → ℕ → Result
-replayed m l c out at = given c out at (reply m (said l))

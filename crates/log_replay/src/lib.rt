@@ -8,8 +8,9 @@ ghost use mathlib.Core.Option.{none};
 ghost use Prim.Native.Nat.{_+_, _*_, _≤_, _<_};
 ghost use lib.ListN.{length};
 ghost use Rattle.log_line.specs.Reading.{said, lineIn};
-ghost use Rattle.log_replay.specs.Replay.{up as upOf, counted as countedOf, isHanded, endText, reply, room, result, given, replayed};
-ghost use Rattle.digits.specs.Digits.{Puts};
+ghost use Rattle.log_replay.specs.Replay.{up as upOf, counted as countedOf, isHanded, endText, reply};
+ghost use Rattle.log_replay.specs.inside.Call.{room, result, given, replayed};
+ghost use Rattle.digits.specs.inside.Text.{Puts};
 ghost use Rattle.state.specs.Sound.{soundState};
 
 // Lines read and transfers handed out.

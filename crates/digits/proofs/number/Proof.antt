@@ -1,6 +1,7 @@
 -- `number` meets its contract.
 use Rattle.digits.proofs.Digits.{taken, stopped, grows}
-use Rattle.digits.specs.Digits.{digitOf, numberFrom, asNumber}
+use Rattle.digits.specs.Digits.{digitOf, numberFrom}
+use Rattle.digits.specs.inside.Text.{asNumber}
 use borrow.Author.Needs.{needs}
 use lib.Seq.{drop-cons, drop-length}
 use lib.ListN.{length, getD, drop}

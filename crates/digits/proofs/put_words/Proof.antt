@@ -1,6 +1,7 @@
 -- `put_words` meets its contract.
 use Rattle.digits.proofs.Puts.{splice-nil, puts-next, words-snoc}
-use Rattle.digits.specs.Digits.{words, Puts}
+use Rattle.digits.specs.Digits.{words}
+use Rattle.digits.specs.inside.Text.{Puts}
 use lib.Seq.{take-suc, take-all}
 use lib.ListN.{length, take, getD}
 use native.Mathlib.Omega.{arith}

@@ -1,6 +1,7 @@
 -- `word` meets its contract.
 use Rattle.digits.proofs.Puts.{set-splice, length-word}
-use Rattle.digits.specs.Digits.{digits, countOf, decimal, words, Puts}
+use Rattle.digits.specs.Digits.{digits, countOf, decimal, words}
+use Rattle.digits.specs.inside.Text.{Puts}
 use Rattle.bits.proofs.Splice.{splice-next}
 use Rattle.bits.specs.Part.{splice}
 use lib.ListN.{length, set, length-set}

@@ -1,6 +1,6 @@
 -- `put_answer` meets its contract.
 use Rattle.log_answer.specs.Answer.{numbered, transferText, answerText}
-use Rattle.digits.specs.Digits.{Puts}
+use Rattle.digits.specs.inside.Text.{Puts}
 use Rattle.answers.specs.declared.Transfer.{Transfer}
 use Rattle.answers.specs.declared.Answer.the-variants.{Handed}
 use Rattle.answers.specs.declared.Answer.{Answer}

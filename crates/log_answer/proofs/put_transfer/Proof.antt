@@ -1,7 +1,8 @@
 -- `put_transfer` meets its contract.
 use Rattle.log_answer.proofs.Texts.{char-next, text-next}
 use Rattle.log_answer.specs.Answer.{letterOf, payloadText, transferText}
-use Rattle.digits.specs.Digits.{words, Puts}
+use Rattle.digits.specs.Digits.{words}
+use Rattle.digits.specs.inside.Text.{Puts}
 use Rattle.answers.specs.declared.Transfer.{Transfer}
 use lib.ListN.{length}
 use native.Mathlib.Omega.{arith}

@@ -11,7 +11,8 @@ use lib.Seq.{take-add, drop-at, length-take-le}
 use Rattle.bits.specs.Part.{span}
 use Rattle.log_replay.specs.declared.Counts.{Counts}
 use Rattle.log_feed.specs.Log.{Replay, cut}
-use Rattle.log_feed.specs.Feed.{Feed, feed, seen}
+use Rattle.log_feed.specs.Feed.{Feed, feed}
+use Rattle.log_feed.specs.inside.Seen.{seen}
 use Rattle.log_feed.specs.inside.Lines.{Lined}
 use Rattle.log_feed.specs.declared.Fed.{Fed}
 use Rattle.log_feed.specs.declared.Ran.{Ran}

@@ -6,11 +6,12 @@ use Prim.Native.Nat.{ℕ, _+_, _*_, _≤_}
 use native.Mathlib.Omega.{arith}
 use lib.ListN.{length, take}
 use Rattle.bits.proofs.Splice.{take-splice}
-use Rattle.digits.specs.Digits.{Puts}
+use Rattle.digits.specs.inside.Text.{Puts}
 use Rattle.digits.proofs.Puts.{puts-next}
 use Rattle.log_line.specs.Reading.{said}
-use Rattle.log_replay.specs.Replay as one
-use Rattle.log_replay.specs.Replay.{counted, endText, reply, result, replayed}
+use Rattle.log_replay.specs.inside.Call as one
+use Rattle.log_replay.specs.Replay.{counted, endText, reply}
+use Rattle.log_replay.specs.inside.Call.{result, replayed}
 use Rattle.log_replay.specs.declared.Counts.{Counts}
 use Rattle.log_replay.specs.declared.Said.{Said}
 use Rattle.log_feed.specs.Log.{replay}

@@ -5,7 +5,8 @@ use mathlib.Core.List.{List, [], _∷_}
 use Prim.Native.Nat.{ℕ, _+_, _*_, _≤_}
 use native.Mathlib.Omega.{arith}
 use lib.ListN.{length, set, length-set}
-use Rattle.digits.specs.Digits.{words, Puts}
+use Rattle.digits.specs.Digits.{words}
+use Rattle.digits.specs.inside.Text.{Puts}
 use Rattle.digits.proofs.Puts.{set-splice}
 use Rattle.log_answer.proofs.Texts.{char-next, text-next}
 use Rattle.log_replay.specs.Replay.{endText}

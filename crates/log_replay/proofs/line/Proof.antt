@@ -10,7 +10,8 @@ use Rattle.digits.specs.Find.{before}
 use Rattle.log_line.specs.Reading.{said, lineWith, lineIn}
 use Rattle.log_line.specs.declared.read.Line as line
 use Rattle.rules.specs.Frame.{Frame}
-use Rattle.log_replay.specs.Replay.{reply, result, given, replayed}
+use Rattle.log_replay.specs.Replay.{reply}
+use Rattle.log_replay.specs.inside.Call.{result, given, replayed}
 use Rattle.log_replay.specs.declared.Counts.{Counts}
 use Rattle.log_replay.specs.declared.Said.{Said}
 use Rattle.log_replay.proofs.line.Statement.{statement}

@@ -7,11 +7,12 @@ use mathlib.Core.Option.{none}
 use Prim.Native.Nat.{ℕ, _+_, _≤_}
 use native.Mathlib.Omega.{arith}
 use lib.ListN.{length, set, length-set}
-use Rattle.digits.specs.Digits.{Puts}
+use Rattle.digits.specs.inside.Text.{Puts}
 use Rattle.digits.proofs.Puts.{set-splice}
 use Rattle.log_answer.specs.Answer.{numbered}
 use Rattle.log_answer.proofs.Texts.{char-next}
-use Rattle.log_replay.specs.Replay.{counted, reply, given}
+use Rattle.log_replay.specs.Replay.{counted, reply}
+use Rattle.log_replay.specs.inside.Call.{given}
 use Rattle.log_replay.specs.declared.Counts.{Counts}
 use Rattle.log_replay.specs.declared.Said.{Said}
 use borrow.Author.Needs.{needs}

@@ -1,5 +1,6 @@
 -- `read::number` meets its contract.
-use Rattle.digits.specs.Digits.{number, asNumber}
+use Rattle.digits.specs.Digits.{number}
+use Rattle.digits.specs.inside.Text.{asNumber}
 use Rattle.bits.specs.Part.{span}
 use native.Mathlib.Nat.{add-sub-cancel-left}
 use Prim.Native.Nat.{ℕ}
