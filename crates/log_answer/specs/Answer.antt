@@ -4,9 +4,8 @@ use Prim.Native.Nat.{ℕ}
 use lib.Dec.{eqb}
 use lib.ListN.{take}
 use Rattle.rules.specs.Tests.{pick}
-use Rattle.answers.specs.Reception.{numberOf}
+use Rattle.answers.specs.Reception.{numberOf, transferIn}
 use Rattle.answers.specs.declared.Answer.{Answer}
-use Rattle.answers.specs.declared.Answer.the-variants.{Taken, Handed, Refused, Full, Passed, TooLong, BadChecksum, Faulty}
 use Rattle.answers.specs.declared.Transfer.{Transfer}
 use Rattle.digits.specs.Digits.{words, hexes}
 
@@ -31,11 +30,5 @@ transferText t p =
 
 -- of the receiver's output buffer, where the payload stands in front
 unfoldable pub answerText : Answer → List ℕ → List ℕ
-answerText Taken out = numbered 43 (numberOf Taken)
-answerText (Handed t) out = transferText t (take (t .len) out)
-answerText (Refused n) out = numbered 45 (numberOf (Refused n))
-answerText Full out = numbered 45 (numberOf Full)
-answerText Passed out = numbered 45 (numberOf Passed)
-answerText TooLong out = numbered 45 (numberOf TooLong)
-answerText BadChecksum out = numbered 45 (numberOf BadChecksum)
-answerText Faulty out = numbered 45 (numberOf Faulty)
+answerText a out =
+    pick (eqb (numberOf a) 1) (transferText (transferIn a) (take (transferIn a .len) out)) (numbered (pick (eqb (numberOf a) 0) 43 45) (numberOf a))

@@ -73,20 +73,17 @@ pub fn put_answer(out: &mut [u8], at: usize, a: Answer, payload: &[u8]) -> usize
     requires { ⌜ at + 131 + length (now payload) * 2 ≤ length (now out) ⌝ }
     ensures { λ r. ⌜ (Puts (now (out .entry)) (now (out .exit)) at r (answerText a (now (payload .entry)))) × (r ≤ at + 131 + length (now (payload .entry)) * 2) ⌝ }
 {
-    match a {
-        Answer::Taken => numbered(out, at, b'+', 0),
-        Answer::Handed(t) => {
-            let n = t.len;
-            if n < payload.len() {
-                return put_transfer(out, at, t, &payload[0..n]);
-            }
-            put_transfer(out, at, t, payload)
+    let n = a.number();
+    if n == 1 {
+        let t = a.transfer();
+        let len = t.len;
+        if len < payload.len() {
+            return put_transfer(out, at, t, &payload[0..len]);
         }
-        Answer::Refused(n) => numbered(out, at, b'-', n as u64),
-        Answer::Full => numbered(out, at, b'-', 9),
-        Answer::Passed => numbered(out, at, b'-', 10),
-        Answer::TooLong => numbered(out, at, b'-', 11),
-        Answer::BadChecksum => numbered(out, at, b'-', 12),
-        Answer::Faulty => numbered(out, at, b'-', 20),
+        return put_transfer(out, at, t, payload);
     }
+    if n == 0 {
+        return numbered(out, at, b'+', n);
+    }
+    numbered(out, at, b'-', n)
 }

@@ -3,7 +3,7 @@ use mathlib.Core.Bool.{Bool, true, false}
 use mathlib.Core.List.{List, [], _∷_, _++_}
 use mathlib.Core.Option.{Option, none, some}
 use Prim.Native.Nat.{ℕ, _+_, _-_, _^_}
-use lib.Dec.{ltb}
+use lib.Dec.{ltb, eqb}
 use lib.ListN.{replicate}
 use Rattle.log_line.specs.Line.{timeText}
 use Rattle.log_line.specs.Reading.{said}
@@ -13,8 +13,8 @@ use Rattle.receiver.specs.Receive as receive
 use Rattle.receiver.specs.Receive.{received}
 use Rattle.log_replay.specs.declared.Counts.{Counts}
 use Rattle.log_answer.specs.Answer.{numbered, answerText}
+use Rattle.answers.specs.Reception.{numberOf}
 use Rattle.answers.specs.declared.Answer.{Answer}
-use Rattle.answers.specs.declared.Answer.the-variants.{Taken, Handed, Refused, Full, Passed, TooLong, BadChecksum, Faulty}
 use Rattle.digits.specs.Digits.{words}
 
 -- ── counting ──
@@ -28,14 +28,7 @@ unfoldable pub counted : Counts → Bool → Counts
 counted c handed = record { lines = up (c .lines); transfers = pick handed (up (c .transfers)) (c .transfers) }
 
 abbrev pub isHanded : Answer → Bool
-isHanded Taken = false
-isHanded (Handed t) = true
-isHanded (Refused n) = false
-isHanded Full = false
-isHanded Passed = false
-isHanded TooLong = false
-isHanded BadChecksum = false
-isHanded Faulty = false
+isHanded a = eqb (numberOf a) 1
 
 -- the last line: "end", lines read, transfers handed out
 unfoldable pub endText : Counts → List ℕ
