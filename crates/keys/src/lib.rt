@@ -1,11 +1,11 @@
-// Tables of keys of 32 bits, 0 for an empty place: loaded once from lent bytes, are they distinct, and the lowest place of one.
+// Tables of keys of 32 bits, 0 for an empty place: loaded once from lent bytes, marked and counted on a walk that finds two alike, and the lowest place of one.
 ghost use mathlib.Core.Bool.{_||_};
 ghost use mathlib.Core.Path.{_≡_};
 ghost use Prim.Native.Nat.{_+_, _*_, _≤_, _<_};
 ghost use lib.Dec.{eqb};
 ghost use lib.ListN.{length, getD, set};
 ghost use Rattle.bits.specs.Tabulate.{tabulate};
-ghost use Rattle.keys.specs.inside.Keys.{wordAt, distinct, lowest, marksMax, markAt};
+ghost use Rattle.keys.specs.inside.Keys.{wordAt, lowest, marksMax, markAt};
 ghost use Rattle.keys.specs.inside.Keys as inside;
 
 // Internal. As many keys as the table has, from `at` on, four bytes each.
@@ -68,27 +68,6 @@ pub fn is_alone(table: &[u32], k: u32, first: bool) -> bool
         return true;
     }
     count(table, k) == 1
-}
-
-// Internal. No key but 0 is there twice. The walk goes as far as the last key, and counts only keys whose mark is set.
-pub fn are_distinct(table: &[u32]) -> bool
-    requires { ⌜ length (now table) < 4294967296 ⌝ }
-    ensures { λ r. ⌜ r ≡ distinct (now (table .entry)) ⌝ }
-{
-    let mut marks = [0u8; MARKS];
-    let mut left = table.len() as u32 - count(table, 0);
-    let mut i = 0;
-    while 0 < left {
-        let k = table[i];
-        let first = mark(&mut marks, k);
-        if is_alone(table, k, first) {
-            left -= (k != 0) as u32;
-            i += 1;
-        } else {
-            return false;
-        }
-    }
-    true
 }
 
 // Internal. The lowest of the n places from `at` on that has the key k, or n.

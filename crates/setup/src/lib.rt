@@ -9,11 +9,11 @@ use state::layout::SIZE;
 use state::layout::SUBSCRIPTION_COUNT_AT;
 ghost use mathlib.Core.Path.{_≡_};
 ghost use mathlib.Core.List.{_++_};
-ghost use Prim.Native.Nat.{_+_, _*_, _/_, _%_, _≤_, _<_};
+ghost use Prim.Native.Nat.{_+_, _*_, _-_, _/_, _%_, _≤_, _<_};
 ghost use lib.ListN.{length, drop, replicate};
 ghost use Rattle.bits.specs.Tabulate.{tabulate};
 ghost use Rattle.rules.specs.Limits.{subscriptionsMax, subscriptionRecord};
-ghost use Rattle.rules.specs.Setup.{typeFits, allFit};
+ghost use Rattle.rules.specs.Setup.{typeFits, unlike, allFit};
 ghost use Rattle.setup.specs.Setup.{recordAt, given, stateOf, afterSetup, result};
 ghost use Rattle.setup.specs.inside.Record.{Keyed, written};
 ghost use Rattle.state.specs.Layout.{size};
@@ -48,24 +48,40 @@ fn type_fits(k: u64) -> bool
     id < 256
 }
 
-// Each of the n records has a kind and a type in range, and no two have the same. One is added to each key: 0 would be an empty
-// place, and key 0 is a subscription.
+// No record after j, of n, has its kind and type. Each is read anew: a table of the keys would take 256 bytes of stack.
+fn key_is_new(records: &[u8], j: usize, n: usize) -> bool
+    requires { ⌜ (j < n) × (n * subscriptionRecord ≤ length (now records)) ⌝ }
+    ensures { λ r. ⌜ r ≡ unlike (recordAt (now (records .entry)) j) (tabulate (recordAt (now (records .entry))) (j + 1) (n - (j + 1))) ⌝ }
+{
+    let k = key(records, j);
+    let mut i = j + 1;
+    while i < n {
+        if key(records, i) == k {
+            return false;
+        }
+        i += 1;
+    }
+    true
+}
+
+// Each of the n records has a kind and a type in range, and no two have the same.
 fn all_fit(records: &[u8], n: usize) -> bool
-    requires { ⌜ (n * subscriptionRecord ≤ length (now records)) × (n ≤ subscriptionsMax) ⌝ }
+    requires { ⌜ n * subscriptionRecord ≤ length (now records) ⌝ }
     ensures { λ r. ⌜ r ≡ allFit (tabulate (recordAt (now (records .entry))) 0 n) ⌝ }
 {
-    let mut table = [0u32; SUBSCRIPTIONS];
     let mut j = 0;
     while j < n {
-        let k = key(records, j);
-        if type_fits(k) {
-            table[j] = (state_key(k) + 1) as u32;
-            j += 1;
+        if type_fits(key(records, j)) {
+            if key_is_new(records, j, n) {
+                j += 1;
+            } else {
+                return false;
+            }
         } else {
             return false;
         }
     }
-    keys::are_distinct(&table[..n])
+    true
 }
 
 // Zeros in the first n bytes.
