@@ -1,5 +1,6 @@
 // The log program (RULES 12): standard input to standard output, a block at a time. Reading and writing are here, all else is in `log_feed`.
 use log_replay::Counts;
+use state::layout::SIZE;
 ghost use mathlib.Core.Path.{_≡_};
 ghost use mathlib.Core.Bool.{true};
 ghost use Prim.Native.Nat.{_≤_};
@@ -76,7 +77,7 @@ fn whole(state: &mut [u8], block: &mut [u8], out: &mut [u8])
 }
 
 fn main() {
-    let mut state = [0u8; 17736];
+    let mut state = [0u8; SIZE];
     let mut block = [0u8; BLOCK];
     let mut out = [0u8; OUT];
     whole(&mut state, &mut block, &mut out);

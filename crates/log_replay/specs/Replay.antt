@@ -8,6 +8,7 @@ use lib.ListN.{replicate}
 use Rattle.log_line.specs.Line.{timeText}
 use Rattle.log_line.specs.Reading.{said}
 use Rattle.rules.specs.Frame.{Frame}
+use Rattle.rules.specs.Limits.{payloadMax}
 use Rattle.rules.specs.Tests.{pick}
 use Rattle.receiver.specs.Receive as receive
 use Rattle.receiver.specs.Receive.{received}
@@ -48,4 +49,4 @@ answered time r = record { text = timeText time ++ answerText (r .answer) (r .ou
 -- RULES 12.5: a line that is not well formed leaves the receiver as it was; 12.1: the receiver is lent 512 bytes
 unfoldable pub reply : List ℕ → Option Frame → Reply
 reply m none = record { text = 63 ∷ numbered 45 18; state = m; handed = false }
-reply m (some f) = answered (f .time) (received m f (replicate 512 0))
+reply m (some f) = answered (f .time) (received m f (replicate payloadMax 0))

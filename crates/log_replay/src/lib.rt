@@ -1,6 +1,7 @@
 // The log program's work on one line (RULES 12.8): reading it, receiving its frame, writing the answer, counting.
 use answers::Answer;
 use log_line::read::Line;
+use rules::limits::PAYLOAD;
 ghost use mathlib.Core.Path.{_≡_};
 ghost use mathlib.Core.Bool.{true};
 ghost use mathlib.Core.List.{[]};
@@ -79,7 +80,7 @@ fn receive(state: &mut [u8], l: Line, line: &[u8], c: Counts, out: &mut [u8], at
     let bytes = l.bytes;
     let n = l.len;
     let head = l.head;
-    let mut payload = [0u8; 512];
+    let mut payload = [0u8; PAYLOAD];
     let a = receiver::receive_sound(state, l.id, &bytes[0..n], l.time, &mut payload);
     bits::part::copy_at(out, at, &line[0..head]);
     let past = log_answer::put_answer(out, at + head, a, &payload);

@@ -1,5 +1,7 @@
 // A frame's session (RULES 4.3): the place that it has, or gets.
 use answers::Answer;
+use rules::limits::GATHERED;
+use rules::limits::SESSIONS;
 use session::Incoming;
 use session::Progress;
 use session::Session;
@@ -8,6 +10,7 @@ ghost use mathlib.Core.Path.{_≡_};
 ghost use mathlib.Core.Bool.{true};
 ghost use Prim.Native.Nat.{_≤_, _<_};
 ghost use lib.ListN.{length};
+ghost use Rattle.rules.specs.Limits.{sessionsMax, gatheredMax};
 ghost use Rattle.rules.specs.Reception.{store, stepNew, stepSeek};
 ghost use Rattle.rules.specs.Session.{restarted, takes, react};
 ghost use Rattle.rules.specs.Table.{held, seek, holds, placeFor};
@@ -28,8 +31,8 @@ enum Way {
 }
 
 fn session_for(state: &[u8], i: usize, way: Way, f: Incoming) -> Session
-    requires { ⌜ (i < 32) × ((size ≤ length (now state)) × ((way ≡ New → ⊥) → countAt (now state) i ≤ 514)) ⌝ }
-    ensures { λ r. ⌜ (sessionOf r ≡ entered way (now (state .entry)) i f) × (r .len ≤ 514) ⌝ }
+    requires { ⌜ (i < sessionsMax) × ((size ≤ length (now state)) × ((way ≡ New → ⊥) → countAt (now state) i ≤ gatheredMax)) ⌝ }
+    ensures { λ r. ⌜ (sessionOf r ≡ entered way (now (state .entry)) i f) × (r .len ≤ gatheredMax) ⌝ }
 {
     match way {
         Way::New => Session::fresh(f.head.transfer, f.time),
@@ -49,7 +52,7 @@ fn enter(
     out: &mut [u8],
 ) -> Answer
     requires { ⌜ Called (now state) f (now p) (now out) ⌝ }
-    requires { ⌜ (i < 32) × ((k ≡ keyOf (streamOf f)) × Enters way (now state) i f (now p)) ⌝ }
+    requires { ⌜ (i < sessionsMax) × ((k ≡ keyOf (streamOf f)) × Enters way (now state) i f (now p)) ⌝ }
     ensures { λ r. ⌜ result r (now (state .exit)) (now (out .exit)) ≡ lent (now (state .entry)) (now (out .entry)) (store (placesOf (now (state .entry))) i (streamOf f) (takes (entered way (now (state .entry)) i f) (parsedOf f (now (p .entry))))) ⌝ }
 {
     let g = session_for(state, i, way, f).take(f.head.start, f.time, p);
@@ -77,7 +80,7 @@ fn enter(
 
 // Nothing is in hand any more: the session of place i waits for this transfer ID.
 fn reset(state: &mut [u8], i: usize, k: u32, expected: u8)
-    requires { ⌜ ((i < 32) × (size ≤ length (now state))) × ((countAt (now state) i ≤ 514) × (expected < 32)) ⌝ }
+    requires { ⌜ ((i < sessionsMax) × (size ≤ length (now state))) × ((countAt (now state) i ≤ gatheredMax) × (expected < 32)) ⌝ }
     ensures { λ _. ⌜ now (state .exit) ≡ withPlace (now (state .entry)) i (held (streamOfKey k) (restarted (sessionAt (now (state .entry)) i) expected)) ⌝ }
 {
     let q = sessions::place::load(state, i).restart(expected);
@@ -93,7 +96,7 @@ fn reset(state: &mut [u8], i: usize, k: u32, expected: u8)
 // The stream's session is in place i.
 fn known(state: &mut [u8], i: usize, k: u32, f: Incoming, p: &[u8], out: &mut [u8]) -> Answer
     requires { ⌜ Called (now state) f (now p) (now out) ⌝ }
-    requires { ⌜ (i < 32) × ((k ≡ keyOf (streamOf f)) × (keyAt (now state) i ≡ k)) ⌝ }
+    requires { ⌜ (i < sessionsMax) × ((k ≡ keyOf (streamOf f)) × (keyAt (now state) i ≡ k)) ⌝ }
     ensures { λ r. ⌜ result r (now (state .exit)) (now (out .exit)) ≡ lent (now (state .entry)) (now (out .entry)) (store (placesOf (now (state .entry))) i (streamOf f) (react (sessionAt (now (state .entry)) i) (parsedOf f (now (p .entry))))) ⌝ }
 {
     let c = sessions::place::progress(state, i);
@@ -105,7 +108,7 @@ fn known(state: &mut [u8], i: usize, k: u32, f: Incoming, p: &[u8], out: &mut [u
         return Answer::Passed;
     }
     if session::awaited(c, f) {
-        if 514 < c.len + p.len() {
+        if GATHERED < c.len + p.len() {
             reset(state, i, k, (c.expected + 1) % 32);
             return Answer::TooLong;
         }
@@ -121,11 +124,11 @@ fn unknown(state: &mut [u8], k: u32, f: Incoming, p: &[u8], out: &mut [u8]) -> A
     ensures { λ r. ⌜ result r (now (state .exit)) (now (out .exit)) ≡ lent (now (state .entry)) (now (out .entry)) (stepNew (placeFor (f .time) (placesOf (now (state .entry)))) (placesOf (now (state .entry))) (parsedOf f (now (p .entry)))) ⌝ }
 {
     let free = sessions::scan::scan(state, Want::Key(0));
-    if free < 32 {
+    if free < SESSIONS {
         return enter(state, free, k, Way::New, f, p, out);
     }
     let old = sessions::scan::scan(state, Want::Old(f.time));
-    if old < 32 {
+    if old < SESSIONS {
         return enter(state, old, k, Way::New, f, p, out);
     }
     Answer::Full
@@ -138,7 +141,7 @@ pub fn arrive(state: &mut [u8], f: Incoming, p: &[u8], out: &mut [u8]) -> Answer
 {
     let k = frame::key::key(f.head);
     let i = sessions::scan::scan(state, Want::Key(k));
-    if i < 32 {
+    if i < SESSIONS {
         return known(state, i, k, f, p, out);
     }
     if f.head.start {

@@ -5,7 +5,7 @@ use mathlib.Core.Option.{Option}
 use Prim.Native.Nat.{ℕ, _+_, _-_}
 use lib.Dec.{ltb, leb, eqb}
 use lib.ListN.{length, replicate}
-use Rattle.rules.specs.Limits.{unusedAge}
+use Rattle.rules.specs.Limits.{unusedAge, entriesMax}
 use Rattle.rules.specs.Sent.{flag}
 use Rattle.rules.specs.Table.{seek, orElse}
 use Rattle.rules.specs.Tests.{pick}
@@ -26,7 +26,7 @@ Map = List Slot
 
 -- after setup (RULES 8.4)
 abbrev pub blank : Map
-blank = replicate 32 free
+blank = replicate entriesMax free
 
 unfoldable pub sameTopic : Topic → Topic → Bool
 sameTopic a b = eqb (a .transferType) (b .transferType) && (eqb (a .type) (b .type) && eqb (a .destination) (b .destination))
@@ -76,4 +76,4 @@ slotsFit m [] = true
 slotsFit m (s ∷ more) = slotFits m s && slotsFit m more
 
 unfoldable pub sound : Map → Bool
-sound m = eqb (length m) 32 && slotsFit m m
+sound m = eqb (length m) entriesMax && slotsFit m m

@@ -6,6 +6,7 @@ use Prim.Native.Nat.{ℕ}
 use lib.Dec.{ltb, leb, eqb}
 use lib.ListN.{length}
 use Rattle.rules.specs.Frame.{Stream, streamOf}
+use Rattle.rules.specs.Limits.{subscriptionsMax}
 use Rattle.rules.specs.Tests.{pick}
 
 -- RULES 3.2: the kind is 0 for a message, 1 for a service; request and response share one subscription
@@ -38,7 +39,7 @@ allFit [] = true
 allFit (a ∷ more) = typeFits (a .kind) (a .type) && (unlike a more && allFit more)
 
 unfoldable pub acceptable : Setup → Bool
-acceptable u = ltb (u .own) 128 && (leb (length (u .subscriptions)) 64 && allFit (u .subscriptions))
+acceptable u = ltb (u .own) 128 && (leb (length (u .subscriptions)) subscriptionsMax && allFit (u .subscriptions))
 
 -- ── the signature that a frame's transfer is checked under (RULES 3.6) ──
 

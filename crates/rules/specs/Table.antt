@@ -5,6 +5,7 @@ use mathlib.Core.Option.{Option, none, some}
 use Prim.Native.Nat.{ℕ, suc}
 use lib.ListN.{replicate}
 use Rattle.rules.specs.Frame.{Stream, sameStream}
+use Rattle.rules.specs.Limits.{sessionsMax}
 use Rattle.rules.specs.Session.{Session, old}
 use Rattle.rules.specs.Tests.{pick}
 
@@ -17,7 +18,7 @@ Places = List Place
 
 -- after setup (RULES 3.5)
 abbrev pub begun : Places
-begun = replicate 32 empty
+begun = replicate sessionsMax empty
 
 abbrev pub plus1 : Option ℕ → Option ℕ
 plus1 none = none

@@ -10,6 +10,7 @@ use Rattle.answers.specs.declared.Answer.{Answer}
 use Rattle.answers.specs.declared.Sent.{Sent}
 use Rattle.answers.specs.declared.Transfer.{Transfer}
 use Rattle.answers.specs.Sending as sending
+use Rattle.rules.specs.Limits.{payloadMax}
 
 unfoldable pub transferWord : Transfer → ℕ
 transferWord t =
@@ -22,7 +23,7 @@ wordOf a = numberOf a + transferWord (transferIn a)
 -- ── every answer fits (RULES 4.10): no field runs into the next ──
 
 pub record TransferFits (t : Transfer) : Type 0 where
-  pub len : t .len ≤ 512
+  pub len : t .len ≤ payloadMax
   pub transferType : t .«transfer_type» < 3
   pub type : t .«type_id» < 65536
   pub source : t .source < 128

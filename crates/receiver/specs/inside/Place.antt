@@ -4,6 +4,7 @@ use mathlib.Core.Bool.{true, false}
 use mathlib.Core.List.{List, []}
 use Prim.Native.Nat.{ℕ, _+_, _≤_, _<_}
 use lib.ListN.{length}
+use Rattle.rules.specs.Limits.{gatheredMax}
 use Rattle.rules.specs.Session.{Session, restarted, fresh}
 use Rattle.session.specs.inside.Session.{parsedOf}
 use Rattle.receiver.specs.declared.place.Way.{Way}
@@ -18,7 +19,7 @@ entered On m i h = sessionAt m i
 
 -- RULES 4.6, 4.8: the frame is the one that this session waits for, and its bytes have room
 pub record Enters (way : Way) (m : List ℕ) (i : ℕ) (h : Incoming) (p : List ℕ) : Type 0 where
-  pub stored : (way ≡ New → ⊥) → countAt m i ≤ 514
+  pub stored : (way ≡ New → ⊥) → countAt m i ≤ gatheredMax
   pub expected : entered way m i h .expected < 32
-  pub few : length (entered way m i h .gathered) + length p ≤ 514
+  pub few : length (entered way m i h .gathered) + length p ≤ gatheredMax
   pub first : h .head .start ≡ true → length (entered way m i h .gathered) ≡ 0
