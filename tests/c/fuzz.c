@@ -51,10 +51,12 @@ static size_t state_length(size_t size)
     return once_in(8) ? below((uint32_t)size) : once_in(8) ? size + below(STATE_EXTRA) : size;
 }
 
+enum { GATHERED_AT = 1288 }; /* where the gathered bytes of a receiver start */
+
 /* Damages the numbers in front of a receiver's gathered bytes, or anything; of other buffers anything. */
 static void damage(struct buffer *b)
 {
-    uint32_t front = once_in(4) ? (uint32_t)b->length : 1288;
+    uint32_t front = once_in(4) ? (uint32_t)b->length : GATHERED_AT;
     for (uint32_t n = 1 + below(4); n > 0 && b->length > 0; n--)
         b->bytes[below(front) % b->length] = (uint8_t)(once_in(2) ? next_random() : below(40));
 }

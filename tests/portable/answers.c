@@ -11,6 +11,7 @@
 #include "tecelume.h"
 
 enum { CALLS = 100000, FOLD = 1000, LANES = 6, NODES = 2, TYPES = 6, NUMBERS = 21 };
+enum { GATHERED_AT = 1288 }; /* where the gathered bytes of a receiver start */
 enum entry { SETUP, RECEIVE, MAP_SETUP, SEND, OTHERS, ENTRIES };
 
 static const char *const names[ENTRIES] = {"setup", "receive", "map_setup", "send", "others"};
@@ -172,7 +173,7 @@ static void receive_any(void)
 
 static void damage(void)
 {
-    uint8_t *byte = once_in(2) ? state + below(once_in(2) ? 1288 : TECELUME_RECEIVER_SIZE) : maps[0] + below(sizeof maps);
+    uint8_t *byte = once_in(2) ? state + below(once_in(2) ? GATHERED_AT : TECELUME_RECEIVER_SIZE) : maps[0] + below(sizeof maps);
     *byte = (uint8_t)below(256);
 }
 

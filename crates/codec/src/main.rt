@@ -1,5 +1,5 @@
 // Messages by hand: one request a line on standard input, decode or encode, and one answer a line on standard output.
-// Lines are gathered from large reads, and answers are gathered for large writes.
+// Lines are gathered from large reads, and the answers to a read's lines are written together.
 mod allocation;
 mod decode;
 mod encode;
@@ -71,24 +71,45 @@ fn chunk(src: &[u8], line: &mut [u8], out: &mut [u8], a: At) -> At
     st
 }
 
+// After a read: whether to go on, and if not, whether reading or writing failed.
 struct Go {
     more: bool,
+    failed: bool,
     at: At,
 }
 
-// One read. A failed one counts as the end of the input.
+fn stop(failed: bool, a: At) -> Go {
+    Go {
+        more: false,
+        failed: failed,
+        at: a,
+    }
+}
+
+// One read, and the answers to its lines: who types a request sees the answer before the next one.
 fn some(line: &mut [u8], out: &mut [u8], a: At) -> Go
     requires { ⌜ 8192 ≤ length (now line) ⌝ }
 {
     let mut buf = io::large_buffer();
     let got = libc::read(0, &mut buf);
-    if got <= 0 {
-        return Go { more: false, at: a };
+    if got < 0 {
+        console::cannot_read();
+        return stop(true, a);
+    }
+    if got == 0 {
+        return stop(false, a);
     }
     let n = io::count(got, &buf);
+    let after = chunk(&buf[..n], line, out, a);
+    let at = after.out;
+    let good = put::flush(out, at);
     Go {
-        more: true,
-        at: chunk(&buf[..n], line, out, a),
+        more: good,
+        failed: !good,
+        at: At {
+            line: after.line,
+            out: 0,
+        },
     }
 }
 
@@ -99,24 +120,28 @@ fn all(line: &mut [u8], out: &mut [u8])
     let mut turns = u64::MAX;
     let mut st = At { line: 0, out: 0 };
     let mut more = true;
+    let mut failed = false;
     while turns > 0 && more {
         let g = some(line, out, st);
         st = g.at;
         more = g.more;
+        failed = g.failed;
         turns -= 1;
     }
-    last(line, out, st);
+    if !failed {
+        last(line, out, st);
+    }
 }
 
+// The line without line feed, if there is one. All others are answered and written.
 fn last(line: &[u8], out: &mut [u8], a: At)
     requires { ⌜ 8192 ≤ length (now line) ⌝ }
 {
     let n = a.line;
-    let at = a.out;
     if n == 0 {
-        return put::flush(out, at);
+        return;
     }
-    let o = end_line(line, n, out, at);
+    let o = end_line(line, n, out, 0);
     put::flush(out, o);
 }
 

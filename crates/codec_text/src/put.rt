@@ -1,10 +1,11 @@
 // Answers' text, gathered in a buffer that is written out when it is full.
 
-// Internal. Writes out what is gathered.
-pub fn flush(out: &[u8], at: usize) {
+// Internal. Writes out what is gathered; false if that fails.
+pub fn flush(out: &[u8], at: usize) -> bool {
     if at <= out.len() {
-        io::write_all(1, &out[0..at]);
+        return console::written(&out[0..at]);
     }
+    true
 }
 
 fn first(out: &mut [u8], b: u8) -> usize {

@@ -25,7 +25,8 @@ use Rattle.state.proofs.Bools.{and-left, and-right}
 use Rattle.state.proofs.Faultless.{long, setup-fine, table-sound}
 use Rattle.state.proofs.Written.{AllStorable, octets-written, length-written, view-written, raw-written, past-written, setup-written}
 use Rattle.bits.specs.Tabulate.{tabulate}
-use Rattle.state.specs.Layout.{size, setupOf, keyAt, countAt, timeAt, gatheredAt, sessionAt, placeAt, placesOf}
+use Rattle.rules.specs.Limits.{gatheredMax}
+use Rattle.state.specs.Layout.{timesAt, bytesAt, size, setupOf, keyAt, countAt, timeAt, gatheredAt, sessionAt, placeAt, placesOf}
 use Rattle.frame.specs.Key.{streamOfKey}
 use Rattle.state.specs.Place.{written}
 use Rattle.state.specs.Sound.{soundState}
@@ -36,10 +37,10 @@ module _ (m : List ℕ) (bytes : Octets m) (long : size ≤ length m) where
   session-writable : (i : ℕ) → i < 32 → Writable (sessionAt m i)
   unfolding sessionAt timeAt gatheredAt
   session-writable i h =
-      let n : length (span m (520 + i * 8) 8) ≡ 8 = length-span m (520 + i * 8) 8 (omega arith) in
+      let n : length (span m (timesAt + i * 8) 8) ≡ 8 = length-span m (timesAt + i * 8) 8 (omega arith) in
       record {
-        since = rw n at (le-lt (span m (520 + i * 8) 8) (octets-span m (520 + i * 8) 8 bytes));
-        bytes = octets-span m (1288 + i * 514) (countAt m i) bytes;
+        since = rw n at (le-lt (span m (timesAt + i * 8) 8) (octets-span m (timesAt + i * 8) 8 bytes));
+        bytes = octets-span m (bytesAt + i * gatheredMax) (countAt m i) bytes;
       }
 
   place-writable : (i : ℕ) → i < 32 → WritableAt (placeAt m i)

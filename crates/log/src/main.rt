@@ -13,39 +13,53 @@ const BLOCK: usize = 8192;
 
 const OUT: usize = 656560;
 
-// After a block: whether to go on, how many bytes of an unfinished line are in front of the buffer, and the counts.
+// After a block: whether to go on, and if not, whether reading or writing failed; how many bytes of an unfinished line are in front of the
+// buffer; the counts.
 struct After {
     more: bool,
+    failed: bool,
     kept: usize,
     counts: Counts,
 }
 
-// One read: its lines, and what they gave is written. A failed one counts as the end of the input.
+fn stop(failed: bool, kept: usize, counts: Counts) -> After
+    ensures { λ r. ⌜ r .kept ≡ kept ⌝ }
+{
+    After {
+        more: false,
+        failed: failed,
+        kept: kept,
+        counts: counts,
+    }
+}
+
+// One read: its lines, and what they gave is written.
 fn turn(state: &mut [u8], block: &mut [u8], kept: usize, out: &mut [u8], counts: Counts) -> After
     requires { ⌜ (soundState (now state) ≡ true) × ((kept ≤ 48) × ((length (now block) ≡ 8192) × (length (now out) ≡ 656560))) ⌝ }
     ensures { λ r. ⌜ (soundState (now (state .exit)) ≡ true) × (r .kept ≤ 48) ⌝ }
 {
     let got = libc::read(0, &mut block[kept..]);
+    if got < 0 {
+        console::cannot_read();
+        return stop(true, kept, counts);
+    }
     let n = kept + io::count(got, &block[kept..]);
     if n == kept {
-        return After {
-            more: false,
-            kept: kept,
-            counts: counts,
-        };
+        return stop(false, kept, counts);
     }
     let f = log_feed::feed(state, block, n, out, counts);
     let len = f.len;
     let after = f.counts;
-    io::write_all(1, &out[0..len]);
+    let good = console::written(&out[0..len]);
     After {
-        more: true,
+        more: good,
+        failed: !good,
         kept: f.kept,
         counts: after,
     }
 }
 
-// All blocks, and the end.
+// All blocks, and the end, which is not told after a failure.
 fn run(state: &mut [u8], block: &mut [u8], out: &mut [u8])
     requires { ⌜ (soundState (now state) ≡ true) × ((length (now block) ≡ 8192) × (length (now out) ≡ 656560)) ⌝ }
 {
@@ -55,16 +69,21 @@ fn run(state: &mut [u8], block: &mut [u8], out: &mut [u8])
     };
     let mut kept = 0;
     let mut more = true;
+    let mut failed = false;
     let mut turns = u64::MAX;
     while turns > 0 && more {
         let t = turn(state, block, kept, out, counts);
         counts = t.counts;
         kept = t.kept;
         more = t.more;
+        failed = t.failed;
         turns -= 1;
     }
+    if failed {
+        return;
+    }
     let n = log_feed::finish(state, &block[0..kept], out, counts);
-    io::write_all(1, &out[0..n]);
+    console::written(&out[0..n]);
 }
 
 // The heading, and all that follows.
@@ -72,8 +91,9 @@ fn whole(state: &mut [u8], block: &mut [u8], out: &mut [u8])
     requires { ⌜ (length (now state) ≡ size) × ((length (now block) ≡ 8192) × (length (now out) ≡ 656560)) ⌝ }
 {
     let n = log_feed::start(state, out);
-    io::write_all(1, &out[0..n]);
-    run(state, block, out);
+    if console::written(&out[0..n]) {
+        run(state, block, out);
+    }
 }
 
 fn main() {

@@ -18,7 +18,8 @@ use Rattle.rules.specs.Tests.{isNone}
 use Rattle.session.specs.declared.Incoming.{Incoming}
 use Rattle.session.specs.declared.Progress.{Progress}
 use Rattle.session.specs.declared.Session as coded
-use Rattle.state.specs.Layout.{keyAt, countAt, gatheredAt, sessionAt}
+use Rattle.rules.specs.Limits.{gatheredMax}
+use Rattle.state.specs.Layout.{bytesAt, keyAt, countAt, gatheredAt, sessionAt}
 use Rattle.frame.specs.Key.{keyOf}
 use Rattle.state.specs.Sound.{soundState}
 use Rattle.state.proofs.Faultless.{long, count-le}
@@ -63,7 +64,7 @@ unfolding sessionAt gatheredAt
 held-few m fine i h z =
     let n = count-le m fine i h z in
     let l = long m fine in
-    let e : length (gatheredAt m i) ≡ countAt m i = length-span m (1288 + i * 514) (countAt m i) (omega arith) in
+    let e : length (gatheredAt m i) ≡ countAt m i = length-span m (bytesAt + i * gatheredMax) (countAt m i) (omega arith) in
     omega arith
 
 -- the code's tests are those on the session of the place

@@ -7,10 +7,10 @@ use Rattle.codec.proofs.all.Statement.{statement}
 use Rattle.codec.proofs.all.Tie as tie
 
 abbrev Inv-loop : tie.InvT-loop
-Inv-loop line₀ out₀ turns₀ st₀ more₀ line out turns st more = (length line ≡ length line₀) × (length out ≡ length out₀)
+Inv-loop line₀ out₀ turns₀ st₀ more₀ failed₀ line out turns st more failed = (length line ≡ length line₀) × (length out ≡ length out₀)
 
 abbrev μ-loop : tie.MeasureT-loop
-μ-loop line₀ out₀ turns₀ st₀ more₀ line out turns st more = turns
+μ-loop line₀ out₀ turns₀ st₀ more₀ failed₀ line out turns st more failed = turns
 
 loop-holds : tie.Need-loop-holds Inv-loop μ-loop
 loop-holds c = search needs
@@ -39,6 +39,15 @@ same-length-2 c = search needs
 returns : tie.Need-returns Inv-loop μ-loop
 returns c = search needs
 
+same-length-3 : tie.Need-same-length-3 Inv-loop μ-loop
+same-length-3 c = search needs
+
+same-length-4 : tie.Need-same-length-4 Inv-loop μ-loop
+same-length-4 c = search needs
+
+returns-2 : tie.Need-returns-2 Inv-loop μ-loop
+returns-2 c = search needs
+
 pub all-spec : {M : Type 1} → statement M
 all-spec =
     tie.close
@@ -53,4 +62,7 @@ all-spec =
     last-requires
     same-length
     same-length-2
-    returns)
+    returns
+    same-length-3
+    same-length-4
+    returns-2)

@@ -2,6 +2,7 @@
 use Prim.Native.Nat.{ℕ}
 use lib.ListN.{length-replicate}
 use borrow.Author.Needs.{needs}
+use Rattle.state.specs.Layout.{size}
 use Rattle.log.proofs.main.Statement.{statement}
 use Rattle.log.proofs.main.Tie as tie
 
@@ -15,7 +16,7 @@ slice-aggregate-whole-3 : tie.Need-slice-aggregate-whole-3
 slice-aggregate-whole-3 c = search needs
 
 whole-requires : tie.Need-whole-requires
-whole-requires c κs = (length-replicate {A = ℕ} 17736 0, (length-replicate {A = ℕ} 8192 0, length-replicate {A = ℕ} 656560 0))
+whole-requires c κs = (length-replicate {A = ℕ} size 0, (length-replicate {A = ℕ} 8192 0, length-replicate {A = ℕ} 656560 0))
 
 returns : tie.Need-returns
 returns c = search needs
