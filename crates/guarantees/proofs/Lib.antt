@@ -1,5 +1,6 @@
 mod Writable
 mod Received
+mod Refusal
 mod Run
 mod Condition3
 mod Example
