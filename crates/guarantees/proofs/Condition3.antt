@@ -26,7 +26,7 @@ unfoldable pub view : (u : Setup) → View u (lentBytes u)
 view u =
     record {
       places = placesOf;
-      numbers = told-number;
+      numbers = λ a h. told-number a;
       past = λ m h. lent (table-sound m (h .sound));
       stays = lent-stays u;
       says = λ m c h t. reading-is m c (h .sound) ∙ ap (λ w. readingOf (step w (placesOf m) (receptionOf c) .answer)) (h .setup);

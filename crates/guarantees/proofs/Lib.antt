@@ -1,6 +1,7 @@
 mod Writable
 mod Received
+mod Refusal
 mod Run
-mod Condition3
+pub mod Condition3
 mod Example
 mod FromSetup

@@ -1,5 +1,6 @@
 pub mod Written
 pub mod Received
+pub mod Refusal
 pub mod Run
 pub mod Condition3
 pub mod FromSetup

@@ -3,6 +3,7 @@ ghost use Rattle.guarantees.specs.Condition3.{lentBytes};
 ghost use Rattle.guarantees.specs.Example.{LentExample};
 ghost use Rattle.guarantees.specs.FromSetup.{FromSetup};
 ghost use Rattle.guarantees.specs.Received.{ViewLaw, SoundLaw};
+ghost use Rattle.guarantees.specs.Refusal.{RefusalLaws};
 ghost use Rattle.guarantees.specs.Run.{RunLaw};
 ghost use Rattle.guarantees.specs.Written.{TableLaw};
 ghost use Rattle.rules.specs.Condition3.{Condition3};
@@ -20,6 +21,11 @@ pub fn reception_by_view()
 // RULES 5.7: a lent state without a fault stays one.
 pub fn state_lasts()
     ensures { λ _. ⌜ SoundLaw ⌝ }
+{}
+
+// RULES 4.9: 2 to 9 and 20 leave state and output; every number but 1 leaves the output.
+pub fn refusal_in_bytes()
+    ensures { λ _. ⌜ RefusalLaws ⌝ }
 {}
 
 // RULES 4.11: a list of receptions is answered as the rules answer it, and leaves a state that holds the rules' table after it.

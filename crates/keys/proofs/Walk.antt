@@ -1,14 +1,17 @@
--- A walk over the keys of a table, up to the last place in use: where it is, one turn, and its ends.
-use mathlib.Core.Path.{_≡_, refl, sym, ap, subst, _∙_}
-use mathlib.Core.Bool.{Bool, true, false, false≢true, not, _||_}
+-- A walk over the keys of a table, up to the last place in use: where it is, one turn, and its ends. It finds two keys alike, and tests each place.
+use mathlib.Core.Path.{_≡_, refl, sym, ap, ap₂, subst, _∙_}
+use mathlib.Core.Bool.{Bool, true, false, false≢true, not, _&&_, _||_, and-false}
 use mathlib.Core.List.{List}
 use Prim.Native.Nat.{ℕ, suc, _+_, _-_, _≤_, _<_}
+use native.Mathlib.Numerals.{add-one}
 use native.Mathlib.Omega.{arith}
+use borrow.Author.Count.{below-more}
 use borrow.Author.Tests.{eqb-true, eqb-false, eq-eqb, ne-eqb, ltb-true, ltb-false}
 use lib.Dec.{eqb, ltb}
 use lib.ListN.{length, drop, getD, set, length-set}
 use mir.Val.{boolByte}
-use Rattle.bits.specs.Tabulate.{tabulate}
+use Rattle.bits.specs.Tabulate.{tabulate, every}
+use Rattle.bits.proofs.Every.{every-true, every-false}
 use Rattle.bits.proofs.Tabulate.{length-tabulate}
 use Rattle.keys.specs.inside.Keys.{count, distinct, marksMax, markAt}
 use Rattle.keys.proofs.Counts.{byte-le, left-step, rest-empty}
@@ -40,7 +43,7 @@ module _ (table marks : List ℕ) (left i : ℕ) (w : Walked table marks left i)
     left-ok = omega (arith, byte-le (not (eqb k 0)))
 
     -- one place more
-    pub turn : (first : Bool) → first ≡ eqb (getD marks (markAt k) 0) 0 → alone table k first ≡ true → (marks' : List ℕ) → marks' ≡ set marks (markAt k) 1
+    turn : (first : Bool) → first ≡ eqb (getD marks (markAt k) 0) 0 → alone table k first ≡ true → (marks' : List ℕ) → marks' ≡ set marks (markAt k) 1
         → Walked table marks' (left - boolByte (not (eqb k 0))) (suc i)
     turn first e t marks' em = record {
       inside = here;
@@ -55,7 +58,7 @@ module _ (table marks : List ℕ) (left i : ℕ) (w : Walked table marks left i)
         own false q t z = once-first table i here (eqb-true (count k table) 1 (rw (ne-eqb k 0 z) at t))
 
     -- a key that is there twice
-    pub twice : (first : Bool) → alone table k first ≡ false → distinct table ≡ false
+    twice : (first : Bool) → alone table k first ≡ false → distinct table ≡ false
     twice true e = absurd (false≢true (sym e))
     twice false e = go (eqb k 0) refl (distinct table) refl where
       go : (b : Bool) → eqb k 0 ≡ b → (d : Bool) → distinct table ≡ d → d ≡ false
@@ -67,10 +70,10 @@ module _ (table marks : List ℕ) (left i : ℕ) (w : Walked table marks left i)
 
   -- the places from i on are empty
   module _ (none : left ≡ 0) where
-    pub rest : (j : ℕ) → i ≤ j → j < length table → at table j ≡ 0
+    rest : (j : ℕ) → i ≤ j → j < length table → at table j ≡ 0
     rest = rest-empty table i (let e = w .to-come in omega arith)
 
-    pub walked : distinct table ≡ true
+    walked : distinct table ≡ true
     walked = first-distinct table all where
       all : FirstTo (at table) (length table)
       all j b = there (ltb j i) refl where
@@ -88,9 +91,50 @@ module _ (key : ℕ → ℕ) (n : ℕ) (table : List ℕ) (is : table ≡ tabula
   table-at i h = ap (λ (l : List ℕ). at l i) is ∙ key-is key n i h
 
   -- a test that each place passed takes, and each empty one
-  pub passed : (test : ℕ → Bool) → ((j : ℕ) → key j ≡ 0 → test j ≡ true) → (i : ℕ) → ((j : ℕ) → i ≤ j → j < length table → at table j ≡ 0)
+  passed : (test : ℕ → Bool) → ((j : ℕ) → key j ≡ 0 → test j ≡ true) → (i : ℕ) → ((j : ℕ) → i ≤ j → j < length table → at table j ≡ 0)
       → ((l : ℕ) → l < i → test l ≡ true) → (j : ℕ) → j < n → test j ≡ true
   passed test empty i none h j b = go (ltb j i) refl where
     go : (t : Bool) → ltb j i ≡ t → test j ≡ true
     go true q = h j (ltb-true j i q)
     go false q = empty j (sym (table-at j b) ∙ none j (ltb-false j i q) (omega (arith, as-long)))
+
+-- ── a walk that tests each place ──
+
+-- the places before place i took the test
+pub record Tested (test : ℕ → Bool) (table marks : List ℕ) (left i : ℕ) : Type 0 where
+  pub walk : Walked table marks left i
+  pub fit : (l : ℕ) → l < i → test l ≡ true
+
+pub begins : (test : ℕ → Bool) (table marks : List ℕ) (left : ℕ) → length marks ≡ marksMax → left + count 0 table ≡ length table → Tested test table marks left 0
+begins test table marks left l e =
+    record {
+      walk = record { inside = omega arith; marks-long = l; marked = λ a h. absurd (omega arith); to-come = omega (arith, e); first = λ i h. absurd (omega arith) };
+      fit = λ l h. absurd (omega arith);
+    }
+
+module _ (key : ℕ → ℕ) (n : ℕ) (table : List ℕ) (is : table ≡ tabulate key 0 n) (test : ℕ → Bool) where
+  -- all n places take the test, and no key is there twice
+  abbrev sound : Bool
+  sound = every test 0 n && distinct table
+
+  module _ (marks : List ℕ) (left i : ℕ) (w : Tested test table marks left i) where
+    module _ (some : 0 < left) where
+      pub place : i < n
+      place = omega (arith, here table marks left i (w .walk) some, as-long key n table is)
+
+      pub again : test i ≡ true → (first : Bool) → first ≡ eqb (getD marks (markAt (at table i)) 0) 0 → alone table (at table i) first ≡ true → (marks' : List ℕ)
+          → marks' ≡ set marks (markAt (at table i)) 1 → Tested test table marks' (left - boolByte (not (eqb (at table i) 0))) (i + 1)
+      again t first e a marks' em =
+          record { walk = rw add-one (turn table marks left i (w .walk) some first e a marks' em); fit = below-more _ _ (w .fit) t }
+
+      pub unfit : test i ≡ false → false ≡ sound
+      unfit t = sym (ap (λ b. b && distinct table) (every-false test n 0 i (omega arith) (omega (arith, place)) t))
+
+      pub alike : (first : Bool) → alone table (at table i) first ≡ false → false ≡ sound
+      alike first a = sym (ap (λ b. every test 0 n && b) (twice table marks left i (w .walk) some first a) ∙ and-false (every test 0 n))
+
+    -- an empty place takes the test
+    pub ends : left ≡ 0 → ((j : ℕ) → key j ≡ 0 → test j ≡ true) → true ≡ sound
+    ends none empty =
+        let fit = passed key n table is test empty i (rest table marks left i (w .walk) none) (w .fit) in
+        sym (ap₂ (λ a b. a && b) (every-true test n 0 (λ j a b. fit j (omega arith))) (walked table marks left i (w .walk) none))

@@ -10,7 +10,7 @@ use lib.ListN.{length, drop, length-append, length-drop}
 use Rattle.bits.specs.Order.{unpack, toBits, store}
 use Rattle.bits.proofs.Bytes.{length-unpack}
 use Rattle.bits.proofs.Numbers.{length-toBits}
-use Rattle.shape.specs.Answer.{refused, got}
+use Rattle.shape.specs.Answer.{refused, got, numbered}
 use Rattle.shape.specs.Shape.{end, Values, encode, decoded, fits}
 use Rattle.shape.proofs.Fields.{and-true, and-assoc}
 use Rattle.shape.proofs.Reading.{Slot, value, gap, withHead, head-short, head-bytes, end-none, end-left, refused-on, got-on, never}
@@ -39,15 +39,15 @@ module _ (s : List ℕ) where
   exact h = got-on (withHead head end (unpack s) 0) (head-bytes head end 7 refl s (omega arith))
       (end-none (unpack (drop 7 s)) (omega (arith, left, length-drop 7 s)))
 
-  pub short : length s < 7 → statusIn s ≡ refused 15
-  short h = refused-on (statusOf end) refl (ends h)
+  pub short : length s < 7 → statusIn s ≡ numbered (refused 15)
+  short h = ap numbered (refused-on (statusOf end) refl (ends h))
 
-  pub long : 7 < length s → statusIn s ≡ refused 16
-  long h = refused-on (statusOf end) refl (too-many h)
+  pub long : 7 < length s → statusIn s ≡ numbered (refused 16)
+  long h = ap numbered (refused-on (statusOf end) refl (too-many h))
 
-  pub read : length s ≡ 7 → statusIn s ≡ got (statusAt (unpack s))
+  pub read : length s ≡ 7 → statusIn s ≡ numbered (got (statusAt (unpack s)))
   unfolding statusAt
-  read h = got-on (statusOf end) refl (exact h)
+  read h = ap numbered (got-on (statusOf end) refl (exact h))
 
   -- nothing else is read
   pub only : (v : Values nodeStatus) → decoded nodeStatus s ≡ got v → v ≡ statusFound s

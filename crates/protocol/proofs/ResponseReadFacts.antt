@@ -13,7 +13,7 @@ use Rattle.bits.specs.Width.{widthIn, widthOf}
 use Rattle.bits.proofs.Bytes.{length-unpack, drop-unpack}
 use Rattle.bits.proofs.Numbers.{fromBits-lt}
 use Rattle.bits.proofs.Octets.{octets-drop}
-use Rattle.shape.specs.Answer.{refused, got, mapAnswer}
+use Rattle.shape.specs.Answer.{refused, got, numbered, mapAnswer}
 use Rattle.shape.specs.Shape.{Shape, list, tail, Values, decode, decoded}
 use Rattle.shape.proofs.Reading.{Slot, value, gap, withHead, head-short, head-bytes, refused-on, got-on, never, items-short, items-read, list-none, list-short, list-read, tail-long, tail-not, tail-got}
 use Rattle.shape.proofs.Reading as reading
@@ -107,8 +107,8 @@ module _ (s : List ℕ) (o : Octets s) where
         (refused-on with-id (ids (ltb-false (length s) 40 eb))
         (list-short 255 named (unpack (drop 40 s)) (field s h) (drop 41 s) (octets-drop 41 s o) (behind s h) n (is s h) (omega (arith, length-drop 41 s))))
 
-  pub cut : length s < 41 + n → responseIn s ≡ refused 15
-  cut l = refused-on responseOf refl (ends l)
+  pub cut : length s < 41 + n → responseIn s ≡ numbered (refused 15)
+  cut l = ap numbered (refused-on responseOf refl (ends l))
 
   module _ (l : 41 + n ≤ length s) where
     certificates : decode certified (unpack (drop 40 s)) ≡ mapAnswer with-certificate (decode named (unpack (nameIn s)))
@@ -133,14 +133,14 @@ module _ (s : List ℕ) (o : Octets s) where
         got-on with-numbers (numbers (omega arith))
         (got-on with-id (ids (omega arith)) (got-on with-certificate certificates (tail-got 80 isName (nameIn s) (octets-drop (41 + n) s o) g k)))
 
-    pub long : 80 < length (nameIn s) → responseIn s ≡ refused 16
-    long g = refused-on responseOf refl (too-many g)
+    pub long : 80 < length (nameIn s) → responseIn s ≡ numbered (refused 16)
+    long g = ap numbered (refused-on responseOf refl (too-many g))
 
-    pub bad-name : length (nameIn s) ≤ 80 → isName (nameIn s) ≡ false → responseIn s ≡ refused 17
-    bad-name g k = refused-on responseOf refl (unnamed g k)
+    pub bad-name : length (nameIn s) ≤ 80 → isName (nameIn s) ≡ false → responseIn s ≡ numbered (refused 17)
+    bad-name g k = ap numbered (refused-on responseOf refl (unnamed g k))
 
-    pub held : length (nameIn s) ≤ 80 → isName (nameIn s) ≡ true → responseIn s ≡ got (responseOf (responseFound s))
-    held g k = got-on responseOf refl (read g k)
+    pub held : length (nameIn s) ≤ 80 → isName (nameIn s) ≡ true → responseIn s ≡ numbered (got (responseOf (responseFound s)))
+    held g k = ap numbered (got-on responseOf refl (read g k))
 
     pub certificate-len : length (certificateIn s) ≡ n
     certificate-len = length-take-le n (drop 41 s) (omega (arith, length-drop 41 s))

@@ -7,7 +7,7 @@ use lib.ListN.{length, drop}
 use Rattle.bits.specs.Order.{unpack, fromBits}
 use Rattle.bits.specs.Part.{span}
 use Rattle.bits.specs.Width.{widthOf}
-use Rattle.shape.specs.Answer.{Answer, refused, got, mapAnswer}
+use Rattle.shape.specs.Answer.{refused, got, Numbered, numbered, mapAnswer}
 use Rattle.shape.specs.Shape.{Shape, num, items, list, tail, Values, decoded}
 use Rattle.protocol.specs.NodeStatus.{statusThen, statusValues, statusAt}
 use Rattle.protocol.specs.Name.{isName}
@@ -68,13 +68,13 @@ responseOf
       name = record { at = 41 + length certificate; len = length name };
     }
 
-abbrev pub answerOf : Read → Answer Response
-answerOf (Refused n) = refused n
-answerOf (Got x) = got x
+abbrev pub answerOf : Read → Numbered Response
+answerOf (Refused n) = numbered (refused n)
+answerOf (Got x) = numbered (got x)
 
 -- what a payload gives
-abbrev pub responseIn : List ℕ → Answer Response
-responseIn p = mapAnswer responseOf (decoded response p)
+abbrev pub responseIn : List ℕ → Numbered Response
+responseIn p = numbered (mapAnswer responseOf (decoded response p))
 
 -- the numbers at the front of bits
 unfoldable pub numbersAt : List Bool → Numbers

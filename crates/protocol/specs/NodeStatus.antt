@@ -4,7 +4,7 @@ use mathlib.Core.Bool.{Bool}
 use mathlib.Core.List.{List}
 use lib.ListN.{drop}
 use Rattle.bits.specs.Order.{fromBits}
-use Rattle.shape.specs.Answer.{Answer, refused, got, mapAnswer}
+use Rattle.shape.specs.Answer.{refused, got, Numbered, numbered, mapAnswer}
 use Rattle.shape.specs.Shape.{Shape, end, num, void, Values, decoded}
 use Rattle.protocol.specs.declared.node_status.NodeStatus.{NodeStatus}
 use Rattle.protocol.specs.declared.node_status.Read.{Read}
@@ -25,13 +25,13 @@ abbrev pub statusOf : (d : Shape) → Values (statusThen d) → NodeStatus
 statusOf d (uptime, (health, (mode, (vendor, rest)))) =
     record { «uptime_sec» = uptime; health = health; mode = mode; «sub_mode» = 0; «vendor_specific_status_code» = vendor }
 
-abbrev pub answerOf : Read → Answer NodeStatus
-answerOf (Refused n) = refused n
-answerOf (Got x) = got x
+abbrev pub answerOf : Read → Numbered NodeStatus
+answerOf (Refused n) = numbered (refused n)
+answerOf (Got x) = numbered (got x)
 
 -- what a payload gives
-abbrev pub statusIn : List ℕ → Answer NodeStatus
-statusIn p = mapAnswer (statusOf end) (decoded nodeStatus p)
+abbrev pub statusIn : List ℕ → Numbered NodeStatus
+statusIn p = numbered (mapAnswer (statusOf end) (decoded nodeStatus p))
 
 -- the status at the front of bits
 unfoldable pub statusAt : List Bool → NodeStatus

@@ -2,8 +2,8 @@
 use shape::answer::Written;
 ghost use mathlib.Core.Path.{_≡_};
 ghost use Rattle.shape.specs.Answer as answer;
-ghost use Rattle.shape.specs.Shape.{decoded, written};
-ghost use Rattle.protocol.specs.GetNodeInfoRequest.{request, answerOf};
+ghost use Rattle.shape.specs.Shape.{written};
+ghost use Rattle.protocol.specs.GetNodeInfoRequest.{request, requestIn, answerOf};
 
 pub enum Read {
     Refused(u32),
@@ -12,7 +12,7 @@ pub enum Read {
 
 // Reads a request: 16 for any byte.
 pub fn decode(payload: &[u8]) -> Read
-    ensures { λ r. ⌜ answerOf r ≡ decoded request (now (payload .entry)) ⌝ }
+    ensures { λ r. ⌜ answerOf r ≡ requestIn (now (payload .entry)) ⌝ }
 {
     if 0 < payload.len() {
         return Read::Refused(16);

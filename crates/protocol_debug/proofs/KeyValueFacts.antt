@@ -8,7 +8,7 @@ use lib.Dec.{ltb, leb}
 use lib.ListN.{length, length-append}
 use Rattle.bits.specs.Order.{Octets, unpack, toBits, store}
 use Rattle.bits.proofs.Numbers.{length-toBits}
-use Rattle.shape.specs.Answer.{refused, got}
+use Rattle.shape.specs.Answer.{refused, got, numbered}
 use Rattle.shape.specs.Shape.{Values, encode, decoded, fits}
 use Rattle.shape.proofs.Fields.{and-true, length-itemBits}
 use Rattle.shape.proofs.Reading.{Slot, value, refused-on, got-on, ht-short, ht-long, ht-held, ht-only}
@@ -21,14 +21,14 @@ abbrev head : List Slot
 head = value 32 ∷ []
 
 module _ (s : List ℕ) (o : Octets s) where
-  pub short : length s < 4 → keyValueIn s ≡ refused 15
-  short h = refused-on keyValueOf refl (ht-short head 4 refl 58 s o h)
+  pub short : length s < 4 → keyValueIn s ≡ numbered (refused 15)
+  short h = ap numbered (refused-on keyValueOf refl (ht-short head 4 refl 58 s o h))
 
-  pub long : 4 ≤ length s → 58 < length (keyIn s) → keyValueIn s ≡ refused 16
-  long h l = refused-on keyValueOf refl (ht-long head 4 refl 58 s o h l)
+  pub long : 4 ≤ length s → 58 < length (keyIn s) → keyValueIn s ≡ numbered (refused 16)
+  long h l = ap numbered (refused-on keyValueOf refl (ht-long head 4 refl 58 s o h l))
 
-  pub held : 4 ≤ length s → length (keyIn s) ≤ 58 → keyValueIn s ≡ got (keyValueOf (keyValueFound s))
-  held h l = got-on keyValueOf refl (ht-held head 4 refl 58 s o h l)
+  pub held : 4 ≤ length s → length (keyIn s) ≤ 58 → keyValueIn s ≡ numbered (got (keyValueOf (keyValueFound s)))
+  held h l = ap numbered (got-on keyValueOf refl (ht-held head 4 refl 58 s o h l))
 
   pub only : (v : Values keyValue) → decoded keyValue s ≡ got v → v ≡ keyValueFound s
   only v e = ht-only head 4 refl 58 s o v e

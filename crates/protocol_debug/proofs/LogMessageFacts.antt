@@ -13,7 +13,7 @@ use Rattle.bits.specs.Width.{widthIn, widthOf}
 use Rattle.bits.proofs.Bytes.{length-unpack, drop-unpack}
 use Rattle.bits.proofs.Octets.{octets-drop}
 use Rattle.bits.proofs.Numbers.{length-toBits, fromBits-lt}
-use Rattle.shape.specs.Answer.{refused, got, mapAnswer}
+use Rattle.shape.specs.Answer.{refused, got, numbered, mapAnswer}
 use Rattle.shape.specs.Shape.{Shape, list, tail, Values, anything, itemBits, encode, decode, decoded, fits}
 use Rattle.shape.proofs.Fields.{and-true, and-assoc, length-itemBits}
 use Rattle.shape.proofs.Reading.{Slot, value, withHead, head-read, head-short, refused-on, got-on, never, list-short, list-read, tail-long, tail-got}
@@ -83,8 +83,8 @@ module _ (s : List ℕ) (o : Octets s) where
         refused-on (withHead head lists (unpack s) 0) (on h)
         (list-short 31 text (drop 3 (unpack s)) (field s h) (drop 1 s) (octets-drop 1 s o) (behind s h) n is (omega (arith, length-drop 1 s)))
 
-  pub cut : length s < 1 + n → logMessageIn s ≡ refused 15
-  cut l = refused-on logMessageOf refl (ends l)
+  pub cut : length s < 1 + n → logMessageIn s ≡ numbered (refused 15)
+  cut l = ap numbered (refused-on logMessageOf refl (ends l))
 
   module _ (l : 1 + n ≤ length s) where
     abbrev with-source : Values text → Values lists
@@ -104,11 +104,11 @@ module _ (s : List ℕ) (o : Octets s) where
     read g = got-on (withHead head lists (unpack s) 0) (on (omega arith))
         (got-on with-source source (tail-got 90 anything (textIn s) (octets-drop (1 + n) s o) g refl))
 
-    pub long : 90 < length (textIn s) → logMessageIn s ≡ refused 16
-    long g = refused-on logMessageOf refl (too-many g)
+    pub long : 90 < length (textIn s) → logMessageIn s ≡ numbered (refused 16)
+    long g = ap numbered (refused-on logMessageOf refl (too-many g))
 
-    pub held : length (textIn s) ≤ 90 → logMessageIn s ≡ got (logMessageOf (logMessageFound s))
-    held g = got-on logMessageOf refl (read g)
+    pub held : length (textIn s) ≤ 90 → logMessageIn s ≡ numbered (got (logMessageOf (logMessageFound s)))
+    held g = ap numbered (got-on logMessageOf refl (read g))
 
     pub source-len : length (sourceIn s) ≡ n
     source-len = length-take-le n (drop 1 s) (omega (arith, length-drop 1 s))

@@ -2,7 +2,7 @@
 use Prim.Native.Nat.{ℕ}
 use mathlib.Core.List.{List}
 use lib.ListN.{length, drop}
-use Rattle.shape.specs.Answer.{Answer, refused, got, mapAnswer}
+use Rattle.shape.specs.Answer.{refused, got, Numbered, numbered, mapAnswer}
 use Rattle.shape.specs.Shape.{Shape, num, tail, Values, anything, decoded}
 use Rattle.protocol_debug.specs.declared.key_value.KeyValue.{KeyValue}
 use Rattle.protocol_debug.specs.declared.key_value.Read.{Read}
@@ -18,10 +18,10 @@ keyIn p = drop 4 p
 abbrev pub keyValueOf : Values keyValue → KeyValue
 keyValueOf (value, key) = record { value = value; key = record { at = 4; len = length key } }
 
-abbrev pub answerOf : Read → Answer KeyValue
-answerOf (Refused n) = refused n
-answerOf (Got x) = got x
+abbrev pub answerOf : Read → Numbered KeyValue
+answerOf (Refused n) = numbered (refused n)
+answerOf (Got x) = numbered (got x)
 
 -- what a payload gives
-abbrev pub keyValueIn : List ℕ → Answer KeyValue
-keyValueIn p = mapAnswer keyValueOf (decoded keyValue p)
+abbrev pub keyValueIn : List ℕ → Numbered KeyValue
+keyValueIn p = numbered (mapAnswer keyValueOf (decoded keyValue p))

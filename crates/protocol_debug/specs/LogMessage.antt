@@ -4,7 +4,7 @@ use mathlib.Core.List.{List}
 use lib.ListN.{length, take, drop}
 use Rattle.bits.specs.Order.{unpack, fromBits}
 use Rattle.bits.specs.Width.{widthOf}
-use Rattle.shape.specs.Answer.{Answer, refused, got, mapAnswer}
+use Rattle.shape.specs.Answer.{refused, got, Numbered, numbered, mapAnswer}
 use Rattle.shape.specs.Shape.{Shape, num, list, tail, Values, anything, decoded}
 use Rattle.protocol_debug.specs.declared.log_message.LogMessage.{LogMessage}
 use Rattle.protocol_debug.specs.declared.log_message.Read.{Read}
@@ -27,10 +27,10 @@ abbrev pub logMessageOf : Values logMessage → LogMessage
 logMessageOf (level, (source, text)) =
     record { level = level; source = record { at = 1; len = length source }; text = record { at = 1 + length source; len = length text } }
 
-abbrev pub answerOf : Read → Answer LogMessage
-answerOf (Refused n) = refused n
-answerOf (Got x) = got x
+abbrev pub answerOf : Read → Numbered LogMessage
+answerOf (Refused n) = numbered (refused n)
+answerOf (Got x) = numbered (got x)
 
 -- what a payload gives
-abbrev pub logMessageIn : List ℕ → Answer LogMessage
-logMessageIn p = mapAnswer logMessageOf (decoded logMessage p)
+abbrev pub logMessageIn : List ℕ → Numbered LogMessage
+logMessageIn p = numbered (mapAnswer logMessageOf (decoded logMessage p))

@@ -8,7 +8,7 @@ use lib.Dec.{ltb, leb}
 use lib.ListN.{length, length-append}
 use Rattle.bits.specs.Order.{Octets, unpack, toBits, store}
 use Rattle.bits.proofs.Numbers.{length-toBits}
-use Rattle.shape.specs.Answer.{refused, got}
+use Rattle.shape.specs.Answer.{refused, got, numbered}
 use Rattle.shape.specs.Shape.{Values, encode, decoded, fits}
 use Rattle.shape.proofs.Fields.{and-true, and-assoc, length-itemBits}
 use Rattle.shape.proofs.Reading.{Slot, value, refused-on, got-on, ht-short, ht-long, ht-held, ht-only}
@@ -21,14 +21,14 @@ abbrev head : List Slot
 head = value 7 ∷ value 1 ∷ []
 
 module _ (s : List ℕ) (o : Octets s) where
-  pub short : length s < 1 → allocationIn s ≡ refused 15
-  short h = refused-on allocationOf refl (ht-short head 1 refl 16 s o h)
+  pub short : length s < 1 → allocationIn s ≡ numbered (refused 15)
+  short h = ap numbered (refused-on allocationOf refl (ht-short head 1 refl 16 s o h))
 
-  pub long : 1 ≤ length s → 16 < length (uniqueIdIn s) → allocationIn s ≡ refused 16
-  long h l = refused-on allocationOf refl (ht-long head 1 refl 16 s o h l)
+  pub long : 1 ≤ length s → 16 < length (uniqueIdIn s) → allocationIn s ≡ numbered (refused 16)
+  long h l = ap numbered (refused-on allocationOf refl (ht-long head 1 refl 16 s o h l))
 
-  pub held : 1 ≤ length s → length (uniqueIdIn s) ≤ 16 → allocationIn s ≡ got (allocationOf (allocationFound s))
-  held h l = got-on allocationOf refl (ht-held head 1 refl 16 s o h l)
+  pub held : 1 ≤ length s → length (uniqueIdIn s) ≤ 16 → allocationIn s ≡ numbered (got (allocationOf (allocationFound s)))
+  held h l = ap numbered (got-on allocationOf refl (ht-held head 1 refl 16 s o h l))
 
   pub only : (v : Values allocation) → decoded allocation s ≡ got v → v ≡ allocationFound s
   only v e = ht-only head 1 refl 16 s o v e

@@ -2,7 +2,7 @@
 use Prim.Native.Nat.{ℕ}
 use mathlib.Core.List.{List}
 use lib.ListN.{length, drop}
-use Rattle.shape.specs.Answer.{Answer, refused, got, mapAnswer}
+use Rattle.shape.specs.Answer.{refused, got, Numbered, numbered, mapAnswer}
 use Rattle.shape.specs.Shape.{Shape, num, tail, Values, anything, decoded}
 use Rattle.protocol_dynamic_node_id.specs.declared.allocation.Allocation.{Allocation}
 use Rattle.protocol_dynamic_node_id.specs.declared.allocation.Read.{Read}
@@ -18,10 +18,10 @@ uniqueIdIn p = drop 1 p
 abbrev pub allocationOf : Values allocation → Allocation
 allocationOf (node, (first, unique)) = record { «node_id» = node; «first_part_of_unique_id» = first; «unique_id» = record { at = 1; len = length unique } }
 
-abbrev pub answerOf : Read → Answer Allocation
-answerOf (Refused n) = refused n
-answerOf (Got x) = got x
+abbrev pub answerOf : Read → Numbered Allocation
+answerOf (Refused n) = numbered (refused n)
+answerOf (Got x) = numbered (got x)
 
 -- what a payload gives
-abbrev pub allocationIn : List ℕ → Answer Allocation
-allocationIn p = mapAnswer allocationOf (decoded allocation p)
+abbrev pub allocationIn : List ℕ → Numbered Allocation
+allocationIn p = numbered (mapAnswer allocationOf (decoded allocation p))

@@ -1,4 +1,4 @@
 mod Seek
-mod Lent
+pub mod Lent
 mod Checks
 mod Enter

@@ -14,6 +14,7 @@ pub mod Others
 pub mod Own
 pub mod Ranges
 pub mod Records
+pub mod Refusals
 pub mod Sends
 pub mod Start
 pub mod Table

@@ -11,10 +11,12 @@ use Rattle.rules.specs.Check.{Reception}
 use Rattle.rules.specs.Condition3.{Machine, ofStream, startOf, took, keep, All, frameOf, framesWith, answersTo, upTo, Receiver, startFrame, frames, answers, tookStart, Premises, forward, roomy, never, front, While, Transfer, handouts, Claim, Condition3, Past, rulesTable}
 use Rattle.rules.specs.Frame.{Frame, Stream}
 use Rattle.rules.specs.Limits.{payloadMax}
+use Rattle.rules.specs.Range.{Ranged}
 use Rattle.rules.specs.Reception.{step}
 use Rattle.rules.specs.Setup.{Setup}
 use Rattle.rules.specs.Table.{Places}
 use Rattle.rules.specs.Tests.{pick}
+use Rattle.rules.proofs.Ranges.{ranges}
 use Rattle.rules.proofs.Theorem.{theorem}
 
 -- a reception of the rules may be any
@@ -25,7 +27,7 @@ free u (r ∷ rs) = (tt, free u rs)
 -- the view that shows the rules' table in the states of a machine
 pub record View (u : Setup) (M : Machine) : Type 0 where
   pub places : M .State → Places
-  pub numbers : (a : Answer) → M .number (M .shows a) ≡ numberOf a
+  pub numbers : (a : Answer) → Ranged a → M .number (M .shows a) ≡ numberOf a
   pub past : (s : M .State) → M .Past s → Past u (places s)
   pub stays : (s : M .State) (c : M .Call) → M .Past s → M .Typed c → M .Past (M .after s c)
   pub says : (s : M .State) (c : M .Call) → M .Past s → M .Typed c → M .answer s c ≡ M .shows (step u (places s) (M .reception c) .answer)
@@ -61,6 +63,16 @@ module _ (u : Setup) (M : Machine) where
 
   -- ── lists of answers ──
 
+  keep-ranged : (b : Bool) (a : Answer) (l : List Answer) → Ranged a → All Ranged l → All Ranged (keep b a l)
+  keep-ranged true a l h k = (h, k)
+  keep-ranged false a l h k = k
+
+  all-ranged : (t : Frame → Bool) (ps : Places) (l : List Reception) → All Ranged (answersTo (rulesTable u) t ps l)
+  unfolding answersTo
+  all-ranged t ps [] = tt
+  all-ranged t ps (r ∷ rs) =
+      keep-ranged (t (r .frame)) (step u ps r .answer) (answersTo (rulesTable u) t (step u ps r .places) rs) (ranges u ps r) (all-ranged t (step u ps r .places) rs)
+
   keep-map : (b : Bool) (a : Answer) (l : List Answer) → map (M .shows) (keep b a l) ≡ keep b (M .shows a) (map (M .shows) l)
   keep-map true a l = refl
   keep-map false a l = refl
@@ -71,14 +83,14 @@ module _ (u : Setup) (M : Machine) where
   take-map (suc k) (a ∷ l) = ap (λ (x : List (M .Answer)). M .shows a ∷ x) (take-map k l)
 
   module _ (v : View u M) where
-    never-map : (n : ℕ) (l : List Answer) → never M n (map (M .shows) l) ≡ never (rulesTable u) n l
-    never-map n [] = refl
-    never-map n (a ∷ l) = ap₂ (λ (x : ℕ) (b : Bool). not (eqb x n) && b) (v .numbers a) (never-map n l)
+    never-map : (n : ℕ) (l : List Answer) → All Ranged l → never M n (map (M .shows) l) ≡ never (rulesTable u) n l
+    never-map n [] h = refl
+    never-map n (a ∷ l) h = ap₂ (λ (x : ℕ) (b : Bool). not (eqb x n) && b) (v .numbers a (h .0)) (never-map n l (h .1))
 
-    handouts-map : (l : List Answer) → handouts M (map (M .shows) l) ≡ map (M .shows) (handouts (rulesTable u) l)
-    handouts-map [] = refl
-    handouts-map (a ∷ l) =
-        ap₂ (λ (x : ℕ) (y : List (M .Answer)). keep (eqb x 1) (M .shows a) y) (v .numbers a) (handouts-map l)
+    handouts-map : (l : List Answer) → All Ranged l → handouts M (map (M .shows) l) ≡ map (M .shows) (handouts (rulesTable u) l)
+    handouts-map [] h = refl
+    handouts-map (a ∷ l) h =
+        ap₂ (λ (x : ℕ) (y : List (M .Answer)). keep (eqb x 1) (M .shows a) y) (v .numbers a (h .0)) (handouts-map l (h .1))
         ∙ sym (keep-map (eqb (numberOf a) 1) a (handouts (rulesTable u) l))
 
     answers-are : (t : Frame → Bool) (s : M .State) (l : List (M .Call)) → M .Past s → All (M .Typed) l
@@ -104,10 +116,15 @@ module _ (u : Setup) (M : Machine) where
       taken-of k = ap (take k) answers-of ∙ take-map k (answers (rulesTable u) d (viewOf x))
 
       took-is : tookStart M x ≡ tookStart (rulesTable u) (viewOf x)
-      took-is = ap (λ a. took (M .number a)) (v .says (x .state) (x .start) p (h .0)) ∙ ap took (v .numbers (step u (v .places (x .state)) (M .reception (x .start)) .answer))
+      took-is =
+          let ps = v .places (x .state) in
+          let r = M .reception (x .start) in
+          ap (λ a. took (M .number a)) (v .says (x .state) (x .start) p (h .0)) ∙ ap took (v .numbers (step u ps r .answer) (ranges u ps r))
 
       handouts-of : (a : Answer) → handouts (rulesTable u) (answers (rulesTable u) d (viewOf x)) ≡ a ∷ [] → handouts M (answers M d x) ≡ M .shows a ∷ []
-      handouts-of a e = ap (handouts M) answers-of ∙ handouts-map (answers (rulesTable u) d (viewOf x)) ∙ ap (map (M .shows)) e
+      handouts-of a e =
+          let y = viewOf x in
+          ap (handouts M) answers-of ∙ handouts-map (answers (rulesTable u) d y) (all-ranged (ofStream d) (y .state) (y .start ∷ y .list)) ∙ ap (map (M .shows)) e
 
       module _ (k : ℕ) where
         abbrev seen : List Reception
@@ -128,7 +145,7 @@ module _ (u : Setup) (M : Machine) where
         never-is n t =
             let s = M .after (x .state) (x .start) in
             ap (never M n) (answers-are t s (front M d k x) (v .stays (x .state) (x .start) p (h .0)) (typed-upto (ofStream d) (x .list) k (h .1)))
-            ∙ never-map n (answersTo (rulesTable u) t (v .places s) (map (M .reception) (front M d k x)))
+            ∙ never-map n (answersTo (rulesTable u) t (v .places s) (map (M .reception) (front M d k x))) (all-ranged t (v .places s) (map (M .reception) (front M d k x)))
             ∙ ap₂ (λ (ps : Places) (l : List Reception). never (rulesTable u) n (answersTo (rulesTable u) t ps l))
             (v .moves (x .state) (x .start) p (h .0)) front-is
 

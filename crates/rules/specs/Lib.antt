@@ -8,6 +8,7 @@ pub mod Session
 pub mod Table
 pub mod Reception
 pub mod Range
+pub mod Refusal
 pub mod Sent
 pub mod SentLaws
 pub mod Map

@@ -4,6 +4,7 @@ pub mod limits;
 ghost use Rattle.rules.specs.Condition3.{Condition3, rulesTable};
 ghost use Rattle.rules.specs.Example.{Example};
 ghost use Rattle.rules.specs.Range.{RangeLaw, OneLaw};
+ghost use Rattle.rules.specs.Refusal.{RefusalLaw};
 ghost use Rattle.rules.specs.Samples.{Samples};
 ghost use Rattle.rules.specs.SendingLaws.{RecordLaws, SourceLaws, MapLasts, Delivered};
 ghost use Rattle.rules.specs.SentLaws.{SentLaws, IdLaws};
@@ -33,6 +34,11 @@ pub fn table_lasts()
 // RULES 4.10: what a reception answers is in its range, and number 1 is a hand-out.
 pub fn answers_in_range()
     ensures { λ _. ⌜ RangeLaw × OneLaw ⌝ }
+{}
+
+// RULES 4.9: a frame that is refused by 2 to 9 changes no place.
+pub fn refusal()
+    ensures { λ _. ⌜ RefusalLaw ⌝ }
 {}
 
 // RULES 7.4: the frames of a payload. How many, what each carries, and what the first of them are.

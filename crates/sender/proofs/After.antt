@@ -1,6 +1,6 @@
--- The map after a send: its view, and that it has no fault.
-use mathlib.Core.Path.{_≡_, ap, _∙_}
-use mathlib.Core.Bool.{true}
+-- After a send: what a refusal leaves; the view of the map, and that it has no fault.
+use mathlib.Core.Path.{_≡_, refl, sym, ap, _∙_}
+use mathlib.Core.Bool.{Bool, true, false}
 use mathlib.Core.List.{List}
 use Prim.Native.Nat.{ℕ, _^_, _≤_, _<_}
 use mathlib.Mathlib.Data.Bool.Basic.{and-elim-right, and-intro}
@@ -8,7 +8,10 @@ use native.Mathlib.Omega.{arith}
 use borrow.Author.Tests.{le-leb}
 use lib.Dec.{leb}
 use lib.ListN.{length, set}
+use Rattle.answers.proofs.Sending.{told-number}
+use Rattle.answers.specs.Sending.{numberOf}
 use Rattle.bits.specs.Order.{Octets}
+use Rattle.bits.specs.Part.{splice}
 use Rattle.id_map.specs.Layout.{size, keyOf, mapOf, withSlot, written}
 use Rattle.id_map.specs.Sound.{soundMap}
 use Rattle.id_map.proofs.Keys.{topic-key}
@@ -21,10 +24,25 @@ use Rattle.rules.specs.Map.{Map, used}
 use Rattle.rules.specs.Sending.{Call, topicOf, sendStep}
 use Rattle.rules.specs.SendingLaws.{InRange}
 use Rattle.rules.specs.Session.{next}
-use Rattle.rules.proofs.Sends.{Leaves, alone, stored, leaves, map-lasts}
+use Rattle.rules.proofs.Sends.{Leaves, alone, stored, leaves, record-laws, map-lasts}
 use Rattle.sender.specs.Laws.{SendLaws}
 use Rattle.sender.specs.Send.{sendsIf, sends}
 use Rattle.sender.proofs.Lent.{kept, stored-is, key-in}
+
+-- ── a refusal ──
+
+module _ (m : List ℕ) (c : Call) (out : List ℕ) (bytes : Octets m) where
+  refused : (numberOf (sends m c out .answer) ≡ 0 → ⊥) → (sends m c out .map ≡ m) × (sends m c out .out ≡ out)
+  unfolding sends sendsIf
+  refused = go (soundMap m) refl
+    where
+      go : (b : Bool) → soundMap m ≡ b → (numberOf (sendsIf b m c out .answer) ≡ 0 → ⊥) → (sendsIf b m c out .map ≡ m) × (sendsIf b m c out .out ≡ out)
+      go false e n = (refl, refl)
+      go true e n =
+          let k = record-laws .refusal c (mapOf m) (length out) (λ z. n (told-number (sendStep c (mapOf m) (length out) .answer) ∙ z)) in
+          (ap (written m 0) (k .0) ∙ kept m e bytes, ap (splice out 0) (k .1))
+
+-- ── a success ──
 
 -- an entry that a call stores fits the layout
 holdable : (c : Call) → InRange c → (c .transferType ≡ 2 → ⊥) → c .time < 2 ^ 64 → Holdable (topicOf c) (c .time)
@@ -76,4 +94,4 @@ module _ (m : List ℕ) (c : Call) (out : List ℕ) (fine : soundMap m ≡ true)
       ∙ and-intro (le-leb size (length (written m 0 after)) (kept-by .long)) (ap rules.sound (kept-by .view) ∙ map-lasts .send c (mapOf m) (length out) (sound-view m fine))
 
 pub send-laws : SendLaws
-send-laws = record { view = view-after; sound = sound-after }
+send-laws = record { refusal = refused; view = view-after; sound = sound-after }

@@ -25,7 +25,7 @@ through f (got a) x e = record { from = a; is = refl; maps = cc }
 -- only: nothing is read but what is at its place
 pub trips : (d : Shape) → Sound d → {A : Type 0} (of : Values d → A) (at : List ℕ → Values d)
     → ((p : List ℕ) → Octets p → (v : Values d) → decoded d p ≡ got v → v ≡ at p) → Trips d of at
-trips d s {A} of at only = record { there = go; back = come } where
+trips d s {A} of at only = record { placed = only; there = go; back = come } where
   go : (v : Values d) (room : ℕ) (p : List ℕ) → encoded d v room ≡ got p → (mapAnswer of (decoded d p) ≡ got (of v)) × (at p ≡ v)
   go v room p e =
       let r = round-there d s v room p e in

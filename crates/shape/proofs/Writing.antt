@@ -8,11 +8,11 @@ use borrow.Author.Tests.{lt-ltb, le-ltb}
 use lib.ListN.{length, drop, replicate}
 use Rattle.bits.specs.Order.{Octets, digits, unpack, bytes, bytesFor, padding, octets, toBits, store}
 use Rattle.bits.proofs.Bytes.{length-bytes, store-front, store-store}
-use Rattle.shape.specs.Answer.{refused, got, refuseIf}
+use Rattle.shape.specs.Answer.{refused, got, numbered, refuseIf}
 use Rattle.shape.specs.Shape.{Shape, Values, itemBits, allBelow, encode, message, fits, encoded, written}
 
 module _ (d : Shape) (v : Values d) (m : List ℕ) where
-  pub refuse-17 : fits d v ≡ false → (refused 17, m) ≡ written d v m
+  pub refuse-17 : fits d v ≡ false → (numbered (refused 17), m) ≡ written d v m
   unfolding encoded refuseIf
   refuse-17 f = rw f
 
@@ -24,7 +24,7 @@ module _ (d : Shape) (v : Values d) (m : List ℕ) where
     size : length (message d v) ≡ n
     size = length-bytes (bytesFor (length (encode d v))) (encode d v ++ padding (encode d v)) ∙ for
 
-    pub refuse-8 : length m < n → (refused 8, m) ≡ written d v m
+    pub refuse-8 : length m < n → (numbered (refused 8), m) ≡ written d v m
     unfolding encoded refuseIf
     refuse-8 h = rw (f, size, lt-ltb (length m) n h)
 
@@ -34,7 +34,7 @@ module _ (d : Shape) (v : Values d) (m : List ℕ) where
         ap (λ (k : ℕ). bytes (bytesFor (length (encode d v))) (encode d v ++ replicate k false)) z
         ∙ ap (λ (b : List Bool). bytes (bytesFor (length (encode d v))) b) (append-nil (encode d v)) ∙ ap (λ (k : ℕ). bytes k (encode d v)) for
 
-    pub write-all : Octets m → n ≤ length m → (m' : List ℕ) → m' ≡ store m 0 (encode d v) → (got n, m') ≡ written d v m
+    pub write-all : Octets m → n ≤ length m → (m' : List ℕ) → m' ≡ store m 0 (encode d v) → (numbered (got n), m') ≡ written d v m
     unfolding encoded refuseIf
     write-all o h m' e =
         let b : m' ≡ message d v ++ drop n m = e ∙ store-front m n (encode d v) o l h ∙ ap (λ (x : List ℕ). x ++ drop n m) (sym packed) in

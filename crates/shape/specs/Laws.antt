@@ -40,8 +40,10 @@ Same = (d : Shape) → Whole d → (p : List ℕ) → Octets p → cleared d p �
 -- The return trip of one type. `of` is what its reader's struct shows of the values, `at` what is in a payload at the places of the numbers
 -- and in the parts that the list functions give.
 pub record Trips (d : Shape) {A : Type 0} (of : Values d → A) (at : List ℕ → Values d) : Type 0 where
+  -- what was read stands at its place, every list byte for byte
+  pub placed : (p : List ℕ) → Octets p → (v : Values d) → decoded d p ≡ got v → v ≡ at p
   -- what was written is read: the struct, and each number and list at its place
   pub there : (v : Values d) (room : ℕ) (p : List ℕ) → encoded d v room ≡ got p → (mapAnswer of (decoded d p) ≡ got (of v)) × (at p ≡ v)
-  -- what was read is at its place, and is written as it came, the ignored bits zero
+  -- what was read is shown by the struct, and is written as it came, the ignored bits zero
   pub back : (p : List ℕ) → Octets p → (x : A) (room : ℕ) → mapAnswer of (decoded d p) ≡ got x → length p ≤ room
       → (x ≡ of (at p)) × (encoded d (at p) room ≡ got (cleared d p))

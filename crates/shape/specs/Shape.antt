@@ -6,7 +6,7 @@ use lib.Dec.{ltb, leb, eqb}
 use lib.ListN.{length, take, drop}
 use Rattle.bits.specs.Order.{toBits, fromBits, unpack, bytes, pack}
 use Rattle.bits.specs.Width.{widthOf}
-use Rattle.shape.specs.Answer.{Answer, got, refuseIf, mapAnswer, wrote}
+use Rattle.shape.specs.Answer.{Answer, got, Numbered, refuseIf, mapAnswer, wrote}
 
 -- ── a description: each field holds what follows it, so that a list without a length field is last ──
 
@@ -109,7 +109,7 @@ unfoldable pub encoded : (d : Shape) → Values d → ℕ → Answer (List ℕ)
 encoded d v room = refuseIf (not (fits d v)) 17 (refuseIf (ltb room (length (message d v))) 8 (got (message d v)))
 
 -- what a writer answers, and the buffer m after it
-abbrev pub written : (d : Shape) → Values d → List ℕ → Answer ℕ × List ℕ
+abbrev pub written : (d : Shape) → Values d → List ℕ → Numbered ℕ × List ℕ
 written d v m = wrote (encoded d v (length m)) m
 
 -- ── a payload with its ignored bits zero (RULES 9.8) ──

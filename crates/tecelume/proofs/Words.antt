@@ -34,7 +34,7 @@ in-range p d priority t r =
 small : (a : Answer) → transferIn a ≡ noTransfer → numberOf a < 2 ^ 8 → Fits a
 small a e h = record { number = h; transfer = subst TransferFits (sym e) (record { len = omega arith; transferType = omega arith; type = omega arith; source = omega arith; destination = omega arith; priority = omega arith; transfer = omega arith }) }
 
-told-fits : (a : rules.Answer) → Ranged a → Fits (told a)
+pub told-fits : (a : rules.Answer) → Ranged a → Fits (told a)
 told-fits rules.taken r = small _ refl (omega arith)
 told-fits (rules.handed p d priority t) r = record { number = omega arith; transfer = in-range p d priority t r }
 told-fits (rules.refused n) r = small _ refl (omega arith)
@@ -51,7 +51,7 @@ received-fits m f out = go (soundState m)
     go false = small Faulty refl (omega arith)
     go true = told-fits (step (setupOf m) (placesOf m) (arriving f out) .answer) (ranges (setupOf m) (placesOf m) (arriving f out))
 
-read-back : (a : Answer) → Fits a → ReadBack (wordOf a) a
+pub read-back : (a : Answer) → Fits a → ReadBack (wordOf a) a
 unfolding wordOf transferWord
 read-back a h =
     let n = h .number in

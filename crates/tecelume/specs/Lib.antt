@@ -1,2 +1,3 @@
 pub mod Word
 pub mod Entry
+pub mod Condition3

@@ -35,10 +35,17 @@ pub record Fits (a : Answer) : Type 0 where
   pub number : numberOf a < 2 ^ 8
   pub transfer : TransferFits (transferIn a)
 
+-- what C reads in a word: the number, and the length of the payload
+abbrev pub numberIn : ℕ → ℕ
+numberIn w = w % 2 ^ 8
+
+abbrev pub lengthIn : ℕ → ℕ
+lengthIn w = w / 2 ^ 8 % 2 ^ 10
+
 -- RULES 13.3: so C reads the number and each value in its field
 pub record ReadBack (w : ℕ) (a : Answer) : Type 0 where
-  pub number : w % 2 ^ 8 ≡ numberOf a
-  pub len : w / 2 ^ 8 % 2 ^ 10 ≡ transferIn a .len
+  pub number : numberIn w ≡ numberOf a
+  pub len : lengthIn w ≡ transferIn a .len
   pub transferType : w / 2 ^ 18 % 2 ^ 2 ≡ transferIn a .«transfer_type»
   pub type : w / 2 ^ 20 % 2 ^ 16 ≡ transferIn a .«type_id»
   pub source : w / 2 ^ 36 % 2 ^ 7 ≡ transferIn a .source

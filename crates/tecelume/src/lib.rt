@@ -3,11 +3,13 @@ mod word;
 
 use transport::Outgoing;
 ghost use mathlib.Core.Path.{_≡_};
+ghost use Rattle.tecelume.specs.Condition3.{wordBytes};
 ghost use Rattle.tecelume.specs.Entry.{version, numbered, numberedMap, entry, packed, packedSend};
 ghost use Rattle.tecelume.specs.Word.{WordLaws};
 ghost use Rattle.id_map.specs.Layout as layout;
 ghost use Rattle.id_map.specs.Setup as setting;
 ghost use Rattle.receiver.specs.Receive.{frameOf, received};
+ghost use Rattle.rules.specs.Condition3.{Condition3};
 ghost use Rattle.sender.specs.Send.{sends};
 ghost use Rattle.setup.specs.Setup.{afterSetup};
 ghost use Rattle.state.specs.Layout.{size};
@@ -110,4 +112,9 @@ pub extern "C" fn tecelume_signature(kind: u32, type_id: u32) -> u64
 // What the result word of a reception holds: every value that is handed out fits its field and is read back from it.
 pub fn word_fields()
     ensures { λ _. ⌜ WordLaws ⌝ }
+{}
+
+// RULES 14.14: condition 3, of what a C program reads.
+pub fn condition3_words()
+    ensures { λ _. ⌜ Condition3 wordBytes ⌝ }
 {}

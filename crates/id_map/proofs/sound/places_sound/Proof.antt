@@ -1,18 +1,13 @@
--- `sound::places_sound` meets its contract. The invariant: where the walk is, and the places passed fit.
-use mathlib.Core.Path.{_≡_, refl, sym, ap, ap₂, _∙_}
-use mathlib.Core.Bool.{true, _&&_, and-false}
+-- `sound::places_sound` meets its contract. The invariant: where the walk is, and the places passed fit (keys, Walk.antt).
+use mathlib.Core.Path.{_≡_, refl, sym, _∙_}
+use mathlib.Core.Bool.{true}
 use mathlib.Core.List.{List}
-use Prim.Native.Nat.{ℕ, _-_, _<_}
-use native.Mathlib.Numerals.{add-one}
+use Prim.Native.Nat.{ℕ, _-_}
 use native.Mathlib.Omega.{arith}
-use borrow.Author.Count.{below-more}
 use borrow.Author.Tests.{eq-eqb}
 use lib.ListN.{length}
-use Rattle.bits.specs.Tabulate.{every}
-use Rattle.bits.proofs.Every.{every-true, every-false}
-use Rattle.keys.specs.inside.Keys.{distinct}
 use Rattle.keys.proofs.Counts.{count-le}
-use Rattle.keys.proofs.Walk.{Walked, here, left-ok, turn, twice, rest, walked, as-long, table-at, passed}
+use Rattle.keys.proofs.Walk.{here, left-ok, as-long, table-at, Tested, begins, place, again, unfit, alike, ends}
 use Rattle.rules.specs.Limits.{entriesMax}
 use Rattle.id_map.specs.inside.Sound.{emptyOrFits}
 use Rattle.id_map.specs.Layout.{keyAt}
@@ -25,7 +20,7 @@ unfolding emptyOrFits
 empty m i z = rw (eq-eqb (keyAt m i) 0 z)
 
 abbrev Inv-loop : tie.InvT-loop
-Inv-loop map table marks₀ left₀ i₀ marks left i = Walked table marks left i × ((l : ℕ) → l < i → emptyOrFits map l ≡ true)
+Inv-loop map table marks₀ left₀ i₀ marks left i = Tested (emptyOrFits map) table marks left i
 
 abbrev μ-loop : tie.MeasureT-loop
 μ-loop map table marks₀ left₀ i₀ marks left i = length table - i
@@ -40,28 +35,23 @@ sub-left : tie.Need-sub-left Inv-loop μ-loop
 sub-left c = omega (arith, as-long _ _ _ (c .before .before .before .pre .1), count-le 0 (c .before .before .before .args .table .now))
 
 loop-holds : tie.Need-loop-holds Inv-loop μ-loop
-loop-holds c =
-    let le = count-le 0 (c .before .before .before .args .table .now) in (
-      record { inside = omega arith; marks-long = refl; marked = λ a h. absurd (omega arith); to-come = omega (arith, le); first = λ i h. absurd (omega arith) },
-      λ l h. absurd (omega arith),
-    )
+loop-holds c = let t = c .before .before .before .args .table .now in begins _ t _ _ refl (omega (arith, count-le 0 t))
 
 mul-k : tie.Need-mul-k Inv-loop μ-loop
 mul-k c = omega arith
 
 shared-slice-read-k : tie.Need-shared-slice-read-k Inv-loop μ-loop
-shared-slice-read-k c = here _ _ _ _ (c .before .before .loop .inv .0) (omega arith)
+shared-slice-read-k c = here _ _ _ _ (c .before .before .loop .inv .walk) (omega arith)
 
 mark-requires : tie.Need-mark-requires Inv-loop μ-loop
-mark-requires c κs = c .before .before .before .loop .inv .0 .marks-long
+mark-requires c κs = c .before .before .before .loop .inv .walk .marks-long
 
 place-fits-requires : tie.Need-place-fits-requires Inv-loop μ-loop
 place-fits-requires c κs =
     let l = c .before .before .before .before in
     let s = l .before .before .before .before in
-    let n = as-long _ _ _ (s .pre .1) in
-    let h = here _ _ _ _ (l .loop .inv .0) (omega arith) in
-    ((omega arith, s .pre .0), table-at (keyAt (s .args .map .now)) entriesMax (s .args .table .now) (s .pre .1) (l .loop .i) (omega arith))
+    let b = place _ _ _ (s .pre .1) _ _ _ _ (l .loop .inv) (omega arith) in
+    ((b, s .pre .0), table-at (keyAt (s .args .map .now)) entriesMax (s .args .table .now) (s .pre .1) (l .loop .i) b)
 
 is-alone-requires : tie.Need-is-alone-requires Inv-loop μ-loop
 is-alone-requires c κs = omega (arith, as-long _ _ _ (c .before .before .before .before .before .before .before .before .before .before .pre .1))
@@ -70,49 +60,38 @@ cast-left-2 : tie.Need-cast-left-2 Inv-loop μ-loop
 cast-left-2 c = tt
 
 sub-left-2 : tie.Need-sub-left-2 Inv-loop μ-loop
-sub-left-2 c = left-ok _ _ _ _ (c .before .before .before .before .before .before .before .before .loop .inv .0) (omega arith)
+sub-left-2 c = left-ok _ _ _ _ (c .before .before .before .before .before .before .before .before .loop .inv .walk) (omega arith)
 
 add-i : tie.Need-add-i Inv-loop μ-loop
-add-i c = omega (arith, here _ _ _ _ (c .before .before .before .before .before .before .before .before .loop .inv .0) (omega arith))
+add-i c = omega (arith, here _ _ _ _ (c .before .before .before .before .before .before .before .before .loop .inv .walk) (omega arith))
 
 loop-less : tie.Need-loop-less Inv-loop μ-loop
-loop-less c = omega (arith, here _ _ _ _ (c .before .before .before .before .before .before .before .before .loop .inv .0) (omega arith))
+loop-less c = omega (arith, here _ _ _ _ (c .before .before .before .before .before .before .before .before .loop .inv .walk) (omega arith))
 
 loop-again : tie.Need-loop-again Inv-loop μ-loop
 loop-again c =
     let l = c .before .before .before .before .before .before .before .before in
     let p = c .before .before .before in
-    let m = p .before .mark in (
-      rw add-one (turn _ _ _ _ (l .loop .inv .0) (omega arith) (m .result) (m .ensures .0) (sym (c .before .is-alone .ensures) ∙ c .if2 .taken) _ (m .ensures .1)),
-      below-more _ _ (l .loop .inv .1) (sym (p .place-fits .ensures) ∙ c .before .before .if1 .taken),
-    )
+    let m = p .before .mark in
+    again _ _ _ (l .before .before .before .before .pre .1) _ _ _ _ (l .loop .inv) (omega arith) (sym (p .place-fits .ensures) ∙ c .before .before .if1 .taken)
+    (m .result) (m .ensures .0) (sym (c .before .is-alone .ensures) ∙ c .if2 .taken) _ (m .ensures .1)
 
 returns : tie.Need-returns Inv-loop μ-loop
 returns c =
     let l = c .before .before .before .before .before .before .before .before in
-    let p = c .before .before .before in
-    let a = l .before .before .before .before .args in
-    sym (ap (λ b. every (emptyOrFits (a .map .now)) 0 entriesMax && b)
-    (twice _ _ _ _ (l .loop .inv .0) (omega arith) (p .before .mark .result) (sym (c .before .is-alone .ensures) ∙ c .if2 .left))
-    ∙ and-false (every (emptyOrFits (a .map .now)) 0 entriesMax))
+    let m = c .before .before .before .before .mark in
+    alike _ _ _ (l .before .before .before .before .pre .1) _ _ _ _ (l .loop .inv) (omega arith) (m .result) (sym (c .before .is-alone .ensures) ∙ c .if2 .left)
 
 returns-2 : tie.Need-returns-2 Inv-loop μ-loop
 returns-2 c =
     let l = c .before .before .before .before .before .before in
-    let s = l .before .before .before .before in
-    let n = as-long _ _ _ (s .pre .1) in
-    let h = here _ _ _ _ (l .loop .inv .0) (omega arith) in
-    sym (ap (λ b. b && distinct (s .args .table .now))
-    (every-false (emptyOrFits (s .args .map .now)) entriesMax 0 (l .loop .i) (omega arith) (omega arith) (sym (c .before .place-fits .ensures) ∙ c .if1 .left)))
+    unfit _ _ _ (l .before .before .before .before .pre .1) _ _ _ _ (l .loop .inv) (omega arith) (sym (c .before .place-fits .ensures) ∙ c .if1 .left)
 
 returns-3 : tie.Need-returns-3 Inv-loop μ-loop
 returns-3 c =
     let l = c .before in
     let s = l .before .before .before .before in
-    let m = s .args .map .now in
-    let none = rest _ _ _ _ (l .loop .inv .0) (omega arith) in
-    let fit = passed (keyAt m) entriesMax (s .args .table .now) (s .pre .1) (emptyOrFits m) (empty m) (l .loop .i) none (l .loop .inv .1) in
-    sym (ap₂ (λ a b. a && b) (every-true (emptyOrFits m) entriesMax 0 (λ j a b. fit j (omega arith))) (walked _ _ _ _ (l .loop .inv .0) (omega arith)))
+    ends _ _ _ (s .pre .1) _ _ _ _ (l .loop .inv) (omega arith) (empty (s .args .map .now))
 
 pub places-sound-spec : {M : Type 1} → statement M
 places-sound-spec =

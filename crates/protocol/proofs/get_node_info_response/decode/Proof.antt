@@ -6,7 +6,7 @@ use native.Mathlib.Omega.{arith}
 use borrow.Author.Tests.{not-true, not-false}
 use lib.ListN.{length}
 use Rattle.bits.proofs.Octets.{octets-all}
-use Rattle.shape.specs.Answer.{got}
+use Rattle.shape.specs.Answer.{got, numbered}
 use Rattle.protocol.proofs.ResponseReadFacts.{below, cut, long, bad-name, held, certificate-len, made}
 use Rattle.protocol.specs.Name.{isName}
 use Rattle.protocol.specs.declared.get_node_info_response.Response.{Response}
@@ -75,7 +75,7 @@ returns-4 c =
     let e = ap (λ (l : List ℕ). length l) (t .name .ensures) in
     let b = sym (q .is-name .ensures ∙ ap (λ (l : List ℕ). isName l) (t .name .ensures)) ∙ not-false (q .is-name .result) (f .if3 .left) in
     let l = certificate-len s o (omega (arith, n .certificate-length .ensures)) in
-    ap (λ (x : Response). got x)
+    ap (λ (x : Response). numbered (got x))
     (made s o _ _ _ _ _ (r .read-numbers .ensures) (ap (λ (l : List ℕ). length l) (c .before .unique-id .ensures)) (ap (λ (l : List ℕ). length l) (c .certificate-of-authenticity .ensures))
     (omega (arith, l, n .certificate-length .ensures)) e)
     ∙ sym (held s o (omega (arith, n .certificate-length .ensures)) (omega (arith, e)) b)

@@ -1,5 +1,5 @@
 -- `node_status::decode` meets its contract: 15, 16 or a status.
-use Rattle.shape.specs.Answer.{got}
+use Rattle.shape.specs.Answer.{got, numbered}
 use Rattle.protocol.specs.declared.node_status.NodeStatus.{NodeStatus}
 use Rattle.protocol.proofs.NodeStatusFacts.{short, long, read}
 use native.Mathlib.Omega.{arith}
@@ -18,7 +18,7 @@ read-front-requires : tie.Need-read-front-requires
 read-front-requires c κs = search needs
 
 returns-3 : tie.Need-returns-3
-returns-3 c = ap (λ (x : NodeStatus). got x) (c .read-front .ensures) ∙ sym (read (c .before .before .before .before .args .payload .now) (omega arith))
+returns-3 c = ap (λ (x : NodeStatus). numbered (got x)) (c .read-front .ensures) ∙ sym (read (c .before .before .before .before .args .payload .now) (omega arith))
 
 pub decode-spec : {M : Type 1} → statement M
 decode-spec = tie.close (tie.spec returns returns-2 read-front-requires returns-3)

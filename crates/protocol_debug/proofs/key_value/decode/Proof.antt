@@ -5,7 +5,7 @@ use Prim.Native.Nat.{ℕ}
 use native.Mathlib.Omega.{arith}
 use lib.ListN.{length}
 use Rattle.bits.proofs.Octets.{octets-all}
-use Rattle.shape.specs.Answer.{got}
+use Rattle.shape.specs.Answer.{got, numbered}
 use Rattle.protocol_debug.proofs.KeyValueFacts.{short, long, held, made}
 use Rattle.protocol_debug.specs.declared.key_value.KeyValue.{KeyValue}
 use borrow.Author.Needs.{needs}
@@ -38,7 +38,7 @@ returns-3 c =
     let k = q .before .before in
     let s = k .before .args .payload .now in
     let e = ap (λ (l : List ℕ). length l) (q .key .ensures) in
-    ap (λ (x : KeyValue). got x) (made (c .read .ensures) e)
+    ap (λ (x : KeyValue). numbered (got x)) (made (c .read .ensures) e)
     ∙ sym (held s (octets-all s (λ i. omega (arith, k .shared-slice-known .given i))) (omega arith) (omega (arith, e)))
 
 pub decode-spec : {M : Type 1} → statement M

@@ -5,7 +5,7 @@ use Prim.Native.Nat.{ℕ}
 use native.Mathlib.Omega.{arith}
 use lib.ListN.{length}
 use Rattle.bits.proofs.Octets.{octets-all}
-use Rattle.shape.specs.Answer.{got}
+use Rattle.shape.specs.Answer.{got, numbered}
 use Rattle.protocol_debug.proofs.LogMessageFacts.{below, cut, long, held, source-len, made}
 use Rattle.protocol_debug.specs.declared.log_message.LogMessage.{LogMessage}
 use borrow.Author.Needs.{needs}
@@ -52,7 +52,7 @@ returns-3 c =
     let o = octets-all s (λ i. omega (arith, k .shared-slice-known .given i)) in
     let e = ap (λ (l : List ℕ). length l) (t .text .ensures) in
     let l = source-len s o (omega (arith, n .source-length .ensures)) in
-    ap (λ (x : LogMessage). got x)
+    ap (λ (x : LogMessage). numbered (got x))
     (made (c .before .read .ensures) (ap (λ (l : List ℕ). length l) (c .source .ensures)) (omega (arith, l, n .source-length .ensures)) e)
     ∙ sym (held s o (omega (arith, n .source-length .ensures)) (omega (arith, e)))
 

@@ -5,7 +5,7 @@ use Prim.Native.Nat.{ℕ}
 use native.Mathlib.Omega.{arith}
 use lib.ListN.{length}
 use Rattle.bits.proofs.Octets.{octets-all}
-use Rattle.shape.specs.Answer.{got}
+use Rattle.shape.specs.Answer.{got, numbered}
 use Rattle.protocol_dynamic_node_id.proofs.AllocationFacts.{short, long, held, made}
 use Rattle.protocol_dynamic_node_id.specs.declared.allocation.Allocation.{Allocation}
 use borrow.Author.Needs.{needs}
@@ -41,7 +41,7 @@ returns-3 c =
     let k = q .before .before in
     let s = k .before .args .payload .now in
     let e = ap (λ (l : List ℕ). length l) (q .unique-id .ensures) in
-    ap (λ (x : Allocation). got x) (made (c .before .read .ensures) (c .read2 .ensures) e)
+    ap (λ (x : Allocation). numbered (got x)) (made (c .before .read .ensures) (c .read2 .ensures) e)
     ∙ sym (held s (octets-all s (λ i. omega (arith, k .shared-slice-known .given i))) (omega arith) (omega (arith, e)))
 
 pub decode-spec : {M : Type 1} → statement M

@@ -1,0 +1,91 @@
+-- A frame that is refused changes no place: where a place is written, the answer is none of these.
+use mathlib.Core.Path.{_≡_, refl}
+use mathlib.Core.Bool.{Bool, true, false}
+use mathlib.Core.List.{List, _++_}
+use mathlib.Core.Option.{Option, none, some}
+use Prim.Native.Nat.{ℕ}
+use native.Mathlib.Omega.{arith}
+use lib.Dec.{ltb}
+use lib.ListN.{length, getD}
+use Rattle.rules.specs.Answer.{Answer, Reason, numberOf}
+use Rattle.rules.specs.Check.{Parsed, parsed, check}
+use Rattle.rules.specs.Frame.{isAnonymous}
+use Rattle.rules.specs.Limits.{gatheredMax}
+use Rattle.rules.specs.Reception.{sessionIn, stepNew, stepStart, stepSeek, stepAnonymous, stepChecked, step}
+use Rattle.rules.specs.Refusal.{refuses, RefusalLaw}
+use Rattle.rules.specs.Session.{Session, sumOk, closing, takeEnd, takeLong, takes, over, proceedIf, proceed, reactIf, react, restarts, restarted, fresh}
+use Rattle.rules.specs.Table.{Places, empty, seek, holds, placeFor}
+
+abbrev Answers : Answer → Type 0
+Answers a = refuses (numberOf a) ≡ false
+
+module _ (v : Parsed) where
+  -- ── a session that a frame meets ──
+
+  closing-answers : (start ok : Bool) (all : List ℕ) → Answers (closing start ok all v)
+  unfolding closing
+  closing-answers true ok all = refl
+  closing-answers false true all = refl
+  closing-answers false false all = refl
+
+  end-answers : (last : Bool) (s : Session) (all : List ℕ) → Answers (takeEnd last s v all .answer)
+  unfolding takeEnd
+  end-answers false s all = refl
+  end-answers true s all = closing-answers (v .start) (sumOk (v .signature) all) all
+
+  long-answers : (b : Bool) (s : Session) (all : List ℕ) → Answers (takeLong b s v all .answer)
+  unfolding takeLong
+  long-answers true s all = refl
+  long-answers false s all = end-answers (v .last) s all
+
+  proceed-answers : (s : Session) → Answers (proceed s v .answer)
+  unfolding proceed proceedIf takes
+  proceed-answers s = go (over s v)
+    where
+      go : (o : Option Reason) → Answers (proceedIf o s v .answer)
+      go (some r) = refl
+      go none = let all = s .gathered ++ v .payload in long-answers (ltb gatheredMax (length all)) s all
+
+  react-answers : (s : Session) → Answers (react s v .answer)
+  unfolding react reactIf
+  react-answers s = go (restarts s v) (v .start)
+    where
+      go : (a b : Bool) → Answers (reactIf a b s v .answer)
+      go true true = proceed-answers (restarted s (v .transfer))
+      go true false = refl
+      go false b = proceed-answers s
+
+  -- ── the table ──
+
+  module _ (ps : Places) where
+    no-refusal : (a : Answer) (after : Places) → Answers a → refuses (numberOf a) ≡ true → after ≡ ps
+    no-refusal a after n e = let z : _≡_ {A = ℕ} 0 1 = cc in absurd (omega arith)
+
+    new-kept : (o : Option ℕ) → refuses (numberOf (stepNew o ps v .answer)) ≡ true → stepNew o ps v .places ≡ ps
+    unfolding stepNew
+    new-kept none e = refl
+    new-kept (some i) e = no-refusal (proceed (fresh v) v .answer) _ (proceed-answers (fresh v)) e
+
+    start-kept : (b : Bool) → refuses (numberOf (stepStart b ps v .answer)) ≡ true → stepStart b ps v .places ≡ ps
+    unfolding stepStart
+    start-kept false e = refl
+    start-kept true e = new-kept (placeFor (v .time) ps) e
+
+    seek-kept : (o : Option ℕ) → refuses (numberOf (stepSeek o ps v .answer)) ≡ true → stepSeek o ps v .places ≡ ps
+    unfolding stepSeek
+    seek-kept (some i) e = let s = sessionIn (getD ps i empty) v in no-refusal (react s v .answer) _ (react-answers s) e
+    seek-kept none e = start-kept (v .start) e
+
+    named-kept : (anonymous : Bool) → refuses (numberOf (stepAnonymous anonymous ps v .answer)) ≡ true → stepAnonymous anonymous ps v .places ≡ ps
+    unfolding stepAnonymous
+    named-kept true e = refl
+    named-kept false e = seek-kept (seek (holds (v .stream)) ps) e
+
+    checked-kept : (o : Option ℕ) (a : Bool) → refuses (numberOf (stepChecked o a ps v .answer)) ≡ true → stepChecked o a ps v .places ≡ ps
+    unfolding stepChecked
+    checked-kept (some n) a e = refl
+    checked-kept none a e = named-kept a e
+
+pub refusals : RefusalLaw
+unfolding step
+refusals u ps r = checked-kept (parsed u (r .frame)) ps (check u r) (isAnonymous (r .frame .id))
