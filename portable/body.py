@@ -8,6 +8,7 @@ What shows that it must not be put in is noted, and the function is translated a
   body, where nothing else can have set the temporary."""
 import re
 
+from copies import LARGE
 from exprs import Expr, mixed
 from layout import Lines, fold
 from mir import Place, mentions, refuse, target, whole
@@ -47,7 +48,7 @@ class Body(Values):
         kept = i > f.params and not re.fullmatch(r't\d+', self.local_names[i]) and self.types[i][0] in ('int', 'bool')
         return not 0 < i <= f.params and not f.in_memory[i] and not placed and not kept and named == 2 * made
 
-    def text(self):
+    def translate(self):
         while True:
             self.pending, self.keeping, self.spoilt, self.failed = {}, set(), set(), None
             self.used, self.lines, self.label = set(), Lines(), 0
@@ -59,21 +60,25 @@ class Body(Values):
             self.candidates -= self.spoilt
         if self.failed:
             refuse('a pointer', self.failed)
-        return self.head() + self.lines.text(self.declarations(), self.opening())
+        self.head = self.declared()
+        self.inner = self.lines.text(self.declarations(), self.opening())
+
+    def text(self, apart):
+        return fold(self.head.replace('static', 'static APART', 1) if apart else self.head) + '\n' + self.inner
 
     # ---- head
 
-    def head(self):
+    def declared(self):
         f, c_type = self.function, self.shapes.c_type
         params = [f'{c_type(self.types[0])} *result'] if self.storage.large else []
         for i in range(1, f.params + 1):
             if i != self.storage.owned:
-                params += self.parameter(self.types[i], self.local_names[i])
+                params += self.parameter(('ref', 'imm', self.types[i]) if i in self.storage.lent else self.types[i], self.local_names[i])
         if self.exported and self.types[0][0] not in ('int', 'bool', 'unit'):
             refuse('an exported function that gives', self.types[0])
         result = 'void' if self.storage.large else c_type(self.types[0])
         name = f'{result} {f.symbol.split("::")[-1]}' if self.exported else f'static {result} {c_name(f.symbol)}'
-        return fold(f'{name}({", ".join(params) or "void"})') + '\n'
+        return f'{name}({", ".join(params) or "void"})'
 
     def parameter(self, type_, name):
         """One parameter in C. C passes a slice to an exported function as two, as the header declares them."""
@@ -97,8 +102,14 @@ class Body(Values):
 
     def declarations(self):
         """Name: declaration, of each local of its own."""
-        own = [i for i in sorted(self.used) if not 0 < i <= self.function.params and i not in self.constants and i not in self.storage.base]
-        return {self.local_names[i]: self.shapes.member(self.types[i], self.local_names[i])[:-1] for i in own}
+        return {self.local_names[i]: self.shapes.member(self.types[i], self.local_names[i])[:-1] for i in self.own_locals()}
+
+    def own_locals(self):
+        return [i for i in sorted(self.used) if not 0 < i <= self.function.params and i not in self.constants and i not in self.storage.base]
+
+    def is_roomy(self):
+        """It has large locals."""
+        return any(self.program.size(self.types[i]) > LARGE for i in self.own_locals())
 
     # ---- statements
 
@@ -172,7 +183,7 @@ class Body(Values):
         if symbol in self.program.tables:
             e = Expr(self.program.tables[symbol], callee.types[0])
         else:
-            texts = ', '.join(self.convert(a, t).text for a, t in zip(arguments, callee.types[1:]))
+            texts = ', '.join(self.argument(a, k, callee) for k, a in enumerate(arguments, 1))
             e = mixed(Expr(f'{c_name(symbol)}({texts})', callee.types[0], 'calls'), *arguments)
         if callee.types[0] == ('unit',):
             self.flush()
@@ -181,6 +192,19 @@ class Body(Values):
             refuse('the result of a call to a part', s)
         else:
             self.assign(place, self.convert(e, self.types[place.local]))
+
+    def argument(self, e, k, callee):
+        """e as the k-th argument of a call. A lent one is a pointer: to a local that only the caller can change, which waits for the call.
+        Any other value gets such a local in the next round."""
+        e = self.convert(e, callee.types[k])
+        if k not in self.program.storage[callee.symbol].lent:
+            return e.text
+        if e.own_place:
+            return e.text[1:] if e.text[0] == '*' else '&' + e.inner()
+        if not e.own:
+            refuse('a part of memory as an argument,', e.text)
+        self.keep(e)
+        return e.text
 
     def is_large(self, s):
         return s[0] == 'call' and self.program.storage[s[1]].large and s[1] not in self.program.tables
@@ -192,13 +216,13 @@ class Body(Values):
             refuse('the result of a call to a part', s)
         to = self.place(s[3])
         own = arguments[storage.owned - 1] if storage.owned else None
-        rest = [(a, t) for k, (a, t) in enumerate(zip(arguments, callee.types[1:]), 1) if k != storage.owned]
-        if self.may_reach(s, to, own, [a for a, _ in rest], targets):
+        rest = [(k, a) for k, a in enumerate(arguments, 1) if k != storage.owned]
+        if self.may_reach(s, to, own, [a for _, a in rest], targets):
             refuse('the result of a call to a place that the call may reach', s)
         self.flush()
         if own and own.text != to.text:
             self.lines.put(f'{to.text} = {self.convert(own, callee.types[storage.owned]).text};')
-        texts = [to.text[1:] if to.text[0] == '*' else '&' + to.text] + [self.convert(a, t).text for a, t in rest]
+        texts = [to.text[1:] if to.text[0] == '*' else '&' + to.text] + [self.argument(a, k, callee) for k, a in rest]
         self.lines.put(f'{c_name(callee.symbol)}({", ".join(texts)});')
 
     def may_reach(self, s, to, own, rest, targets):

@@ -1,9 +1,10 @@
 """Which large values need no copy of their own. C compilers do not see most of this, and on a small machine it is most of the stack.
 
-Everything here only saves copies: with LARGE above every size the translation is right as well, and the tests run it that way too."""
+Everything here only saves copies: with LARGE and LENT above every size the translation is right as well, and the tests run it that way too."""
 from mir import bodies, mentions, places, target, whole
 
 LARGE = 64  # bytes: a larger result is written through a pointer
+LENT = 16  # bytes: a larger parameter that nothing changes is passed as a pointer
 
 
 class Storage:
@@ -14,7 +15,8 @@ class Storage:
     owned  the number of the parameter that the result is made from: the caller puts it at `result`
     base   locals that only become the result, or a field of it: they lie there from the start
     same   locals that are one with another
-    free   the statements after which a value that was moved lies in the place of its source"""
+    free   the statements after which a value that was moved lies in the place of its source
+    lent   parameters that come as a `const` pointer, to a local of the caller that nobody changes during the call"""
 
     def __init__(self, program, function):
         self.program, self.function = program, function
@@ -26,6 +28,7 @@ class Storage:
         if self.large:
             self.base[0] = '*result'
             self.place_result()
+        self.lent = {i for i in range(1, function.params + 1) if self.is_lent(i)}
 
     def local(self, i):
         while i in self.same:
@@ -83,6 +86,19 @@ class Storage:
             if new <= found:
                 return found
             found |= new
+
+    def is_lent(self, i):
+        """A parameter that nothing here writes and whose address nobody takes can be lent. It pays where the function stays one in C, or hands
+        the parameter on to one that does: what is small or called once, compilers put into the caller, and a copy there costs nothing."""
+        f, program = self.function, self.program
+        if f.types[i][0] not in ('named', 'array') or program.size(f.types[i]) <= LENT or f.in_memory[i] or i in self.base:
+            return False
+        if any(target(s) and target(s).local == i for s in f.statements):
+            return False
+        calls = [s for s in f.statements if s[0] == 'call']
+        if calls and program.sites[f.symbol] > 1:
+            return True
+        return any(whole(s[2][k - 1]) == i for s in calls for k in program.storage[s[1]].lent)
 
     def takes_address(self, s, i):
         return s[0] == 'assign' and s[2][0] == 'addrOf' and self.local(s[2][1].local) == i

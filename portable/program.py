@@ -1,9 +1,13 @@
 """The whole C file: which functions, in which order, and what stands at its top."""
+import collections
+
 import returns
+from apart import APART, apart
 from body import Body
 from copies import LARGE, Storage
+from idioms import copy, table
 from layout import comment
-from mir import calls, refuse, whole
+from mir import calls, refuse
 from shapes import Shapes, c_name
 from sources import exports
 
@@ -32,6 +36,7 @@ class Program:
         self.shapes = Shapes(declared, sources)
         self.size, self.holds_pointer = self.shapes.size, self.shapes.holds_pointer
         self.storage, self.helpers = {}, set()
+        self.sites = collections.Counter()  # symbol: how many calls of it there are
         self.tables = {}  # symbol of a function that gives an array of constants: the array's C name
 
     def exported(self, crate, name):
@@ -61,31 +66,31 @@ class Program:
         names = [c_name(symbol) for symbol in order]
         if len(set(names)) != len(names):
             refuse('two functions of one C name', sorted(names))
-        return [self.functions[symbol] for symbol in order]
+        reached = [self.functions[symbol] for symbol in order]
+        self.sites = collections.Counter(symbol for function in reached for symbol in calls(function))
+        return reached
 
     def text(self, header, head):
         """The file. header is the C header that declares the entries, head the comment at its top."""
-        texts = []
+        bodies, texts = {}, {}
         for function in self.reached():
             if self.size(function.types[0]) <= LARGE:  # of larger results copies.py wants one place that returns
                 returns.early(function)
             self.storage[function.symbol] = Storage(self, function)
-            text = self.table(function) or Body(self, function).text()
-            texts.append(comment(self.sources.comments.get(function.symbol)) + text)
-        top = f'#include "{header}"\n\n#include <stdbool.h>\n#include <stddef.h>\n#include <stdint.h>'
+            texts[function.symbol] = self.idiom(function)
+            if not texts[function.symbol]:
+                bodies[function.symbol] = Body(self, function)
+                bodies[function.symbol].translate()
+        kept = apart(self, bodies)
+        texts.update({symbol: body.text(symbol in kept) for symbol, body in bodies.items()})
+        top = f'#include "{header}"\n\n' + '\n'.join(f'#include <{name}.h>' for name in ('stdbool', 'stddef', 'stdint', 'string'))
         types = list(self.shapes.definitions.values()) + list(self.shapes.makers.values())
-        return '\n\n'.join([head, top, MAKE] + types + sorted(self.helpers) + texts) + '\n'
+        code = [comment(self.sources.comments.get(symbol)) + text for symbol, text in texts.items()]
+        return '\n\n'.join([head, top, MAKE, APART] + types + sorted(self.helpers) + code) + '\n'
 
-    def table(self, function):
-        """A function that only gives an array of constants is that array, in read-only memory."""
-        body = function.body
-        if function.params or len(body) != 2 or body[0][0] != 'assign' or whole(body[0][1]) != 0 or body[0][2][0] != 'aggregate':
-            return None
-        values, type_ = body[0][2][1], function.types[0]
-        if type_[0] != 'array' or any(v[0] != 'int' for v in values) or len(values) != type_[2]:
-            return None
-        self.tables[function.symbol] = c_name(function.symbol)
-        numbers = [f'0x{v[2]:0{v[1] // 4}X}u' if v[1] < 64 else f'UINT64_C(0x{v[2]:016X})' for v in values]
-        row = {8: 16, 16: 12, 32: 8, 64: 4}[values[0][1]]
-        rows = ',\n    '.join(', '.join(numbers[i:i + row]) for i in range(0, len(numbers), row))
-        return f'static const {self.shapes.c_type(type_)} {c_name(function.symbol)} = {{ {{\n    {rows}\n}} }};'
+    def idiom(self, function):
+        """The text of a function that C says in a form of its own."""
+        text = table(function, self.shapes)
+        if text:
+            self.tables[function.symbol] = c_name(function.symbol)
+        return text or copy(function, self.shapes)

@@ -124,7 +124,7 @@ class Shapes:
         if t[0] == 'named':
             kind, rows = self.declared[t[1]]
             return max((sum(map(self.size, row)) for row in ([rows] if kind == 'fields' else rows)), default=0)
-        return t[1] // 8 if t[0] == 'int' else t[2] * self.size(t[1]) if t[0] == 'array' else 8
+        return t[1] // 8 if t[0] == 'int' else 1 if t[0] == 'bool' else t[2] * self.size(t[1]) if t[0] == 'array' else 8
 
     def holds_pointer(self, t):
         if t[0] == 'named':

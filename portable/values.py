@@ -87,9 +87,10 @@ class Values:
             if i in self.candidates and self.kept_in.get((i, self.made[i])) is not self.here:
                 self.spoilt.add(i)
             self.used.add(i)
-            text = self.storage.base.get(i) or self.constants.get(i) or self.local_names[i]
+            name = ('*' if i in self.storage.lent else '') + self.local_names[i]
+            text = self.storage.base.get(i) or self.constants.get(i) or name
             shared = self.function.in_memory[i] or i in self.storage.base
-            at = Expr(text, self.types[i], 'reads' if shared else 'stable', text[0] != '*')
+            at = Expr(text, self.types[i], 'reads' if shared else 'stable', text[0] != '*', own_place=not self.function.in_memory[place.local])
         for step in place.steps:
             at = mixed(self.through(at, step[1]) if step[0] == 'deref' else self.inside(at, step), at)
         return at
@@ -104,9 +105,9 @@ class Values:
     def inside(self, at, step):
         text, type_ = self.step(at.type, step)
         if not text:
-            return Expr(at.text, type_, at.kind, at.atom, address=at.address)
+            return Expr(at.text, type_, at.kind, at.atom, address=at.address, own_place=at.own_place)
         text = f'{at.text[1:]}->{text[1:]}' if at.text[0] == '*' else at.inner() + text
-        return Expr(text, type_, at.kind, address=at.address)
+        return Expr(text, type_, at.kind, address=at.address, own_place=at.own_place)
 
     def operand(self, operand):
         if operand[0] == 'copy':
