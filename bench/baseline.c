@@ -2,7 +2,7 @@
 
 #include <string.h>
 
-enum { TIMEOUT = 2000000 }; /* microseconds */
+enum { TIMEOUT = 2000000, SWITCH_DELAY = 1000000 }; /* microseconds */
 
 /* ---- the checksum ---- */
 
@@ -79,7 +79,7 @@ static struct baseline_stream *find(struct baseline *r, uint32_t key)
 }
 
 /* The new stream expects the transfer that starts it. */
-static struct baseline_stream *add(struct baseline *r, uint32_t key, uint8_t transfer_id, uint64_t time)
+static struct baseline_stream *add(struct baseline *r, uint32_t key, uint8_t transfer_id, uint8_t interface_number, uint64_t time)
 {
     baseline_link b = get_block(r);
     if (b == 0)
@@ -88,6 +88,7 @@ static struct baseline_stream *add(struct baseline *r, uint32_t key, uint8_t tra
     memset(s, 0, sizeof *s);
     s->key = key;
     s->expected = transfer_id;
+    s->follows = interface_number;
     s->time = time;
     s->next = r->streams;
     r->streams = b;
@@ -140,7 +141,7 @@ struct part {
     uint64_t signature; /* of a start that is wanted */
     const uint8_t *bytes;
     size_t length;
-    uint8_t transfer_id;
+    uint8_t transfer_id, interface_number;
     bool start, end, toggle;
 };
 
@@ -173,25 +174,33 @@ static struct baseline_stream *stream_of(struct baseline *r, struct part *p)
         return NULL;
     struct baseline_stream *s = find(r, key_of(&p->route));
     if (s == NULL && p->start)
-        s = add(r, key_of(&p->route), p->transfer_id, p->time);
+        s = add(r, key_of(&p->route), p->transfer_id, p->interface_number, p->time);
     return s;
 }
 
-/* Whether the frame is the one that the stream waits for, after a restart where the transport asks for one (RULES 4.5). */
+/* RULES 4.5 */
+static bool restarts(const struct baseline_stream *s, const struct part *p)
+{
+    uint64_t age = p->time - s->time;
+    bool other = p->interface_number == s->follows && ((s->expected - p->transfer_id) & 31) > 1;
+    bool late = age > SWITCH_DELAY && ((p->transfer_id - s->expected) & 31) < 16;
+    return age > TIMEOUT || (p->start && (other || late));
+}
+
+/* Whether the frame is the one that the stream waits for, after a restart where the transport asks for one. */
 static bool expected(struct baseline *r, struct baseline_stream *s, const struct part *p)
 {
-    bool old = p->time - s->time > TIMEOUT;
-    bool other = ((s->expected - p->transfer_id) & 31) > 1;
-    if (old || (p->start && other)) {
+    if (restarts(s, p)) {
         drop_payload(r, s);
         s->toggle = false;
+        s->follows = p->interface_number;
         s->expected = p->transfer_id;
         if (!p->start) {
             s->expected = (s->expected + 1) & 31;
             return false;
         }
     }
-    return p->toggle == s->toggle && p->transfer_id == s->expected;
+    return p->interface_number == s->follows && p->toggle == s->toggle && p->transfer_id == s->expected;
 }
 
 static void hand_out_frame(struct baseline *r, const struct part *p)
@@ -252,11 +261,11 @@ static void receive_part(struct baseline *r, struct part *p)
     }
 }
 
-void baseline_receive(struct baseline *r, uint32_t id, const uint8_t *frame, size_t length, uint64_t time)
+void baseline_receive(struct baseline *r, uint32_t id, const uint8_t *frame, size_t length, uint8_t interface_number, uint64_t time)
 {
     if (id >> 29 != 0 || length < 1 || length > 8)
         return;
-    struct part p = {route_of(id), time, 0, frame, length - 1, 0, false, false, false};
+    struct part p = {route_of(id), time, 0, frame, length - 1, 0, interface_number, false, false, false};
     if (p.route.kind != BASELINE_MESSAGE && p.route.destination != r->own)
         return;
     uint8_t tail = frame[length - 1];

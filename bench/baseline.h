@@ -46,6 +46,7 @@ struct baseline_stream {
     uint16_t sent; /* the checksum that came */
     uint16_t crc;  /* the checksum so far */
     uint8_t expected;
+    uint8_t follows; /* interface */
     bool toggle;
 };
 
@@ -82,7 +83,7 @@ struct baseline {
 
 void baseline_init(struct baseline *r, uint8_t own, baseline_accept *accept, baseline_handed_out *handed_out, void *user);
 
-void baseline_receive(struct baseline *r, uint32_t id, const uint8_t *frame, size_t length, uint64_t time);
+void baseline_receive(struct baseline *r, uint32_t id, const uint8_t *frame, size_t length, uint8_t interface_number, uint64_t time);
 
 /* Writes the payload into one buffer and gives its length. */
 size_t baseline_copy(const struct baseline *r, const struct baseline_transfer *transfer, uint8_t *out);

@@ -50,6 +50,7 @@ size_t make_transfer(const struct type *type, unsigned source, unsigned turn, un
         memcpy(f[n].data, bytes + at, part);
         f[n].data[part] = (uint8_t)((start ? 128 : 0) | (end ? 64 : 0) | (n & 1) << 5 | turn % 32);
         f[n].length = (uint8_t)(part + 1);
+        f[n].interface_number = 0;
         f[n].id = (uint32_t)FRAME_PRIORITY << 24 | type->type_id << 8 | source;
         at += part;
     }

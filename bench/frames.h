@@ -22,12 +22,13 @@ struct frame {
     uint32_t id;
     uint8_t length;
     uint8_t data[8];
+    uint8_t interface_number; /* that it comes by */
 };
 
 /* A byte of the payload that a node sends at its turn. */
 uint8_t payload_byte(unsigned source, unsigned turn, unsigned i);
 
-/* The frames of a message of that type, with the turn as transfer ID; gives their number, at most TECELUME_FRAMES_MAX. */
+/* The frames of a message of that type, with the turn as transfer ID, by interface 0; gives their number, at most TECELUME_FRAMES_MAX. */
 size_t make_transfer(const struct type *type, unsigned source, unsigned turn, unsigned length, struct frame *f);
 
 double nanoseconds(void);

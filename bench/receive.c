@@ -5,9 +5,12 @@
  * flat buffer: the baseline's copy out of its chunks is part of its figure. All memory is warm, nothing is cleared between frames:
  * state and pool are set up once a row, the output buffer keeps the last payload.
  *
+ * In the row of two cables each frame comes a second time by the other interface, and must not be handed out again.
+ *
  * The rows leave out: services, anonymous frames, refused and repeated frames, new and old sessions (every stream has one from the
- * first round on), the driver and the decoding of messages. What the baseline does not do at all is said in baseline.h; above all it
- * has no check of its own state (20), which the last rows show alone: a frame that is refused right after that check, by its ID. */
+ * first round on), a switch to another interface, the driver and the decoding of messages. What the baseline does not do at all is said
+ * in baseline.h; above all it has no check of its own state (20), which the last rows show alone: a frame that is refused right after
+ * that check, by its ID. */
 #include <stdbool.h>
 #include <stdio.h>
 
@@ -18,7 +21,7 @@
 #ifndef ROUNDS /* fewer where a run is an emulated one and each is like the other */
 #define ROUNDS 101
 #endif
-enum { STEP = 100, OWN = 1, FIRST_SOURCE = 10, ROW_FRAMES_MAX = 20000, REFUSED = 10000 };
+enum { STEP = 100, OWN = 1, FIRST_SOURCE = 10, ROW_FRAMES_MAX = 21000, REFUSED = 10000 };
 
 /* ---- the frames of a row ---- */
 
@@ -28,12 +31,14 @@ struct row {
     unsigned sources;
     unsigned length; /* of a payload */
     unsigned turns;  /* transfers of each source, a multiple of 32, so that the frames can be given again and again */
+    unsigned cables; /* that carry each frame */
 };
 
 static const struct row rows[] = {
-    {"NodeStatus, 20 sources", NODE_STATUS, 20, 7, 512},
-    {"64 bytes, 8 sources interleaved", LOG_MESSAGE, 8, 64, 128},
-    {"512 bytes, 8 sources interleaved", LOG_MESSAGE, 8, 512, 32},
+    {"NodeStatus, 20 sources", NODE_STATUS, 20, 7, 512, 1},
+    {"64 bytes, 8 sources interleaved", LOG_MESSAGE, 8, 64, 128, 1},
+    {"512 bytes, 8 sources interleaved", LOG_MESSAGE, 8, 512, 32, 1},
+    {"NodeStatus, 20 sources, two cables", NODE_STATUS, 20, 7, 512, 2},
 };
 
 enum { ROWS = sizeof rows / sizeof rows[0] };
@@ -50,9 +55,11 @@ static void make_frames(const struct row *row)
         size_t per = 0;
         for (unsigned s = 0; s < row->sources; s++)
             per = make_transfer(&types[row->type], FIRST_SOURCE + s, turn, row->length, transfer[s]);
-        for (size_t n = 0; n < per; n++)
-            for (unsigned s = 0; s < row->sources; s++)
-                frames[frame_count++] = transfer[s][n];
+        for (size_t n = 0; n < per * row->sources * row->cables; n++) {
+            struct frame *f = &frames[frame_count++];
+            *f = transfer[n / row->cables % row->sources][n / row->cables / row->sources];
+            f->interface_number = (uint8_t)(n % row->cables);
+        }
     }
 }
 
@@ -73,7 +80,7 @@ static bool tecelume_begin(void)
 /* The length of the payload handed out, -1 if the frame hands out none. */
 static int tecelume_feed(const struct frame *f, uint64_t time)
 {
-    tecelume_result result = tecelume_receive(state, sizeof state, f->id, f->data, f->length, time, out, sizeof out);
+    tecelume_result result = tecelume_receive(state, sizeof state, f->id, f->data, f->length, f->interface_number, time, out, sizeof out);
     return tecelume_number(result) == TECELUME_HANDED_OUT ? (int)tecelume_length(result) : -1;
 }
 
@@ -100,7 +107,7 @@ static bool baseline_begin(void)
 static int baseline_feed(const struct frame *f, uint64_t time)
 {
     baseline_length = -1;
-    baseline_receive(&baseline, f->id, f->data, f->length, time);
+    baseline_receive(&baseline, f->id, f->data, f->length, f->interface_number, time);
     return baseline_length;
 }
 
@@ -156,7 +163,7 @@ static bool is_right(const struct side *side, const struct row *row)
         unsigned ended = 0;
         for (size_t i = 0; i < frame_count; i++) {
             const struct frame *f = &frames[i];
-            bool end = f->data[f->length - 1] >> 6 & 1;
+            bool end = f->interface_number == 0 && (f->data[f->length - 1] >> 6 & 1);
             int length = side->feed(f, time += STEP);
             if (end ? !is_payload(row, f, ended / row->sources, length) : length >= 0)
                 return false;
@@ -199,8 +206,10 @@ static bool measure_check(double *best)
     tecelume_run(0);
     for (int round = 0; round < ROUNDS; round++) {
         double from = nanoseconds();
-        for (int i = 0; i < REFUSED; i++)
-            right &= tecelume_number(tecelume_receive(state, sizeof state, 1u << 29, &tail, 1, 0, out, sizeof out)) == TECELUME_ID_TOO_LARGE;
+        for (int i = 0; i < REFUSED; i++) {
+            tecelume_result result = tecelume_receive(state, sizeof state, 1u << 29, &tail, 1, 0, 0, out, sizeof out);
+            right &= tecelume_number(result) == TECELUME_ID_TOO_LARGE;
+        }
         double took = (nanoseconds() - from) / REFUSED;
         if (took < *best)
             *best = took;

@@ -1,4 +1,4 @@
-/* Tecelume 0.1.0: UAVCAN v0 (DroneCAN) transfers from CAN 2.0B frames, and frames from transfers. For C99 and later, and C++11 and later.
+/* Tecelume 0.2.0: UAVCAN v0 (DroneCAN) transfers from CAN 2.0B frames, and frames from transfers. For C99 and later, and C++11 and later.
  *
  * The functions are in libtecelume.a, which is for x86-64 Linux only, and in tecelume.c, the same library as one file of portable C. This
  * header goes with both. At the start of your program compare tecelume_version() with TECELUME_VERSION.
@@ -37,7 +37,7 @@ extern "C" {
 /* ---- version ---- */
 
 #define TECELUME_VERSION_MAJOR 0
-#define TECELUME_VERSION_MINOR 1
+#define TECELUME_VERSION_MINOR 2
 #define TECELUME_VERSION_PATCH 0
 #define TECELUME_VERSION (TECELUME_VERSION_MAJOR * 0x10000u + TECELUME_VERSION_MINOR * 0x100u + TECELUME_VERSION_PATCH)
 
@@ -61,6 +61,7 @@ uint32_t tecelume_version(void);
 #define TECELUME_SUBSCRIPTIONS_MAX 64
 #define TECELUME_SESSIONS_MAX 32     /* streams that a receiver follows at once */
 #define TECELUME_MAP_ENTRIES_MAX 32  /* topics that a map counts at once */
+#define TECELUME_INTERFACES 3        /* buses that carry the same transfers; a frame comes by interface 0, 1 or 2 */
 #define TECELUME_PAYLOAD_MAX 512
 #define TECELUME_FRAMES_MAX 74       /* what a payload of that length is sent as */
 
@@ -83,20 +84,22 @@ uint32_t tecelume_version(void);
  *       send: out has under TECELUME_SEND_SIZE(payload_len) bytes                the same
  *   9   receive: start of a new stream, 32 sessions in use and none is old       subscribe to less; a later start may be taken
  *       send: new topic, 32 entries in use, none unused for 2,000,000 or more    use fewer topics, or call again later
- *  10   receive: passed over. A repeat; a part of a transfer whose start or an   nothing; if it is often, frames are lost or two
- *       earlier frame was missed; the rest of a transfer that 11 dropped         nodes have the same ID
+ *  10   receive: passed over. A repeat; a part of a transfer whose start or an   nothing; if it is often on one cable, frames are
+ *       earlier frame was missed; the rest of a transfer that 11 dropped; a      lost or two nodes have the same ID
+ *       frame by another interface than the one that its stream follows
  *  11   receive: payload over 512 bytes; the transfer is dropped                 nothing: too long for this library
  *       send: payload over 512 bytes                                             send less
  *  12   receive: the checksum differs; the transfer is dropped                   nothing; if always for one type, correct its
  *                                                                                signature
  *  13   setup: own ID or subscriptions not allowed                               correct the arguments
  *  14   send: a value out of range, or an anonymous transfer that cannot be      correct the arguments
+ *  19   receive: interface number of 3 or more                                   number your interfaces from 0; with one, give 0
  *  20   setup: state or map too short                                            lend more
  *       receive, send: state or map too short, or it holds a value out of        set it up again, and look for what wrote over it
  *       range, toggle 1 with nothing gathered, or two like entries
  *
- * Under 2 to 9, 13, 14 and 20 a call leaves state or map and out byte for byte as they were. Under 10, 11 and 12 tecelume_receive leaves
- * out as it was and changes at most the session of the frame's stream; a tecelume_send that answers 11 changes nothing. */
+ * Under 2 to 9, 13, 14, 19 and 20 a call leaves state or map and out byte for byte as they were. Under 10, 11 and 12 tecelume_receive
+ * leaves out as it was and changes at most the session of the frame's stream; a tecelume_send that answers 11 changes nothing. */
 enum tecelume_answer {
     TECELUME_SUCCESS = 0, /* of setup and sending */
     TECELUME_TAKEN = 0,   /* of tecelume_receive */
@@ -114,10 +117,11 @@ enum tecelume_answer {
     TECELUME_CHECKSUM_DIFFERS = 12,
     TECELUME_SETUP_REFUSED = 13,
     TECELUME_NOT_SENDABLE = 14,
+    TECELUME_NO_INTERFACE = 19,
     TECELUME_STATE_FAULT = 20
 };
 
-/* One line for each number up to 20, those of calls that are not in this header included. 19 is not in use. */
+/* One line for each number up to 20, those of calls that are not in this header included. */
 static inline const char *tecelume_text(uint32_t number)
 {
     switch (number) {
@@ -140,6 +144,7 @@ static inline const char *tecelume_text(uint32_t number)
     case 16: return "bytes or items too many";
     case 17: return "value not allowed";
     case 18: return "log line not well formed";
+    case 19: return "interface number of 3 or more";
     case 20: return "state or map too short or at fault";
     default: return "unknown number";
     }
@@ -221,8 +226,9 @@ uint32_t tecelume_setup(uint8_t *state, size_t state_len, uint32_t own, const ui
  *
  * A 32-bit timer of microseconds runs back when it wraps, after 71 minutes. What was stored before the wrap has age 0 for up to 71 minutes
  * after it, and what was stored in the last two seconds before it never grows old; for a stream this ends with its next start that is
- * taken, for a topic with its next send. Until then they keep their places, so that new streams and topics may answer 9, and a start with
- * the transfer ID of the stream's last transfer is passed over, however late it comes. Count the wraps, and give the time in 64 bits. */
+ * taken, for a topic with its next send. Until then they keep their places, so that new streams and topics may answer 9, a start with the
+ * transfer ID of the stream's last transfer is passed over, however late it comes, and a stream whose cable has failed is not heard by
+ * another one. Count the wraps, and give the time in 64 bits. */
 
 /* ---- reception ---- */
 
@@ -234,31 +240,47 @@ uint32_t tecelume_setup(uint8_t *state, size_t state_len, uint32_t own, const ui
  * There are TECELUME_SESSIONS_MAX sessions. So if 40 nodes send a message each second, 32 of them are heard, and the frames of the other 8
  * answer 9. */
 
+/* ---- interfaces ---- */
+
+/* A node may be on up to TECELUME_INTERFACES buses, each with a cable of its own, that carry the same transfers. A frame comes with the
+ * number of the interface that it came by, 0 to 2. A node with one cable gives 0 with every frame.
+ *
+ * A session follows the interface of the start that it began with, and frames of its stream by another one are passed over (RULES 4.5,
+ * 4.6): so a transfer that comes by all cables is handed out once. The session switches when a start comes by another interface more than
+ * 1,000,000 microseconds after the last start taken, at exactly 1,000,000 not yet, if the start has the transfer ID that is expected next
+ * or one of the 15 after it; the session then begins anew with that start. An old session follows the interface of the next frame of its
+ * stream. So a stream whose cable fails is heard again by another: not in the second after the last start taken, and at the latest from
+ * its first start after two seconds. An anonymous message has no session and is handed out as often as it comes, by each interface.
+ *
+ * On one cable all is as in version 0.1 but for one thing. A start that repeats the transfer ID in hand more than 1,000,000 microseconds
+ * after the start that was taken begins the transfer anew, and answers 0 (1, if it is a single frame); version 0.1 passed it over. */
+
 /* Receives one frame as a result word (RULES 13.3), for callers in other languages. C programs call tecelume_receive. */
-uint64_t tecelume_receive_word(uint8_t *state, size_t state_len, uint32_t id, const uint8_t *frame, size_t frame_len, uint64_t time,
-                               uint8_t *out, size_t out_len);
+uint64_t tecelume_receive_word(uint8_t *state, size_t state_len, uint32_t id, const uint8_t *frame, size_t frame_len,
+                               uint32_t interface_number, uint64_t time, uint8_t *out, size_t out_len);
 
 /* Receives one frame.
  *
- * Takes    state  as setup and earlier calls left it
- *          id     the 29-bit CAN ID without flags. Leave out remote frames, error frames and frames with an 11-bit ID, as no call can tell
- *                 them from others. From SocketCAN: can_id & CAN_EFF_MASK of the frames in which, of CAN_EFF_FLAG, CAN_RTR_FLAG and
- *                 CAN_ERR_FLAG, only CAN_EFF_FLAG is set
- *          frame  the data bytes, the tail byte last
- *          time   when the frame came, in microseconds: see above
- *          out    at least TECELUME_OUTPUT_SIZE bytes at every frame, as each may complete a transfer
+ * Takes    state             as setup and earlier calls left it
+ *          id                the 29-bit CAN ID without flags. Leave out remote frames, error frames and frames with an 11-bit ID, as no
+ *                            call can tell them from others. From SocketCAN: can_id & CAN_EFF_MASK of the frames in which, of
+ *                            CAN_EFF_FLAG, CAN_RTR_FLAG and CAN_ERR_FLAG, only CAN_EFF_FLAG is set
+ *          frame             the data bytes, the tail byte last
+ *          interface_number  which interface the frame came by, 0 to 2; 0 if there is one only: see above
+ *          time              when the frame came, in microseconds: see above
+ *          out               at least TECELUME_OUTPUT_SIZE bytes at every frame, as each may complete a transfer
  * Gives    a result, to be read by the functions above and below.
  *          1: the payload is at the front of out, bytes after it stay. The result also says whose it is.
  *          0: the frame was taken and its transfer goes on.
- * Refuses  20; then the first match of 2 to 8 (RULES 4.1); then 9 (4.3), 10 (4.5, 4.6), 11 and 12 (4.8). All leave out as it was, and so
- *          does 0.
+ * Refuses  20; then the first match of 2, 3, 19 and 4 to 8 (RULES 4.1); then 9 (4.3), 10 (4.5, 4.6), 11 and 12 (4.8). All leave out as it
+ *          was, and so does 0.
  * Costs    the check for 20, which grows with the subscriptions and sessions in use; a look at the session; the checksum, once, at the
  *          end of a transfer of several frames. In libtecelume.a at most 3072 bytes of stack, besides what memcpy and its like take. */
 static inline tecelume_result tecelume_receive(uint8_t *state, size_t state_len, uint32_t id, const uint8_t *frame, size_t frame_len,
-                                               uint64_t time, uint8_t *out, size_t out_len)
+                                               uint32_t interface_number, uint64_t time, uint8_t *out, size_t out_len)
 {
     tecelume_result result;
-    result.word = tecelume_receive_word(state, state_len, id, frame, frame_len, time, out, out_len);
+    result.word = tecelume_receive_word(state, state_len, id, frame, frame_len, interface_number, time, out, out_len);
     return result;
 }
 
@@ -329,7 +351,7 @@ uint64_t tecelume_send_word(uint8_t *map, size_t map_len, uint32_t own, uint32_t
                             uint32_t priority, const uint8_t *payload, size_t payload_len, uint64_t signature, uint64_t time,
                             uint32_t transfer_id, uint32_t discriminator, uint8_t *out, size_t out_len);
 
-/* Turns a payload into the frames of a transfer. It puts nothing on a bus.
+/* Turns a payload into the frames of a transfer. It puts nothing on a bus; a node on several puts the same frames on each.
  *
  * Takes    map            as setup and earlier sends left it
  *          own            the own node ID, 1 to 127, or 0 to send anonymously: then a message of type 0 to 3 with at most 7 bytes

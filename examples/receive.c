@@ -30,7 +30,7 @@ static const struct frame frames[] = {
     {1485, 0x1E000101, 6, {0x11, 0xA8, 0xBA, 0x54, 0x47, 0x42}},
 };
 
-enum { FRAMES = sizeof frames / sizeof frames[0], TYPES = 5, OWN_ID = 1 };
+enum { FRAMES = sizeof frames / sizeof frames[0], TYPES = 5, OWN_ID = 1, ONLY_CABLE = 0 };
 
 /* The whole memory of the receiver, and the room for a payload. Static, since the state is too large for a small stack. */
 static uint8_t state[TECELUME_RECEIVER_SIZE];
@@ -85,7 +85,8 @@ static void print_transfer(tecelume_result result)
 static void receive(const struct frame *f)
 {
     uint64_t microseconds = (uint64_t)f->milliseconds * 1000;
-    tecelume_result result = tecelume_receive(state, sizeof state, f->id, f->data, f->length, microseconds, payload, sizeof payload);
+    tecelume_result result =
+        tecelume_receive(state, sizeof state, f->id, f->data, f->length, ONLY_CABLE, microseconds, payload, sizeof payload);
     uint32_t number = tecelume_number(result);
     print_frame(f);
     printf("    %u, %s\n", (unsigned)number, tecelume_text(number));

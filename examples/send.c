@@ -9,7 +9,7 @@
 
 #include "tecelume.h"
 
-enum { SENDER_ID = 42, RECEIVER_ID = 1, NODE_STATUS = 341, KEY_VALUE = 16370 };
+enum { SENDER_ID = 42, RECEIVER_ID = 1, NODE_STATUS = 341, KEY_VALUE = 16370, ONLY_CABLE = 0 };
 
 /* The whole memory of a sender and of a receiver, and the room for the frames and the payload of the longest transfer. */
 static uint8_t map[TECELUME_MAP_SIZE];
@@ -53,7 +53,7 @@ static void carry(const uint8_t *record, uint64_t time)
     uint32_t id = tecelume_record_id(record);
     const uint8_t *data = tecelume_record_data(record);
     size_t length = tecelume_record_length(record);
-    tecelume_result result = tecelume_receive(state, sizeof state, id, data, length, time, payload, sizeof payload);
+    tecelume_result result = tecelume_receive(state, sizeof state, id, data, length, ONLY_CABLE, time, payload, sizeof payload);
     uint32_t number = tecelume_number(result);
     printf("%08X", (unsigned)id);
     print_bytes(data, length);

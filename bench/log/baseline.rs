@@ -4,6 +4,7 @@
 use std::io::{Read, Write};
 
 const OLD: u64 = 2_000_000;
+const SWITCH: u64 = 1_000_000;
 /// The signatures that the program `signatures` works out, in the order of its lines.
 const SIGNATURES: [u64; 5] = signatures(include_bytes!("../../crates/signatures/stdout"));
 const SUBSCRIPTIONS: [(bool, u16, u64); 5] = [
@@ -154,8 +155,11 @@ impl Receiver {
             }
         };
         let s = &mut self.sessions[place];
-        let old = time.saturating_sub(s.time) > OLD;
-        if old || start && s.expected.wrapping_sub(transfer) & 31 > 1 {
+        let age = time.saturating_sub(s.time);
+        // all frames come by interface 0
+        let other = s.expected.wrapping_sub(transfer) & 31 > 1;
+        let late = age > SWITCH && transfer.wrapping_sub(s.expected) & 31 < 16;
+        if age > OLD || start && (other || late) {
             (s.len, s.toggle, s.expected) = (0, false, transfer);
             if !start {
                 s.expected = (transfer + 1) & 31;

@@ -18,6 +18,7 @@
 #include <linux/can.h>
 #include <linux/can/raw.h>
 #include <net/if.h>
+#include <poll.h>
 #include <string.h>
 #include <sys/socket.h>
 #include <time.h>
@@ -48,18 +49,35 @@ static uint64_t microseconds(void)
     return (uint64_t)t.tv_sec * 1000000 + (uint64_t)t.tv_nsec / 1000;
 }
 
-bool can_read(int socket_number, struct frame *f)
+int can_wait(const int *sockets, unsigned count, unsigned last)
+{
+    struct pollfd waiting[TECELUME_INTERFACES];
+    for (unsigned i = 0; i < count; i++) {
+        waiting[i].fd = sockets[i];
+        waiting[i].events = POLLIN;
+        waiting[i].revents = 0;
+    }
+    if (poll(waiting, count, -1) <= 0)
+        return -1;
+    unsigned i = last;
+    do
+        i = (i + 1) % count;
+    while (waiting[i].revents == 0);
+    return (int)i;
+}
+
+enum can_result can_read(int socket_number, struct frame *f)
 {
     struct can_frame c;
-    do {
-        if (read(socket_number, &c, sizeof c) != (ssize_t)sizeof c)
-            return false;
-    } while ((c.can_id & (CAN_EFF_FLAG | CAN_RTR_FLAG | CAN_ERR_FLAG)) != CAN_EFF_FLAG || c.can_dlc > sizeof f->data);
+    if (read(socket_number, &c, sizeof c) != (ssize_t)sizeof c)
+        return CAN_FAILED;
+    if ((c.can_id & (CAN_EFF_FLAG | CAN_RTR_FLAG | CAN_ERR_FLAG)) != CAN_EFF_FLAG || c.can_dlc > sizeof f->data)
+        return CAN_OTHER;
     f->time = microseconds();
     f->id = c.can_id & CAN_EFF_MASK;
     f->length = c.can_dlc;
     memcpy(f->data, c.data, f->length);
-    return true;
+    return CAN_DATA;
 }
 
 bool can_write(int socket_number, const struct frame *f)
@@ -81,11 +99,19 @@ int can_open(const char *interface_name)
     return -1;
 }
 
-bool can_read(int socket_number, struct frame *f)
+int can_wait(const int *sockets, unsigned count, unsigned last)
+{
+    (void)sockets;
+    (void)count;
+    (void)last;
+    return -1;
+}
+
+enum can_result can_read(int socket_number, struct frame *f)
 {
     (void)socket_number;
     (void)f;
-    return false;
+    return CAN_FAILED;
 }
 
 bool can_write(int socket_number, const struct frame *f)

@@ -1,11 +1,17 @@
-/* A gateway: node 1 of a bus, which tells of every NodeStatus on standard error and answers every GetNodeInfo request.
+/* A gateway: node 1 of a network with up to three buses that carry the same transfers. It tells of every NodeStatus on standard error and
+ * answers every GetNodeInfo request.
  *
- *     gateway               frames come as lines on standard input (line.h), frames to send go out as lines on standard output
- *     gateway INTERFACE     frames come from a CAN interface of Linux, frames to send go there as well
+ *     gateway                                frames come as lines on standard input (line.h), all by interface 0
+ *     gateway --lines FILE [FILE [FILE]]     frames come as lines of files or pipes, a file for each interface
+ *     gateway NAME [NAME [NAME]]             frames come from CAN interfaces of Linux
  *
- * It is built from the C files of this folder and libtecelume.a, as examples/run does. node.c has all that concerns the library;
- * traffic.input, traffic.sent and traffic.told hold a run over lines. */
+ * Interfaces are numbered in this order, from 0. A frame to send goes out as a line on standard output, and by every CAN interface.
+ *
+ * It is built from the C files of this folder and libtecelume.a, as examples/run does. node.c has all that concerns the library. A run over
+ * lines is in traffic.input, traffic.sent and traffic.told. Another is in cables.0, cables.1, cables.sent and cables.told: two pipes that
+ * carry the same frames, the first with a gap of two seconds. */
 #include <stdio.h>
+#include <string.h>
 
 #include "can.h"
 #include "line.h"
@@ -14,7 +20,8 @@
 enum { OWN_ID = 1, NO_BUS = -1 };
 
 static struct node node; /* static, since it is too large for a small stack */
-static int bus = NO_BUS;
+static int buses[TECELUME_INTERFACES];
+static unsigned bus_count;
 
 static void tell(void *self, uint32_t source, const struct node_status *s)
 {
@@ -29,17 +36,20 @@ static void send_frame(void *self, const struct frame *f)
     (void)self;
     line_write(f, line);
     fputs(line, stdout);
-    if (bus != NO_BUS && !can_write(bus, f))
-        perror("frame not sent");
+    for (unsigned i = 0; i < bus_count; i++)
+        if (buses[i] != NO_BUS && !can_write(buses[i], f))
+            perror("frame not sent");
 }
 
-/* One line without its line feed, of which only the first `room` bytes are kept; gives its whole length, -1 at the end of the input. An
+/* ---- lines ---- */
+
+/* One line without its line feed, of which only the first `room` bytes are kept; gives its whole length, -1 at the end of the file. An
  * unfinished line at the end is longer than any that is well formed. */
-static long read_line(char *line, long room)
+static long read_line(FILE *file, char *line, long room)
 {
     long length = 0;
     for (;;) {
-        int c = getchar();
+        int c = getc(file);
         if (c == '\n')
             return length;
         if (c == EOF)
@@ -51,28 +61,93 @@ static long read_line(char *line, long room)
     }
 }
 
-static void run_on_lines(void)
+/* The frame of the next line that is well formed; false at the end. */
+static bool read_frame(FILE *file, struct frame *f)
 {
     char line[LINE_MAX_LENGTH];
     long length;
-    while ((length = read_line(line, LINE_MAX_LENGTH)) >= 0) {
-        struct frame f;
-        if (length <= LINE_MAX_LENGTH && line_read(line, (size_t)length, &f))
-            node_receive(&node, &f);
-        else
-            fprintf(stderr, "a line that is not well formed\n");
+    while ((length = read_line(file, line, LINE_MAX_LENGTH)) >= 0) {
+        if (length <= LINE_MAX_LENGTH && line_read(line, (size_t)length, f))
+            return true;
+        fprintf(stderr, "a line that is not well formed\n");
+    }
+    return false;
+}
+
+/* Of the next lines of all files the one with the earliest time comes first, as it would from buses. */
+static void run_on_lines(FILE *const *files, unsigned count)
+{
+    struct frame next[TECELUME_INTERFACES];
+    bool there[TECELUME_INTERFACES];
+    for (unsigned i = 0; i < count; i++)
+        there[i] = read_frame(files[i], &next[i]);
+    for (;;) {
+        unsigned first = count;
+        for (unsigned i = 0; i < count; i++)
+            if (there[i] && (first == count || next[i].time < next[first].time))
+                first = i;
+        if (first == count)
+            return;
+        node_receive(&node, first, &next[first]);
+        there[first] = read_frame(files[first], &next[first]);
     }
 }
 
-static void run_on_bus(void)
+static bool open_files(char **names, unsigned count)
 {
-    struct frame f;
-    while (can_read(bus, &f)) {
-        node_receive(&node, &f);
-        fflush(stdout);
+    FILE *files[TECELUME_INTERFACES];
+    for (unsigned i = 0; i < count; i++) {
+        files[i] = fopen(names[i], "r");
+        if (files[i] == NULL) {
+            perror(names[i]);
+            return false; /* the end of the program closes those that are open */
+        }
     }
-    perror("end of the bus");
+    run_on_lines(files, count);
+    for (unsigned i = 0; i < count; i++)
+        fclose(files[i]);
+    return true;
 }
+
+/* ---- buses ---- */
+
+/* Until all have failed. One that fails is left out, and its streams go on by another. */
+static void run_on_buses(char **names)
+{
+    unsigned left = bus_count;
+    int i = 0;
+    while (left > 0 && (i = can_wait(buses, bus_count, (unsigned)i)) >= 0) {
+        struct frame f;
+        switch (can_read(buses[i], &f)) {
+        case CAN_DATA:
+            node_receive(&node, (uint32_t)i, &f);
+            fflush(stdout);
+            break;
+        case CAN_FAILED:
+            perror(names[i]);
+            buses[i] = NO_BUS;
+            left--;
+            break;
+        default:
+            break;
+        }
+    }
+}
+
+static bool open_buses(char **names, unsigned count)
+{
+    for (; bus_count < count; bus_count++) {
+        buses[bus_count] = can_open(names[bus_count]);
+        if (buses[bus_count] == NO_BUS) {
+            perror(names[bus_count]);
+            return false;
+        }
+    }
+    run_on_buses(names);
+    return true;
+}
+
+/* ---- all of it ---- */
 
 static void sum_up(void)
 {
@@ -81,6 +156,22 @@ static void sum_up(void)
         if (node.answers[i] > 0)
             fprintf(stderr, " %u: %lu", i, (unsigned long)node.answers[i]);
     fprintf(stderr, ", transfers not understood: %lu\n", (unsigned long)node.refused);
+}
+
+static bool run(char **words, unsigned count)
+{
+    FILE *input = stdin;
+    bool lines = count > 0 && strcmp(words[0], "--lines") == 0;
+    if (lines && count > 1 && count - 1 <= TECELUME_INTERFACES)
+        return open_files(words + 1, count - 1);
+    if (!lines && count > 0 && count <= TECELUME_INTERFACES)
+        return open_buses(words, count);
+    if (count == 0) {
+        run_on_lines(&input, 1);
+        return true;
+    }
+    fprintf(stderr, "usage: gateway [--lines FILE [FILE [FILE]] | NAME [NAME [NAME]]]\n");
+    return false;
 }
 
 int main(int count, char **words)
@@ -98,16 +189,8 @@ int main(int count, char **words)
         fprintf(stderr, "setup: %u, %s\n", (unsigned)number, tecelume_text(number));
         return 1;
     }
-    if (count < 2) {
-        run_on_lines();
-    } else {
-        bus = can_open(words[1]);
-        if (bus == NO_BUS) {
-            perror(words[1]);
-            return 1;
-        }
-        run_on_bus();
-    }
+    if (!run(words + 1, (unsigned)(count - 1)))
+        return 1;
     sum_up();
     return 0;
 }

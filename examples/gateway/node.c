@@ -99,9 +99,10 @@ static void take(struct node *n, tecelume_result transfer, uint64_t time)
         n->refused++; /* a request has no payload, and this node asks nobody */
 }
 
-void node_receive(struct node *n, const struct frame *f)
+void node_receive(struct node *n, uint32_t interface_number, const struct frame *f)
 {
-    tecelume_result result = tecelume_receive(n->state, sizeof n->state, f->id, f->data, f->length, f->time, n->payload, sizeof n->payload);
+    tecelume_result result = tecelume_receive(n->state, sizeof n->state, f->id, f->data, f->length, interface_number, f->time, n->payload,
+                                              sizeof n->payload);
     uint32_t number = tecelume_number(result);
     n->answers[number]++;
     if (number == TECELUME_HANDED_OUT)

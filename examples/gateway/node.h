@@ -8,7 +8,7 @@
 
 #include "tecelume.h"
 
-/* A frame of the bus, and when it came or goes, in microseconds. */
+/* A frame, and when it came or goes, in microseconds. */
 struct frame {
     uint64_t time;
     uint32_t id;
@@ -44,7 +44,7 @@ struct node {
 /* The number of setup: 0, or 13 if the own ID is over 127 or the library does not know the two types. */
 uint32_t node_setup(struct node *n, uint32_t own, const struct owner *owner);
 
-/* Takes one frame of the bus. */
-void node_receive(struct node *n, const struct frame *f);
+/* Takes one frame that came by an interface, 0 to 2. */
+void node_receive(struct node *n, uint32_t interface_number, const struct frame *f);
 
 #endif

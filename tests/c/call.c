@@ -59,7 +59,8 @@ static tecelume_result make(const struct call *c, const struct lent *state, cons
         number.word = tecelume_setup(state->bytes, state->length, c->own, input->bytes, input->length);
         return number;
     case RECEIVE:
-        return tecelume_receive(state->bytes, state->length, c->id, input->bytes, input->length, c->time, out->bytes, out->length);
+        return tecelume_receive(state->bytes, state->length, c->id, input->bytes, input->length, c->interface_number, c->time, out->bytes,
+                                out->length);
     case MAP_SETUP:
         number.word = tecelume_map_setup(state->bytes, state->length);
         return number;
@@ -129,7 +130,7 @@ static bool may_change_state(enum entry entry, uint32_t number)
 /* Which numbers an entry answers, as bits. */
 static const uint32_t answers[ENTRIES] = {
     1u << 0 | 1u << 13 | 1u << 20,
-    0x1FFFu | 1u << 20,
+    0x1FFFu | 1u << 19 | 1u << 20,
     1u << 0 | 1u << 20,
     1u << 0 | 1u << 8 | 1u << 9 | 1u << 11 | 1u << 14 | 1u << 20,
 };

@@ -26,7 +26,7 @@ struct buffer {
 /* `state` is a receiver's or a map, `input` the subscriptions, the frame or the payload. */
 struct call {
     enum entry entry;
-    uint32_t own, id, transfer_type, type_id, destination, priority, transfer_id, discriminator;
+    uint32_t own, id, interface_number, transfer_type, type_id, destination, priority, transfer_id, discriminator;
     uint64_t signature, time;
     struct buffer state, input, out;
 };

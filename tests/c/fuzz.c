@@ -5,8 +5,8 @@
  *
  * Each call is made twice, on equal buffers placed differently, and must give the same word and the same bytes: so nothing but the
  * arguments counts. Then what include/tecelume.h promises is checked (call.c): const inputs stay, a refusal leaves every buffer as it
- * was and all other bits of the word 0, success writes only where it may. A payload sent comes out as it went in. What the answers
- * must be otherwise is the business of the comparison with the second implementation.
+ * was and all other bits of the word 0, success writes only where it may. A payload sent comes out as it went in, and a copy of a frame by
+ * another interface hands out nothing. What the answers must be otherwise is the business of the comparison with the second implementation.
  *
  * --selftest makes one call that says one byte too many of a buffer. Something must notice, or the runs without it show nothing. */
 #include <inttypes.h>
@@ -79,6 +79,7 @@ static struct lane {
     struct frame frames[LANE_MAX];
     size_t count, next;
     bool whole; /* correctly sent for this receiver, and all so far were taken */
+    uint32_t interface_number;
     uint8_t payload[PAYLOAD_MAX];
     size_t length;
 } lanes[LANES];
@@ -170,6 +171,8 @@ static void put_on_lane(struct lane *lane, size_t count)
     lane->count = count;
     lane->next = 0;
     lane->whole = all_subscribed;
+    if (once_in(4))
+        lane->interface_number = below(TECELUME_INTERFACES);
     lane->length = sender.input.length;
     memcpy(lane->payload, sender.input.bytes, lane->length);
     for (size_t i = 0; i < count; i++) {
@@ -243,10 +246,11 @@ static struct frame disturb(struct lane *lane)
     return f;
 }
 
-static void lend_frame(const struct frame *f)
+static void lend_frame(const struct frame *f, uint32_t interface_number)
 {
     receiver.entry = RECEIVE;
     receiver.id = f->id;
+    receiver.interface_number = interface_number;
     receiver.time = once_in(300) ? next_random() : now;
     receiver.input.length = f->length;
     memcpy(receiver.input.bytes, f->data, f->length);
@@ -283,10 +287,19 @@ static void judge_last(const struct lane *lane, tecelume_result result)
     through += number == TECELUME_HANDED_OUT;
 }
 
+/* A frame that was taken, at the same time by another interface. */
+static void receive_copy(void)
+{
+    bool anonymous = (receiver.id & 255) == 0;
+    receiver.interface_number = (receiver.interface_number + 1 + below(TECELUME_INTERFACES - 1)) % TECELUME_INTERFACES;
+    if (tecelume_number(run(&receiver)) != (anonymous ? TECELUME_HANDED_OUT : TECELUME_PASSED_OVER))
+        fail(&receiver, "a copy by another interface was not passed over");
+}
+
 static void receive_frame(struct lane *lane)
 {
     struct frame f = disturb(lane);
-    lend_frame(&f);
+    lend_frame(&f, lane->interface_number);
     if (once_in(20))
         receive_damaged();
     tecelume_result result = run(&receiver);
@@ -297,6 +310,8 @@ static void receive_frame(struct lane *lane)
     if (lane->whole && lane->next == lane->count)
         judge_last(lane, result);
     lane->whole &= tecelume_number(result) == TECELUME_TAKEN;
+    if (tecelume_number(result) <= TECELUME_HANDED_OUT && once_in(3))
+        receive_copy();
 }
 
 /* A frame with more or fewer bytes than a frame has, or of no lane. */
@@ -304,7 +319,7 @@ static void receive_wild(void)
 {
     struct frame f;
     wild_frame(&f);
-    lend_frame(&f);
+    lend_frame(&f, number_to(TECELUME_INTERFACES - 1));
     if (once_in(2)) {
         receiver.input.length = below(FRAME_LENGTH_MAX);
         fill(receiver.input.bytes, receiver.input.length);
@@ -361,7 +376,7 @@ static void sweep_reception(size_t state_steps)
     static const struct frame single = {0x10000005, 8, {1, 2, 3, 4, 5, 6, 7, 0xC0}};
     setup_well();
     sweep(&receiver, &receiver.input.length, INPUT_MAX);
-    lend_frame(&single);
+    lend_frame(&single, 0);
     receiver.out.length = TECELUME_OUTPUT_SIZE;
     sweep(&receiver, &receiver.input.length, FRAME_LENGTH_MAX);
     sweep(&receiver, &receiver.out.length, OUT_MAX);
@@ -397,7 +412,7 @@ static bool goes_through(uint8_t *map, uint8_t *state, uint8_t *records, uint8_t
     for (size_t i = 0; i < tecelume_frames(sent); i++) {
         const uint8_t *record = records + i * TECELUME_RECORD_SIZE;
         last = tecelume_receive(state, TECELUME_RECEIVER_SIZE, tecelume_record_id(record), tecelume_record_data(record),
-                                tecelume_record_length(record), 0, out, TECELUME_OUTPUT_SIZE);
+                                tecelume_record_length(record), 0, 0, out, TECELUME_OUTPUT_SIZE);
     }
     return tecelume_length(last) == sizeof payload && memcmp(out, payload, sizeof payload) == 0;
 }
@@ -431,7 +446,7 @@ static int lie_reading(void)
     static const uint8_t data[] = {1, 2, 3};
     setup_well();
     struct lent frame = lend(ON_HEAP, data, sizeof data, 1);
-    tecelume_receive(receiver.state.bytes, TECELUME_RECEIVER_SIZE, 0x10000005, frame.bytes, sizeof data + 1, 0, receiver.out.bytes,
+    tecelume_receive(receiver.state.bytes, TECELUME_RECEIVER_SIZE, 0x10000005, frame.bytes, sizeof data + 1, 0, 0, receiver.out.bytes,
                      TECELUME_OUTPUT_SIZE);
     return 0;
 }

@@ -14,7 +14,7 @@
 
 enum { START = 0x80, END = 0x40, TOGGLE = 0x20, SINGLE = START | END, TRANSFER_ID = 31 };
 enum { TYPE = 1000, OTHER_TYPE = 1001, SERVICE = 7, OWN = 1, SOURCE = 42, SPARE = 99 };
-enum { TWO_SECONDS = 2000000, TRANSFER_IDS = 32, LONGEST = TECELUME_PAYLOAD_MAX };
+enum { ONE_SECOND = 1000000, TWO_SECONDS = 2000000, TRANSFER_IDS = 32, LONGEST = TECELUME_PAYLOAD_MAX };
 
 static const uint64_t signature = 0x0123456789ABCDEF, wrap = (uint64_t)1 << 32;
 
@@ -37,16 +37,24 @@ static void check(bool holds, const char *what, int line)
 
 static bool changes_nothing(uint32_t number)
 {
-    return (number >= TECELUME_ID_TOO_LARGE && number <= TECELUME_TABLE_FULL) || number == TECELUME_STATE_FAULT;
+    return (number >= TECELUME_ID_TOO_LARGE && number <= TECELUME_TABLE_FULL) || number >= TECELUME_NO_INTERFACE;
 }
 
-static tecelume_result receive_into(size_t room, uint32_t id, const uint8_t *data, size_t length, uint64_t time)
+/* A frame that comes by an interface, and the room that it gets. */
+struct way {
+    uint32_t interface_number;
+    size_t room;
+};
+
+static const struct way only_cable = {0, sizeof out};
+
+static tecelume_result receive_by(struct way by, uint32_t id, const uint8_t *data, size_t length, uint64_t time)
 {
     static uint8_t state_before[sizeof state], out_before[sizeof out];
     memcpy(state_before, state, sizeof state);
     memset(out, 0xA5, sizeof out);
     memcpy(out_before, out, sizeof out);
-    tecelume_result result = tecelume_receive(state, sizeof state, id, data, length, time, out, room);
+    tecelume_result result = tecelume_receive(state, sizeof state, id, data, length, by.interface_number, time, out, by.room);
     size_t written = tecelume_length(result);
     CHECK(written <= sizeof out && memcmp(out + written, out_before + written, sizeof out - written) == 0);
     CHECK(!changes_nothing(tecelume_number(result)) || memcmp(state, state_before, sizeof state) == 0);
@@ -59,11 +67,17 @@ static uint32_t message_id(uint32_t type_id, uint32_t source)
 }
 
 /* The number for a frame with eight data bytes, seven of them zero. */
-static uint32_t frame(uint32_t source, unsigned tail, uint64_t time)
+static uint32_t frame_by(uint32_t interface_number, uint32_t source, unsigned tail, uint64_t time)
 {
+    struct way by = {interface_number, sizeof out};
     uint8_t data[8] = {0};
     data[7] = (uint8_t)tail;
-    return tecelume_number(receive_into(sizeof out, message_id(TYPE, source), data, sizeof data, time));
+    return tecelume_number(receive_by(by, message_id(TYPE, source), data, sizeof data, time));
+}
+
+static uint32_t frame(uint32_t source, unsigned tail, uint64_t time)
+{
+    return frame_by(0, source, tail, time);
 }
 
 /* What a send takes, but for its buffers. */
@@ -111,7 +125,7 @@ static tecelume_result carry(size_t count, uint64_t time)
     for (size_t i = 0; i < count; i++) {
         const uint8_t *record = records + i * TECELUME_RECORD_SIZE;
         CHECK(tecelume_number(result) == TECELUME_TAKEN);
-        result = receive_into(sizeof out, tecelume_record_id(record), tecelume_record_data(record), tecelume_record_length(record), time);
+        result = receive_by(only_cable, tecelume_record_id(record), tecelume_record_data(record), tecelume_record_length(record), time);
     }
     return result;
 }
@@ -164,7 +178,7 @@ static void old_from_last_start_taken(void)
     CHECK(frame(SOURCE, 0, TWO_SECONDS + 1) == TECELUME_PASSED_OVER);
     begin();
     CHECK(frame(SOURCE, START, 0) == TECELUME_TAKEN);
-    CHECK(frame(SOURCE, START, 1500000) == TECELUME_PASSED_OVER);
+    CHECK(frame(SOURCE, START, 900000) == TECELUME_PASSED_OVER);
     CHECK(frame(SOURCE, TOGGLE, TWO_SECONDS + 1) == TECELUME_PASSED_OVER);
     begin();
     CHECK(frame(SOURCE, SINGLE, 0) == TECELUME_HANDED_OUT);
@@ -180,6 +194,83 @@ static void session_at_two_seconds(void)
     begin_full(0);
     CHECK(frame(SPARE, SINGLE, TWO_SECONDS) == TECELUME_TABLE_FULL);
     CHECK(frame(SPARE, SINGLE, TWO_SECONDS + 1) == TECELUME_HANDED_OUT);
+}
+
+/* Copies come right after each frame, and four transfers late. */
+static void handed_out_once(void)
+{
+    begin();
+    for (unsigned id = 0; id < 4; id++) {
+        CHECK(frame_by(1, SOURCE, START | id, id) == TECELUME_TAKEN);
+        CHECK(frame_by(2, SOURCE, START | id, id) == TECELUME_PASSED_OVER);
+        CHECK(frame_by(1, SOURCE, TOGGLE | id, id) == TECELUME_TAKEN);
+        CHECK(frame_by(0, SOURCE, TOGGLE | id, id) == TECELUME_PASSED_OVER);
+        CHECK(frame_by(0, SOURCE, END | id, id) == TECELUME_PASSED_OVER);
+        CHECK(frame_by(1, SOURCE, END | id, id) == TECELUME_CHECKSUM_DIFFERS);
+        CHECK(frame_by(1, SOURCE + 1, SINGLE | id, id) == TECELUME_HANDED_OUT);
+    }
+    for (unsigned id = 0; id < 4; id++)
+        CHECK(frame_by(2, SOURCE + 1, SINGLE | id, 4) == TECELUME_PASSED_OVER);
+}
+
+/* From then on the other interface is followed, and not the first one. */
+static void switch_after_one_second(void)
+{
+    begin();
+    CHECK(frame_by(0, SOURCE, START, 0) == TECELUME_TAKEN);
+    CHECK(frame_by(1, SOURCE, START | 1, ONE_SECOND) == TECELUME_PASSED_OVER);
+    CHECK(frame_by(1, SOURCE, TOGGLE, ONE_SECOND + 1) == TECELUME_PASSED_OVER);
+    CHECK(frame_by(1, SOURCE, START | 1, ONE_SECOND + 1) == TECELUME_TAKEN);
+    CHECK(frame_by(0, SOURCE, TOGGLE | 1, ONE_SECOND + 2) == TECELUME_PASSED_OVER);
+    CHECK(frame_by(1, SOURCE, TOGGLE | 1, ONE_SECOND + 2) == TECELUME_TAKEN);
+    CHECK(frame_by(0, SOURCE, START | 3, ONE_SECOND + 2) == TECELUME_PASSED_OVER);
+    CHECK(frame_by(1, SOURCE, START | 3, ONE_SECOND + 2) == TECELUME_TAKEN);
+}
+
+/* After a single frame with transfer ID 3, 4 is expected. */
+static void switch_by_transfer_id(void)
+{
+    for (unsigned id = 0; id < TRANSFER_IDS; id++) {
+        begin();
+        CHECK(frame_by(0, SOURCE, SINGLE | 3, 0) == TECELUME_HANDED_OUT);
+        CHECK(frame_by(2, SOURCE, SINGLE | id, TWO_SECONDS) == (id >= 4 && id < 20 ? TECELUME_HANDED_OUT : TECELUME_PASSED_OVER));
+        begin();
+        CHECK(frame_by(0, SOURCE, SINGLE | 3, 0) == TECELUME_HANDED_OUT);
+        CHECK(frame_by(2, SOURCE, SINGLE | id, TWO_SECONDS + 1) == TECELUME_HANDED_OUT);
+    }
+}
+
+static void anonymous_by_each_interface(void)
+{
+    const uint8_t tail = SINGLE;
+    uint8_t list[TECELUME_SUBSCRIPTION_SIZE];
+    tecelume_subscription(list, TECELUME_KIND_MESSAGE, 1, signature);
+    CHECK(tecelume_setup(state, sizeof state, OWN, list, sizeof list) == TECELUME_SUCCESS);
+    for (uint32_t i = 0; i < 2 * TECELUME_INTERFACES; i++) {
+        struct way by = {i % TECELUME_INTERFACES, sizeof out};
+        CHECK(tecelume_number(receive_by(by, message_id(1, 0), &tail, 1, 0)) == TECELUME_HANDED_OUT);
+    }
+}
+
+static void repeat_on_one_cable(void)
+{
+    begin();
+    CHECK(frame(SOURCE, START, 0) == TECELUME_TAKEN);
+    CHECK(frame(SOURCE, TOGGLE, 0) == TECELUME_TAKEN);
+    CHECK(frame(SOURCE, START, ONE_SECOND) == TECELUME_PASSED_OVER);
+    CHECK(frame(SOURCE, START, ONE_SECOND + 1) == TECELUME_TAKEN);
+    CHECK(frame(SOURCE, 0, ONE_SECOND + 1) == TECELUME_PASSED_OVER);
+    CHECK(frame(SOURCE, TOGGLE, ONE_SECOND + 1) == TECELUME_TAKEN);
+    CHECK(frame(SOURCE, SINGLE, TWO_SECONDS + 1) == TECELUME_PASSED_OVER);
+    CHECK(frame(SOURCE, SINGLE, TWO_SECONDS + 2) == TECELUME_HANDED_OUT);
+    CHECK(frame(SOURCE, SINGLE, TWO_SECONDS + 3 + ONE_SECOND) == TECELUME_PASSED_OVER);
+}
+
+static void texts(void)
+{
+    for (uint32_t number = 0; number <= TECELUME_STATE_FAULT; number++)
+        CHECK(strcmp(tecelume_text(number), "unknown number") != 0);
+    CHECK(strcmp(tecelume_text(TECELUME_STATE_FAULT + 1), "unknown number") == 0);
 }
 
 static void entry_at_two_seconds(void)
@@ -243,6 +334,21 @@ static void repeat_after_the_wrap(void)
     CHECK(frame(SOURCE, SINGLE, before) == TECELUME_HANDED_OUT);
     CHECK(frame(SOURCE, SINGLE, (uint32_t)after) == TECELUME_PASSED_OVER);
     CHECK(frame(SOURCE, SINGLE, (uint32_t)(wrap - 1)) == TECELUME_PASSED_OVER);
+}
+
+/* The followed interface falls silent a second before the wrap. */
+static void switch_after_the_wrap(void)
+{
+    uint64_t before = wrap - ONE_SECOND, after = wrap + ONE_SECOND;
+    begin();
+    CHECK(frame_by(0, SOURCE, SINGLE, before) == TECELUME_HANDED_OUT);
+    CHECK(frame_by(1, SOURCE, SINGLE | 1, after) == TECELUME_HANDED_OUT);
+    begin();
+    CHECK(frame_by(0, SOURCE, SINGLE, before) == TECELUME_HANDED_OUT);
+    CHECK(frame_by(1, SOURCE, SINGLE | 1, (uint32_t)after) == TECELUME_PASSED_OVER);
+    CHECK(frame_by(1, SOURCE, SINGLE | 1, before) == TECELUME_PASSED_OVER);
+    CHECK(frame_by(0, SOURCE, SINGLE | 1, (uint32_t)after) == TECELUME_HANDED_OUT);
+    CHECK(frame_by(1, SOURCE, SINGLE | 2, (uint32_t)after + ONE_SECOND + 1) == TECELUME_HANDED_OUT);
 }
 
 /* What was stored just before the wrap, more than two seconds before it, and after it. */
@@ -363,23 +469,28 @@ static void send_size(void)
     CHECK(TECELUME_SEND_SIZE(LONGEST) == TECELUME_FRAMES_MAX * TECELUME_RECORD_SIZE);
 }
 
-/* Each number of a refused reception; receive_into checks what it leaves. */
+/* Each number of a refused reception, 19 between 3 and 4; receive_by checks what it leaves. */
 static void refused_receptions(void)
 {
     static const struct {
         uint32_t number, id;
-        size_t length, room;
+        size_t length;
+        struct way by;
         uint8_t tail;
     } rows[] = {
-        {2, 0x20000000, 1, sizeof out, SINGLE},
-        {3, TYPE << 8 | SOURCE, 0, sizeof out, 0},
-        {3, TYPE << 8 | SOURCE, 9, sizeof out, SINGLE},
-        {4, SERVICE << 16 | OWN << 8 | 0x80, 1, sizeof out, SINGLE},
-        {5, TYPE << 8 | SOURCE, 1, sizeof out, SINGLE | TOGGLE},
-        {6, SERVICE << 16 | SPARE << 8 | 0x80 | SOURCE, 1, sizeof out, SINGLE},
-        {7, OTHER_TYPE << 8 | SOURCE, 1, sizeof out, SINGLE},
-        {8, TYPE << 8 | SOURCE, 1, sizeof out - 1, SINGLE},
-        {9, TYPE << 8 | SOURCE, 1, sizeof out, SINGLE},
+        {2, 0x20000000, 1, {0, sizeof out}, SINGLE},
+        {2, 0x20000000, 1, {3, sizeof out}, SINGLE},
+        {3, TYPE << 8 | SOURCE, 0, {0, sizeof out}, 0},
+        {3, TYPE << 8 | SOURCE, 9, {3, sizeof out}, SINGLE},
+        {19, SERVICE << 16 | OWN << 8 | 0x80, 1, {3, sizeof out}, SINGLE},
+        {19, TYPE << 8 | 1, 1, {256, sizeof out}, TOGGLE | END | 1},
+        {19, TYPE << 8 | 1, 1, {UINT32_MAX, sizeof out}, TOGGLE | END | 1},
+        {4, SERVICE << 16 | OWN << 8 | 0x80, 1, {2, sizeof out}, SINGLE},
+        {5, TYPE << 8 | SOURCE, 1, {0, sizeof out}, SINGLE | TOGGLE},
+        {6, SERVICE << 16 | SPARE << 8 | 0x80 | SOURCE, 1, {0, sizeof out}, SINGLE},
+        {7, OTHER_TYPE << 8 | SOURCE, 1, {0, sizeof out}, SINGLE},
+        {8, TYPE << 8 | SOURCE, 1, {0, sizeof out - 1}, SINGLE},
+        {9, TYPE << 8 | SOURCE, 1, {0, sizeof out}, SINGLE},
     };
     begin_full(0);
     CHECK(frame(1, START | 1, 0) == TECELUME_TAKEN);
@@ -387,7 +498,7 @@ static void refused_receptions(void)
         uint8_t data[9] = {0};
         if (rows[i].length > 0)
             data[rows[i].length - 1] = rows[i].tail;
-        CHECK(tecelume_number(receive_into(rows[i].room, rows[i].id, data, rows[i].length, 0)) == rows[i].number);
+        CHECK(tecelume_number(receive_by(rows[i].by, rows[i].id, data, rows[i].length, 0)) == rows[i].number);
     }
     state[0] = 128;
     CHECK(frame(1, TOGGLE | 1, 0) == TECELUME_STATE_FAULT);
@@ -411,12 +522,15 @@ static void refused_sends(void)
 /* The faults that answer 20 (RULES 5.4), at the places of docs/ARCHITECTURE.md; and a value in range, which is not noticed. */
 static void faults(void)
 {
-    enum { STREAMS = 1032, CONTROLS = 1160, FIELD = 4, EXPECTED = 2, TOGGLE_OF = 3 };
+    enum { STREAMS = 1032, CONTROLS = 1160, FIELD = 4, EXPECTED = 2, FLAGS = 3 /* the toggle, and twice the interface */ };
     begin_full(0);
     state[CONTROLS + EXPECTED] = TRANSFER_IDS;
     CHECK(frame(SOURCE, SINGLE, 0) == TECELUME_STATE_FAULT);
     begin_full(0);
-    state[CONTROLS + TOGGLE_OF] = 1;
+    state[CONTROLS + FLAGS] = 1;
+    CHECK(frame(SOURCE, SINGLE, 0) == TECELUME_STATE_FAULT);
+    begin_full(0);
+    state[CONTROLS + FLAGS] = 2 * TECELUME_INTERFACES;
     CHECK(frame(SOURCE, SINGLE, 0) == TECELUME_STATE_FAULT);
     begin_full(0);
     memcpy(state + STREAMS, state + STREAMS + FIELD, FIELD);
@@ -454,7 +568,7 @@ static void order_of_subscriptions(void)
         tecelume_subscription(other, TECELUME_KIND_SERVICE, SERVICE, signature);
         CHECK(tecelume_setup(state, sizeof state, OWN, list, sizeof list) == TECELUME_SUCCESS);
         for (unsigned i = 0; i < IDS; i++)
-            words[turn][i] = receive_into(sizeof out, ids[i], &tail, 1, 0).word;
+            words[turn][i] = receive_by(only_cable, ids[i], &tail, 1, 0).word;
     }
     CHECK(memcmp(words[0], words[1], sizeof words[0]) == 0);
 }
@@ -466,11 +580,18 @@ static const struct {
     {"header_and_library", header_and_library},
     {"old_from_last_start_taken", old_from_last_start_taken},
     {"session_at_two_seconds", session_at_two_seconds},
+    {"handed_out_once", handed_out_once},
+    {"switch_after_one_second", switch_after_one_second},
+    {"switch_by_transfer_id", switch_by_transfer_id},
+    {"anonymous_by_each_interface", anonymous_by_each_interface},
+    {"repeat_on_one_cable", repeat_on_one_cable},
+    {"texts", texts},
     {"entry_at_two_seconds", entry_at_two_seconds},
     {"rest_of_a_transfer_too_long", rest_of_a_transfer_too_long},
     {"forty_nodes", forty_nodes},
     {"never_set_up", never_set_up},
     {"repeat_after_the_wrap", repeat_after_the_wrap},
+    {"switch_after_the_wrap", switch_after_the_wrap},
     {"places_after_the_wrap", places_after_the_wrap},
     {"signature_zero", signature_zero},
     {"transfer_id_of_a_send", transfer_id_of_a_send},

@@ -7,7 +7,8 @@
 
 #include "tecelume.h"
 
-enum { START = 0x80, TRANSFER_ID = 31, ID_AT = 55, OTHER = 99 /* a number that no call answers */ };
+enum { START = 0x80, TRANSFER_ID = 31, ID_AT = 55, SWITCH_DELAY = 1000000, OTHER = 99 /* a number that no call answers */ };
+enum { FLAGS = 1163 }; /* of the first session: the toggle, and twice the interface */
 
 static bool is(const char *name)
 {
@@ -115,6 +116,8 @@ static uint32_t reception(uint32_t number, const uint8_t *state)
         return TECELUME_STATE_FAULT;
     if (is("fault-not-seen") && number == TECELUME_STATE_FAULT)
         return TECELUME_PASSED_OVER;
+    if (is("interface-fault-not-seen") && number == TECELUME_STATE_FAULT && state[FLAGS] == 2 * TECELUME_INTERFACES)
+        return TECELUME_PASSED_OVER;
     return is("own-id-guarded") && state[0] != own_set_up ? (uint32_t)TECELUME_STATE_FAULT : number;
 }
 
@@ -128,17 +131,74 @@ static void touch(uint32_t number, uint8_t *state, uint8_t *out, size_t out_len)
         state[TECELUME_RECEIVER_SIZE - 1] ^= 1;
 }
 
-uint64_t __real_tecelume_receive_word(uint8_t *state, size_t state_len, uint32_t id, const uint8_t *frame, size_t frame_len, uint64_t time,
-                                      uint8_t *out, size_t out_len);
-uint64_t __wrap_tecelume_receive_word(uint8_t *state, size_t state_len, uint32_t id, const uint8_t *frame, size_t frame_len, uint64_t time,
-                                      uint8_t *out, size_t out_len)
+uint64_t __real_tecelume_receive_word(uint8_t *state, size_t state_len, uint32_t id, const uint8_t *frame, size_t frame_len,
+                                      uint32_t interface_number, uint64_t time, uint8_t *out, size_t out_len);
+
+/* What a reception takes, but for the interface. */
+struct arrival {
+    uint8_t *state;
+    size_t state_len;
+    uint32_t id;
+    const uint8_t *frame;
+    size_t frame_len;
+    uint64_t time;
+    uint8_t *out;
+    size_t out_len;
+};
+
+static uint64_t receive(const struct arrival *a, uint32_t interface_number)
+{
+    return __real_tecelume_receive_word(a->state, a->state_len, a->id, a->frame, a->frame_len, interface_number, a->time, a->out,
+                                        a->out_len);
+}
+
+/* The number in place of the call, if interfaces are read wrongly; OTHER for none. `age` counts from the last start taken. */
+static uint32_t in_place(const struct arrival *a, uint32_t interface_number, uint64_t age)
+{
+    static uint8_t last_start;
+    uint8_t tail = a->frame_len > 0 ? a->frame[a->frame_len - 1] : 0;
+    bool repeated = (tail & START) != 0 && (tail & TRANSFER_ID) == (last_start & TRANSFER_ID);
+    if ((tail & START) != 0)
+        last_start = tail;
+    if (is("never-switches") && interface_number != 0 && age > 0)
+        return TECELUME_PASSED_OVER;
+    if (is("anonymous-by-one-interface") && (a->id & 255) == 0 && interface_number != 0)
+        return TECELUME_PASSED_OVER;
+    if (is("repeat-passed-over") && repeated && age <= 2 * SWITCH_DELAY)
+        return TECELUME_PASSED_OVER;
+    if (is("interface-before-2-and-3") && interface_number >= TECELUME_INTERFACES)
+        return TECELUME_NO_INTERFACE;
+    if (is("interface-after-4") && interface_number >= TECELUME_INTERFACES && (a->id & 255) == 0x80)
+        return TECELUME_SERVICE_UNNAMED;
+    return OTHER;
+}
+
+static uint64_t receive_by(const struct arrival *a, uint32_t interface_number, uint64_t age)
+{
+    bool start = a->frame_len > 0 && (a->frame[a->frame_len - 1] & START) != 0;
+    uint32_t number = in_place(a, interface_number, age);
+    if (number != OTHER)
+        return number;
+    if (is("interface-ignored") || (is("interface-3-accepted") && interface_number >= TECELUME_INTERFACES))
+        interface_number = 0;
+    uint64_t word = receive(a, interface_number);
+    if (is("far-ahead-switches") && word == TECELUME_PASSED_OVER && start && age > SWITCH_DELAY)
+        word = receive(a, 0);
+    for (uint32_t i = 0; i < TECELUME_INTERFACES && is("other-interface-taken") && word == TECELUME_PASSED_OVER; i++)
+        word = receive(a, i);
+    return word;
+}
+
+uint64_t __wrap_tecelume_receive_word(uint8_t *state, size_t state_len, uint32_t id, const uint8_t *frame, size_t frame_len,
+                                      uint32_t interface_number, uint64_t time, uint8_t *out, size_t out_len)
 {
     static uint64_t taken, counted; /* when the last start was taken, and from when the wrong age counts */
     bool start = frame_len > 0 && (frame[frame_len - 1] & START) != 0;
     uint64_t seen = shifted("session-old-too-early", "session-old-too-late", start ? time : time - (counted - taken));
     if (is("session-wraps-counted"))
         seen = unwrapped(time);
-    uint64_t word = __real_tecelume_receive_word(state, state_len, id, frame, frame_len, seen, out, out_len);
+    struct arrival a = {state, state_len, id, frame, frame_len, seen, out, out_len};
+    uint64_t word = receive_by(&a, interface_number, time > taken ? time - taken : 0);
     uint32_t number = (uint32_t)(word & 255), wrong = reception(number, state);
     if (start && number <= TECELUME_HANDED_OUT)
         taken = counted = time;

@@ -15,7 +15,7 @@ enum { GATHERED_AT = 1288 }; /* where the gathered bytes of a receiver start */
 enum entry { SETUP, RECEIVE, MAP_SETUP, SEND, OTHERS, ENTRIES };
 
 static const char *const names[ENTRIES] = {"setup", "receive", "map_setup", "send", "others"};
-static const uint32_t must[ENTRIES] = {1u | 1u << 13 | 1u << 20, 0x1FFFu | 1u << 20, 1u | 1u << 20,
+static const uint32_t must[ENTRIES] = {1u | 1u << 13 | 1u << 20, 0x1FFFu | 1u << 19 | 1u << 20, 1u | 1u << 20,
                                        1u | 1u << 8 | 1u << 9 | 1u << 11 | 1u << 14 | 1u << 20, 1u};
 
 static uint8_t state[TECELUME_RECEIVER_SIZE];
@@ -133,22 +133,24 @@ static void send_on(struct lane *lane)
     answered(SEND, sent.word, lane->count * TECELUME_RECORD_SIZE);
 }
 
-static void receive(uint32_t id, const uint8_t *data, size_t length)
+static void receive(uint32_t id, const uint8_t *data, size_t length, uint32_t interface_number)
 {
-    tecelume_result received = tecelume_receive(state, sizeof state, id, data, length, now, out, once_in(50) ? below(512) : TECELUME_OUTPUT_SIZE);
+    size_t out_len = once_in(50) ? below(512) : TECELUME_OUTPUT_SIZE;
+    tecelume_result received = tecelume_receive(state, sizeof state, id, data, length, interface_number, now, out, out_len);
     answered(RECEIVE, received.word, tecelume_length(received));
 }
 
-/* The lane's next frame: as it was sent, damaged, twice or not at all. */
+/* The lane's next frame: as it was sent, damaged, twice or not at all; mostly by the lane's own interface. */
 static void pass_on(struct lane *lane)
 {
     uint8_t *record = lane->records + lane->next * TECELUME_RECORD_SIZE;
+    uint32_t interface_number = once_in(30) ? below(TECELUME_INTERFACES + 1) : (uint32_t)(lane - lanes) % TECELUME_INTERFACES;
     if (once_in(40)) {
         uint8_t *byte = record + below(TECELUME_RECORD_SIZE);
         *byte ^= (uint8_t)(1u << below(8));
     }
     if (!once_in(60))
-        receive(tecelume_record_id(record), tecelume_record_data(record), tecelume_record_length(record) % 9);
+        receive(tecelume_record_id(record), tecelume_record_data(record), tecelume_record_length(record) % 9, interface_number);
     if (!once_in(60))
         lane->next++;
 }
@@ -163,11 +165,13 @@ static void receive_any(void)
     if (once_in(3)) {
         uint32_t id = below(0xFFFFFFFF);
         id >>= below(8);
-        receive(id, data, below(10));
+        size_t length = below(10);
+        uint32_t interface_number = below(TECELUME_INTERFACES + 1);
+        receive(id, data, length, interface_number);
     } else {
         data[7] = turn == 0 ? 128 : turn % 2 * 32;
         turn = (uint8_t)((turn + 1) % 80);
-        receive(0x10000000 | 2u << 8 | 120, data, 8);
+        receive(0x10000000 | 2u << 8 | 120, data, 8, 0);
     }
 }
 

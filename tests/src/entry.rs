@@ -10,7 +10,7 @@ use crate::send::{self, Outgoing, RECORD};
 use crate::state;
 
 /// Major, minor and patch version, a byte each.
-pub const VERSION: u32 = 0x00_01_00;
+pub const VERSION: u32 = 0x00_02_00;
 /// Lent state that is too short or at fault.
 pub const FAULT: u32 = 20;
 /// A setup that is not allowed.

@@ -4,6 +4,8 @@ use crate::definitions as types;
 use crate::frame::TransferType;
 use crate::receive::{Answer, Frame, Receiver, Subscription, Transfer, LONGEST_PAYLOAD};
 
+/// A log has one bus.
+const LOG_INTERFACE: u32 = 0;
 const HEADING: &str = "time kind type from to prio id len payload\n";
 
 pub fn run(input: &[u8]) -> Vec<u8> {
@@ -96,6 +98,7 @@ impl Line {
         Frame {
             id: self.id,
             data: &self.data,
+            interface: LOG_INTERFACE,
             time: self.time,
         }
     }

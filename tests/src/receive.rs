@@ -1,11 +1,13 @@
 //! The receiver: setup and the reception of one frame (RULES 3, 4 and 13).
 
 use crate::frame::{largest_type, priority_of, Stream, Tail, FRAME_PAYLOAD, ID_END, LONGEST_FRAME};
-use crate::session::{Session, Step};
+use crate::session::{Piece, Session, Step};
 
 pub const LARGEST_NODE: u32 = 127;
 pub const MOST_SUBSCRIPTIONS: usize = 64;
 pub const PLACES: usize = 32;
+/// A frame comes by one of the interfaces below this number.
+pub const INTERFACES: u8 = 3;
 /// The room every frame past the other checks needs.
 pub const LONGEST_PAYLOAD: usize = 512;
 
@@ -42,10 +44,12 @@ pub struct Receiver {
     pub places: Vec<Option<Session>>,
 }
 
+/// A frame as it came: when, and by which interface.
 #[derive(Clone, Copy, Debug)]
 pub struct Frame<'a> {
     pub id: u32,
     pub data: &'a [u8],
+    pub interface: u32,
     pub time: u64,
 }
 
@@ -73,6 +77,7 @@ pub enum Answer {
     PassedOver,
     PayloadTooLong,
     ChecksumDiffers,
+    NoInterface,
 }
 
 impl Answer {
@@ -91,6 +96,7 @@ impl Answer {
             Answer::PassedOver => 10,
             Answer::PayloadTooLong => 11,
             Answer::ChecksumDiffers => 12,
+            Answer::NoInterface => 19,
         }
     }
 }
@@ -99,9 +105,7 @@ impl Answer {
 struct Head<'a> {
     stream: Stream,
     priority: u8,
-    tail: Tail,
-    payload: &'a [u8],
-    signature: u64,
+    piece: Piece<'a>,
 }
 
 impl Head<'_> {
@@ -110,7 +114,7 @@ impl Head<'_> {
             payload,
             stream: self.stream,
             priority: self.priority,
-            transfer_id: self.tail.transfer_id,
+            transfer_id: self.piece.tail.transfer_id,
         })
     }
 }
@@ -135,29 +139,30 @@ impl Receiver {
             Err(refusal) => return refusal,
         };
         if head.stream.is_anonymous() {
-            return head.hand_out(head.payload.to_vec());
+            return head.hand_out(head.piece.payload.to_vec());
         }
-        match self.session_for(&head, frame.time) {
-            Ok(session) => {
-                match session.accept(head.tail, head.payload, frame.time, head.signature) {
-                    Step::Taken => Answer::Taken,
-                    Step::Closed(payload) => head.hand_out(payload),
-                    Step::PassedOver => Answer::PassedOver,
-                    Step::TooLong => Answer::PayloadTooLong,
-                    Step::ChecksumDiffers => Answer::ChecksumDiffers,
-                }
-            }
+        match self.session_for(&head) {
+            Ok(session) => match session.accept(&head.piece) {
+                Step::Taken => Answer::Taken,
+                Step::Closed(payload) => head.hand_out(payload),
+                Step::PassedOver => Answer::PassedOver,
+                Step::TooLong => Answer::PayloadTooLong,
+                Step::ChecksumDiffers => Answer::ChecksumDiffers,
+            },
             Err(refusal) => refusal,
         }
     }
 
-    /// The frame checks 2 to 8, in that order.
+    /// The frame checks 2, 3, 19 and 4 to 8, in that order.
     fn check<'a>(&self, frame: &Frame<'a>, room: usize) -> Result<Head<'a>, Answer> {
         if frame.id >= ID_END {
             return Err(Answer::IdTooLarge);
         }
         if frame.data.is_empty() || frame.data.len() > LONGEST_FRAME {
             return Err(Answer::DataLength);
+        }
+        if frame.interface >= u32::from(INTERFACES) {
+            return Err(Answer::NoInterface);
         }
         let stream = Stream::of_id(frame.id);
         let service = stream.transfer_type.is_service();
@@ -179,9 +184,13 @@ impl Receiver {
         Ok(Head {
             stream,
             priority: priority_of(frame.id),
-            tail,
-            payload,
-            signature,
+            piece: Piece {
+                tail,
+                payload,
+                interface: frame.interface as u8,
+                time: frame.time,
+                signature,
+            },
         })
     }
 
@@ -195,13 +204,16 @@ impl Receiver {
     }
 
     /// The stream's session, made if the frame is a start and a place is to be had.
-    fn session_for(&mut self, head: &Head, time: u64) -> Result<&mut Session, Answer> {
-        let place = match self.place_of(&head.stream) {
+    fn session_for(&mut self, head: &Head) -> Result<&mut Session, Answer> {
+        let (stream, piece) = (head.stream, &head.piece);
+        let place = match self.place_of(&stream) {
             Some(place) => place,
-            None if !head.tail.start => return Err(Answer::PassedOver),
+            None if !piece.tail.start => return Err(Answer::PassedOver),
             None => {
-                let place = self.free_place(time).ok_or(Answer::TableFull)?;
-                self.places[place] = Some(Session::new(head.stream, head.tail.transfer_id, time));
+                let place = self.free_place(piece.time).ok_or(Answer::TableFull)?;
+                let transfer_id = piece.tail.transfer_id;
+                let session = Session::new(stream, transfer_id, piece.interface, piece.time);
+                self.places[place] = Some(session);
                 place
             }
         };

@@ -7,6 +7,10 @@ use crate::receive::LONGEST_PAYLOAD;
 
 /// A session is old above this age in microseconds.
 pub const TIMEOUT: u64 = 2_000_000;
+/// Above this age a session may follow another interface.
+pub const SWITCH_DELAY: u64 = 1_000_000;
+/// A start that is so far ahead of the expected transfer, or farther, brings no switch.
+pub const FAR_AHEAD: u8 = 16;
 /// Bytes of the checksum before a payload of several frames.
 const CHECKSUM: usize = 2;
 /// Payload and checksum of the longest transfer.
@@ -19,6 +23,28 @@ pub struct Session {
     pub gathered: Vec<u8>,
     pub toggle: bool,
     pub time: u64,
+    /// The interface whose frames it takes.
+    pub follows: u8,
+}
+
+/// A frame of the stream that passed the checks.
+#[derive(Clone, Copy, Debug)]
+pub struct Piece<'a> {
+    pub tail: Tail,
+    pub payload: &'a [u8],
+    pub interface: u8,
+    pub time: u64,
+    pub signature: u64,
+}
+
+/// Why a session restarts at a frame; where several reasons hold, the first.
+#[derive(Clone, Copy, Debug, PartialEq, Eq)]
+pub enum Restart {
+    Old,
+    /// A start by the followed interface, neither of the expected transfer nor of the one before.
+    OutOfOrder,
+    /// A start by any interface after the delay, not far ahead of the expected transfer.
+    AfterDelay,
 }
 
 /// What a session makes of a frame.
@@ -32,39 +58,56 @@ pub enum Step {
 }
 
 impl Session {
-    /// A session as one restarted by a start with this transfer ID.
-    pub fn new(stream: Stream, transfer_id: u8, time: u64) -> Session {
+    /// A session as one restarted by a start with this transfer ID, by this interface.
+    pub fn new(stream: Stream, transfer_id: u8, interface: u8, time: u64) -> Session {
         Session {
             stream,
             expected_id: transfer_id,
             gathered: Vec::new(),
             toggle: false,
             time,
+            follows: interface,
         }
     }
 
     /// An earlier time counts as age 0.
-    pub fn is_old(&self, time: u64) -> bool {
-        time.saturating_sub(self.time) > TIMEOUT
+    pub fn age(&self, time: u64) -> u64 {
+        time.saturating_sub(self.time)
     }
 
-    pub fn accept(&mut self, tail: Tail, payload: &[u8], time: u64, signature: u64) -> Step {
-        if self.must_restart(tail, time) {
+    pub fn is_old(&self, time: u64) -> bool {
+        self.age(time) > TIMEOUT
+    }
+
+    pub fn accept(&mut self, piece: &Piece) -> Step {
+        let tail = piece.tail;
+        if self.restart(piece).is_some() {
             self.expect(tail.transfer_id);
+            self.follows = piece.interface;
             if !tail.start {
                 self.expected_id = next_transfer_id(self.expected_id);
                 return Step::PassedOver;
             }
         }
-        if !self.continues_with(tail) {
+        if piece.interface != self.follows || !self.continues_with(tail) {
             return Step::PassedOver;
         }
-        self.take(tail, payload, time, signature)
+        self.take(piece)
     }
 
-    fn must_restart(&self, tail: Tail, time: u64) -> bool {
-        let not_previous = forward_distance(tail.transfer_id, self.expected_id) > 1;
-        self.is_old(time) || (tail.start && not_previous)
+    pub fn restart(&self, piece: &Piece) -> Option<Restart> {
+        let (id, expected) = (piece.tail.transfer_id, self.expected_id);
+        let out_of_order = piece.interface == self.follows && forward_distance(id, expected) > 1;
+        let switch_allowed = self.age(piece.time) > SWITCH_DELAY;
+        if self.is_old(piece.time) {
+            Some(Restart::Old)
+        } else if piece.tail.start && out_of_order {
+            Some(Restart::OutOfOrder)
+        } else if piece.tail.start && switch_allowed && forward_distance(expected, id) < FAR_AHEAD {
+            Some(Restart::AfterDelay)
+        } else {
+            None
+        }
     }
 
     fn expect(&mut self, transfer_id: u8) {
@@ -79,11 +122,12 @@ impl Session {
             && tail.start == self.gathered.is_empty()
     }
 
-    fn take(&mut self, tail: Tail, payload: &[u8], time: u64, signature: u64) -> Step {
+    fn take(&mut self, piece: &Piece) -> Step {
+        let tail = piece.tail;
         if tail.start {
-            self.time = time;
+            self.time = piece.time;
         }
-        self.gathered.extend_from_slice(payload);
+        self.gathered.extend_from_slice(piece.payload);
         self.toggle = !self.toggle;
         if self.gathered.len() <= MOST_GATHERED && !tail.end {
             return Step::Taken;
@@ -95,7 +139,7 @@ impl Session {
         } else if tail.start {
             Step::Closed(gathered)
         } else {
-            checked(&gathered, signature)
+            checked(&gathered, piece.signature)
         }
     }
 }

@@ -5,7 +5,7 @@
 
 use crate::frame::{largest_type, Stream, TransferType, TRANSFER_IDS};
 use crate::receive::{
-    all_differ, Receiver, Subscription, LARGEST_NODE, MOST_SUBSCRIPTIONS, PLACES,
+    all_differ, Receiver, Subscription, INTERFACES, LARGEST_NODE, MOST_SUBSCRIPTIONS, PLACES,
 };
 use crate::session::{Session, MOST_GATHERED};
 
@@ -81,17 +81,18 @@ fn read_place(bytes: &[u8], place: usize) -> Option<Option<Session>> {
     let stream = read_stream(key)?;
     let control = &bytes[CONTROLS + 4 * place..][..4];
     let count = usize::from(u16::from_le_bytes([control[0], control[1]]));
-    let (expected_id, toggle) = (control[2], control[3]);
-    let in_range = count <= MOST_GATHERED && expected_id < TRANSFER_IDS && toggle <= 1;
-    if !in_range || (toggle == 1 && count == 0) {
+    let (expected_id, toggle, follows) = (control[2], control[3] & 1 == 1, control[3] >> 1);
+    let in_range = count <= MOST_GATHERED && expected_id < TRANSFER_IDS && follows < INTERFACES;
+    if !in_range || (toggle && count == 0) {
         return None;
     }
     Some(Some(Session {
         stream,
         expected_id,
         gathered: bytes[gathered_at(place)..][..count].to_vec(),
-        toggle: toggle == 1,
+        toggle,
         time: get_u64(bytes, TIMES + 8 * place),
+        follows,
     }))
 }
 
@@ -122,7 +123,7 @@ fn write_session(session: &Session, bytes: &mut [u8], place: usize) {
     let control = &mut bytes[CONTROLS + 4 * place..][..4];
     control[..2].copy_from_slice(&(count as u16).to_le_bytes());
     control[2] = session.expected_id;
-    control[3] = u8::from(session.toggle);
+    control[3] = u8::from(session.toggle) | session.follows << 1;
     put_u64(bytes, TIMES + 8 * place, session.time);
     bytes[gathered_at(place)..][..count].copy_from_slice(&session.gathered);
 }

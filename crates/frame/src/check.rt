@@ -1,6 +1,7 @@
-// The frame checks 2 to 6 (RULES 4.1): 2 and 3 before a frame can be read, 4 to 6 on its head.
+// The frame checks 2, 3, 19 and 4 to 6 (RULES 4.1): 2, 3 and 19 before a frame is read, 4 to 6 on its head.
 use super::head::Head;
 use rules::limits::FRAME_DATA;
+use rules::limits::INTERFACES;
 ghost use mathlib.Core.Path.{_≡_};
 ghost use Rattle.frame.specs.inside.Head.{streamOf, headTestsOf};
 ghost use Rattle.rules.specs.Check as rules;
@@ -76,9 +77,9 @@ fn bad_tail(h: Head, anonymous: bool, n: usize) -> bool
     false
 }
 
-// Internal. 2 or 3 for a frame of n data bytes that cannot be read, or 0.
-pub fn unreadable(id: u32, n: usize) -> u8
-    ensures { λ r. ⌜ r ≡ orZero (first (readTests id n)) ⌝ }
+// Internal. 2 or 3 for a frame of n data bytes that cannot be read, 19 for one by no interface of ours, or 0.
+pub fn unreadable(id: u32, n: usize, interface: u32) -> u8
+    ensures { λ r. ⌜ r ≡ orZero (first (readTests id n interface)) ⌝ }
 {
     if 0x20000000 <= id {
         return 2;
@@ -88,6 +89,9 @@ pub fn unreadable(id: u32, n: usize) -> u8
     }
     if FRAME_DATA < n {
         return 3;
+    }
+    if INTERFACES as u32 <= interface {
+        return 19;
     }
     0
 }

@@ -16,10 +16,10 @@ use Rattle.answers.proofs.Reception.{told-number}
 use Rattle.state.proofs.Faultless.{table-sound}
 use Rattle.state.specs.Layout.{placesOf}
 
-pub lent-stays : (u : Setup) (m : List ℕ) (c : Call) → Lent u m → Typed (c .frame) → Lent u (resultOf m c .state)
+pub lent-stays : (u : Setup) (m : List ℕ) (c : Call) → Lent u m → Typed (c .arrival .frame) → Lent u (resultOf m c .state)
 lent-stays u m c h t =
-    let v = view-law m (c .frame) (c .out) (h .sound) (h .bytes) t in
-    let s = sound-law m (c .frame) (c .out) (h .sound) (h .bytes) t in
+    let v = view-law m (c .arrival) (c .out) (h .sound) (h .bytes) t in
+    let s = sound-law m (c .arrival) (c .out) (h .sound) (h .bytes) t in
     record { setup = v .setup ∙ h .setup; sound = s .0; bytes = s .1 }
 
 unfoldable pub view : (u : Setup) → View u (lentBytes u)
@@ -30,7 +30,7 @@ view u =
       past = λ m h. lent (table-sound m (h .sound));
       stays = lent-stays u;
       says = λ m c h t. reading-is m c (h .sound) ∙ ap (λ w. readingOf (step w (placesOf m) (receptionOf c) .answer)) (h .setup);
-      moves = λ m c h t. view-law m (c .frame) (c .out) (h .sound) (h .bytes) t .places ∙ ap (λ w. step w (placesOf m) (receptionOf c) .places) (h .setup);
+      moves = λ m c h t. view-law m (c .arrival) (c .out) (h .sound) (h .bytes) t .places ∙ ap (λ w. step w (placesOf m) (receptionOf c) .places) (h .setup);
     }
 
 pub lent-theorem : Condition3 lentBytes

@@ -25,7 +25,7 @@ use Rattle.rules.specs.Condition3.{ofStream, Receiver, frames, Premises, While,
 use Rattle.rules.specs.Example.{setup, stream, payload, start, crowd, spacious, crowded}
 use Rattle.rules.specs.Frame.{Frame, sameStream, streamOf}
 use Rattle.rules.specs.Reception.{stepNew, stepStart, stepSeek, stepAnonymous, stepChecked, step, after}
-use Rattle.rules.specs.Session.{restarts, over, closing, takeEnd, takeLong, takes, proceedIf, proceed, reactIf, react}
+use Rattle.rules.specs.Session.{restarts, over, closing, takeEnd, takeLong, takes, proceedIf, proceed, met, restarted, react}
 use Rattle.rules.specs.Setup.{subscribed, acceptable}
 use Rattle.rules.specs.Sound.{streamFits, sessionFits, sound}
 use Rattle.rules.specs.Table.{empty, held, Places, seek, placeFor}
@@ -61,12 +61,12 @@ tested-frame f e =
 
 listTest : List Reception → Bool
 listTest [] = true
-listTest (r ∷ rs) = frameTest (r .frame) && listTest rs
+listTest (r ∷ rs) = frameTest (r .arrival .frame) && listTest rs
 
 tested-list : (rs : List Reception) → listTest rs ≡ true → AllTyped (map callOf rs)
 unfolding listTest
 tested-list [] e = tt
-tested-list (r ∷ rs) e = (tested-frame (r .frame) (and-left (frameTest (r .frame)) (listTest rs) e), tested-list rs (and-right (frameTest (r .frame)) (listTest rs) e))
+tested-list (r ∷ rs) e = (tested-frame (r .arrival .frame) (and-left (frameTest (r .arrival .frame)) (listTest rs) e), tested-list rs (and-right (frameTest (r .arrival .frame)) (listTest rs) e))
 
 tableTest : Places → Bool
 tableTest [] = true
@@ -89,7 +89,7 @@ receptions-back : (rs : List Reception) → receptions (map callOf rs) ≡ rs
 receptions-back [] = refl
 receptions-back (r ∷ rs) =
     let n = length-replicate {A = ℕ} (r .room) 0 in
-    ap₂ (λ (k : ℕ) (l : List Reception). record { frame = r .frame; room = k } ∷ l) n (receptions-back rs)
+    ap₂ (λ (k : ℕ) (l : List Reception). record { arrival = r .arrival; room = k } ∷ l) n (receptions-back rs)
 
 record Lendable (m : List ℕ) (x : Receiver (rulesTable setup)) : Type 0 where
   state : Lent setup m
@@ -110,7 +110,7 @@ module _ (m : List ℕ) (x : Receiver (rulesTable setup)) (h : Lendable m x) whe
       let p = stands .places in
       let n = length-replicate {A = ℕ} (x .start .room) 0 in
       let l = receptions-back (x .list) in
-      λ i. record { state = p i; start = record { frame = x .start .frame; room = n i }; list = l i }
+      λ i. record { state = p i; start = record { arrival = x .start .arrival; room = n i }; list = l i }
 
   frames-back : frames (lentBytes setup) stream (lentOf m x) ≡ frames (rulesTable setup) stream x
   frames-back = frames-are setup (lentBytes setup) (ofStream stream) (map callOf (x .list)) ∙ ap (frames (rulesTable setup) stream) view-back
@@ -144,26 +144,26 @@ begun-state =
 
 -- ── both receivers ──
 
-start-test : frameTest start ≡ true
+start-test : frameTest (start .frame) ≡ true
 unfolding frameTest inRange bytesTest
 start-test = refl
 
 spacious-tests : (sound (spacious .state) ≡ true) × ((tableTest (spacious .state) ≡ true) × (listTest (spacious .list) ≡ true))
-unfolding sound streamFits sessionFits after step stepChecked stepAnonymous stepSeek stepStart stepNew seek placeFor check frameCheck parsed streamOf sameStream subscribed react reactIf restarts proceed proceedIf over takes takeLong takeEnd closing tableTest listTest frameTest inRange bytesTest
+unfolding sound streamFits sessionFits after step stepChecked stepAnonymous stepSeek stepStart stepNew seek placeFor check frameCheck parsed streamOf sameStream subscribed react met restarted restarts proceed proceedIf over takes takeLong takeEnd closing tableTest listTest frameTest inRange bytesTest
 spacious-tests = (refl, (refl, refl))
 
 crowded-tests : (sound (crowded .state) ≡ true) × ((tableTest (crowded .state) ≡ true) × (listTest (crowded .list) ≡ true))
 unfolding crowd sound streamFits sessionFits sameStream tableTest listTest frameTest inRange bytesTest
 crowded-tests = (refl, (refl, refl))
 
-lendable : (x : Receiver (rulesTable setup)) → x .start .frame ≡ start → (sound (x .state) ≡ true) × ((tableTest (x .state) ≡ true) × (listTest (x .list) ≡ true))
+lendable : (x : Receiver (rulesTable setup)) → x .start .arrival ≡ start → (sound (x .state) ≡ true) × ((tableTest (x .state) ≡ true) × (listTest (x .list) ≡ true))
     → Lendable (stateOf setup) x
 lendable x e t =
     record {
       state = record { setup = begun-state .setup; sound = begun-state .sound; bytes = octets-state setup (omega arith) (omega arith) };
       table = t .0;
       writable = tested-table (x .state) (t .1 .0);
-      typed = (subst Typed (sym e) (tested-frame start start-test), tested-list (x .list) (t .1 .1));
+      typed = (subst (λ a. Typed (a .frame)) (sym e) (tested-frame (start .frame) start-test), tested-list (x .list) (t .1 .1));
     }
 
 module _ (m : List ℕ) (x y : Receiver (rulesTable setup)) (a : Lendable m x) (b : Lendable m y) where
@@ -181,7 +181,7 @@ lent-example =
     let premises = lent-premises m spacious crowded a b (example .premises) in
     record {
       premises = premises;
-      whiles = (while-lent m spacious a 5 (example .whiles .0), while-lent m crowded b 5 (example .whiles .1));
+      whiles = (while-lent m spacious a 8 (example .whiles .0), while-lent m crowded b 8 (example .whiles .1));
       transfer = subst (λ fs. Transfer setup stream start fs 16 5 payload) (sym (frames-back m spacious a)) (example .transfer);
       claim = lent-theorem setup stream lentSpacious lentCrowded premises;
       setUp = (record { bytes = octets-zeros size; records = tested-bytes records records-bytes; done = done-is }, given-is);

@@ -16,7 +16,7 @@ use Rattle.guarantees.specs.Received.{Typed, stepOn, ViewLaw, SoundLaw}
 use Rattle.guarantees.specs.Written.{Writable, WritableAt, AllWritable, Stands, TableLaw}
 use Rattle.guarantees.proofs.Writable.{step-writable, all-storable, all-plain}
 use Rattle.rules.proofs.Lasting.{lasting}
-use Rattle.rules.specs.Frame.{Frame}
+use Rattle.rules.specs.Frame.{Arrival}
 use Rattle.rules.specs.Sound.{placesFit, apart, sound}
 use Rattle.rules.specs.Table.{empty, held, Places}
 use Rattle.rules.specs.Tests.{pick}
@@ -102,7 +102,7 @@ table-law m ps fine bytes ok w =
 
 -- ── the state after ──
 
-module _ (m : List ℕ) (f : Frame) (out : List ℕ) (fine : soundState m ≡ true) (bytes : Octets m) (typed : Typed f) where
+module _ (m : List ℕ) (f : Arrival) (out : List ℕ) (fine : soundState m ≡ true) (bytes : Octets m) (typed : Typed (f .frame)) where
   state-is : received m f out .state ≡ written m 0 (stepOn m f out .places)
   unfolding received receivedIf
   state-is = rw fine

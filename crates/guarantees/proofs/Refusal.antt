@@ -9,7 +9,7 @@ use Rattle.guarantees.specs.Received.{stepOn}
 use Rattle.guarantees.specs.Refusal.{RefusalLaws}
 use Rattle.rules.proofs.Refusals.{refusals}
 use Rattle.rules.specs.Answer as rules
-use Rattle.rules.specs.Frame.{Frame}
+use Rattle.rules.specs.Frame.{Arrival}
 use Rattle.rules.specs.Refusal.{refuses}
 use Rattle.receiver.proofs.Lent.{same-table}
 use Rattle.receiver.specs.Receive.{arriving, receivedIf, received}
@@ -29,7 +29,7 @@ out-kept (rules.passed r) out n = refl
 out-kept rules.long out n = refl
 out-kept rules.differs out n = refl
 
-module _ (m : List ℕ) (f : Frame) (out : List ℕ) where
+module _ (m : List ℕ) (f : Arrival) (out : List ℕ) where
   state-kept : Octets m → refuses (numberOf (received m f out .answer)) ≡ true → received m f out .state ≡ m
   unfolding received receivedIf
   state-kept bytes = go (soundState m) refl

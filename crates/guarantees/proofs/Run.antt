@@ -26,16 +26,16 @@ payload-back a out =
 reading-lent : (m out : List ℕ) (s : Step) → reading (lent m out s) ≡ readingOf (s .answer)
 reading-lent m out s = ap (λ (p : List ℕ). record { answer = told (s .answer); payload = p }) (payload-back (s .answer) out)
 
-pub reading-is : (m : List ℕ) (c : Call) → soundState m ≡ true → reading (resultOf m c) ≡ readingOf (stepOn m (c .frame) (c .out) .answer)
+pub reading-is : (m : List ℕ) (c : Call) → soundState m ≡ true → reading (resultOf m c) ≡ readingOf (stepOn m (c .arrival) (c .out) .answer)
 unfolding received receivedIf
-reading-is m c fine = rw fine (reading-lent m (c .out) (stepOn m (c .frame) (c .out)))
+reading-is m c fine = rw fine (reading-lent m (c .out) (stepOn m (c .arrival) (c .out)))
 
 pub run-law : RunLaw
 unfolding readings left run after
 run-law m [] fine bytes typed = record { read = refl; places = refl; setup = refl; sound = fine; bytes = bytes }
 run-law m (c ∷ cs) fine bytes typed =
-    let v = view-law m (c .frame) (c .out) fine bytes (typed .0) in
-    let s = sound-law m (c .frame) (c .out) fine bytes (typed .0) in
+    let v = view-law m (c .arrival) (c .out) fine bytes (typed .0) in
+    let s = sound-law m (c .arrival) (c .out) fine bytes (typed .0) in
     let h = run-law (resultOf m c .state) cs (s .0) (s .1) (typed .1) in
     record {
       read = ap₂ (λ (r : Reading) (l : List Reading). r ∷ l) (reading-is m c fine)

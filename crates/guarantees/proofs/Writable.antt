@@ -14,9 +14,9 @@ use Rattle.guarantees.specs.Received.{Typed}
 use Rattle.guarantees.specs.Written.{Writable, WritableAt, AllWritable}
 use Rattle.rules.specs.Answer.{Reason}
 use Rattle.rules.specs.Check.{Reception, Parsed, parsed, check}
-use Rattle.rules.specs.Frame.{Frame, Stream, isAnonymous}
+use Rattle.rules.specs.Frame.{Arrival, Stream, isAnonymous}
 use Rattle.rules.specs.Reception.{stepNew, stepStart, sessionIn, stepSeek, stepAnonymous, stepChecked, step}
-use Rattle.rules.specs.Session.{Session, next, restarts, restarted, over, sinceOf, takeEnd, takeLong, takes, proceedIf, proceed, reactIf, react, fresh}
+use Rattle.rules.specs.Session.{Session, restarts, restarted, met, over, sinceOf, takeEnd, takeLong, takes, proceedIf, proceed, react, fresh}
 use Rattle.rules.specs.Setup.{Setup}
 use Rattle.rules.specs.Sound.{messageFits, serviceFits, streamFits, sessionFits, placesFit}
 use Rattle.rules.specs.Table.{Place, empty, held, Places, seek, holds, placeFor}
@@ -58,16 +58,12 @@ module _ (s : Session) (v : Parsed) (h : Writable s) (b : Brings v) where
     go (some r) = h
     go none = long-writable (ltb 514 (length (s .gathered ++ v .payload)))
 
-restarted-writable : (s : Session) (t : ℕ) → s .since < 2 ^ 64 → Writable (restarted s t)
-restarted-writable s t h = record { since = h; bytes = tt }
-
 react-writable : (s : Session) (v : Parsed) → Writable s → Brings v → Writable (react s v .session)
-unfolding react reactIf
-react-writable s v h b = go (restarts s v) (v .start) where
-  go : (c d : Bool) → Writable (reactIf c d s v .session)
-  go true true = proceed-writable (restarted s (v .transfer)) v (restarted-writable s (v .transfer) (h .since)) b
-  go true false = restarted-writable s (next (v .transfer)) (h .since)
-  go false d = proceed-writable s v h b
+unfolding react met restarted
+react-writable s v h b = proceed-writable (met s v) v (go (restarts s v)) b where
+  go : (c : Bool) → Writable (pick c (restarted s v) s)
+  go true = record { since = h .since; bytes = tt }
+  go false = h
 
 -- ── the table ──
 
@@ -118,13 +114,13 @@ module _ (ps : Places) (v : Parsed) (h : AllWritable ps) (b : Brings v) where
   checked-writable (some n) c = h
   checked-writable none c = anonymous-writable c
 
-brings : (u : Setup) (f : Frame) → Typed f → Brings (parsed u f)
+brings : (u : Setup) (f : Arrival) → Typed (f .frame) → Brings (parsed u f)
 unfolding parsed
-brings u f t = record { time = t .time; bytes = octets-take (length (f .bytes) - 1) (f .bytes) (t .bytes) }
+brings u f t = record { time = t .time; bytes = octets-take (length (f .frame .bytes) - 1) (f .frame .bytes) (t .bytes) }
 
-pub step-writable : (u : Setup) (ps : Places) (r : Reception) → AllWritable ps → Typed (r .frame) → AllWritable (step u ps r .places)
+pub step-writable : (u : Setup) (ps : Places) (r : Reception) → AllWritable ps → Typed (r .arrival .frame) → AllWritable (step u ps r .places)
 unfolding step
-step-writable u ps r h t = checked-writable ps (parsed u (r .frame)) h (brings u (r .frame) t) (check u r) (isAnonymous (r .frame .id))
+step-writable u ps r h t = checked-writable ps (parsed u (r .arrival)) h (brings u (r .arrival) t) (check u r) (isAnonymous (r .arrival .frame .id))
 
 -- ── a table without a fault, in the layout ──
 
@@ -172,13 +168,17 @@ module _ (d : Stream) where
         some = λ z. omega arith;
         word = omega arith;
         stream = stream-key d (omega arith) ht hs hd;
-        few = leb-true (length (s .gathered)) 514 (and-left (leb (length (s .gathered)) 514) _ (and-right (ltb (s .expected) 32) _ q));
+        few = leb-true (length (s .gathered)) 514 (and-left (leb (length (s .gathered)) 514) _ (and-right (ltb (s .expected) 32 && ltb (s .follows) 3) _ q));
         since = w .since;
       }
 
 expected-lt : (s : Session) → sessionFits s ≡ true → s .expected < 32
 unfolding sessionFits
-expected-lt s q = ltb-true (s .expected) 32 (and-left (ltb (s .expected) 32) _ q)
+expected-lt s q = ltb-true (s .expected) 32 (and-left _ _ (and-left (ltb (s .expected) 32 && ltb (s .follows) 3) _ q))
+
+follows-lt : (s : Session) → sessionFits s ≡ true → s .follows < 3
+unfolding sessionFits
+follows-lt s q = ltb-true (s .follows) 3 (and-right (ltb (s .expected) 32) _ (and-left (ltb (s .expected) 32 && ltb (s .follows) 3) _ q))
 
 pub all-storable : (ps : Places) → placesFit ps ≡ true → AllWritable ps → AllStorable ps
 all-storable [] e h = tt
@@ -195,4 +195,5 @@ all-plain (empty ∷ ps) e h = (tt, all-plain ps e (h .1))
 all-plain (held d s ∷ ps) e h =
     let f = and-left (streamFits d && sessionFits s) (placesFit ps) e in
     let l = expected-lt s (and-right (streamFits d) (sessionFits s) f) in
-    ((omega arith, h .0 .bytes), all-plain ps (and-right (streamFits d && sessionFits s) (placesFit ps) e) (h .1))
+    let k = follows-lt s (and-right (streamFits d) (sessionFits s) f) in
+    (((omega arith, omega arith), h .0 .bytes), all-plain ps (and-right (streamFits d && sessionFits s) (placesFit ps) e) (h .1))

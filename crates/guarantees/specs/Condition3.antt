@@ -32,7 +32,7 @@ receiving past =
       number = λ r. numberOf (r .answer);
       shows = readingOf;
       Past = past;
-      Typed = λ c. Typed (c .frame);
+      Typed = λ c. Typed (c .arrival .frame);
     }
 
 abbrev pub lentBytes : Setup → Machine

@@ -22,7 +22,7 @@ records =
 
 -- a reception as a call, with an output buffer of zeros
 abbrev pub callOf : Reception → Call
-callOf r = record { frame = r .frame; out = replicate (r .room) 0 }
+callOf r = record { arrival = r .arrival; out = replicate (r .room) 0 }
 
 -- a receiver of the rules on a lent state, with its table written there
 abbrev pub lentOf : List ℕ → Receiver (rulesTable setup) → Receiver (lentBytes setup)
@@ -36,7 +36,7 @@ lentCrowded = lentOf (stateOf setup) crowded
 
 pub record LentExample : Type 0 where
   pub premises : Premises (lentBytes setup) stream lentSpacious lentCrowded
-  pub whiles : While (lentBytes setup) stream 5 lentSpacious × While (lentBytes setup) stream 5 lentCrowded
+  pub whiles : While (lentBytes setup) stream 8 lentSpacious × While (lentBytes setup) stream 8 lentCrowded
   pub transfer : Transfer setup stream start (frames (lentBytes setup) stream lentSpacious) 16 5 payload
   pub claim : Claim (lentBytes setup) setup stream lentSpacious lentCrowded
   -- its setup is one that a call makes

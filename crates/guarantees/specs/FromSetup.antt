@@ -23,7 +23,7 @@ pub record SetUp (m : List ℕ) (own : ℕ) (r : List ℕ) : Type 0 where
 -- the bytes that a setup call left, and what calls of `receive` made of them, one after the other
 pub data Reached (u : Setup) : List ℕ → Type 0 where
   setUp : (m : List ℕ) (own : ℕ) (r : List ℕ) → SetUp m own r → given own r ≡ u → Reached u (afterSetup m own r .state)
-  called : {m : List ℕ} → Reached u m → (c : Call) → Typed (c .frame) → Reached u (resultOf m c .state)
+  called : {m : List ℕ} → Reached u m → (c : Call) → Typed (c .arrival .frame) → Reached u (resultOf m c .state)
 
 abbrev pub setUpBytes : Setup → Machine
 setUpBytes u = receiving (Reached u)

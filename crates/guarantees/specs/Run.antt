@@ -9,7 +9,7 @@ use Rattle.guarantees.specs.Received.{Typed}
 use Rattle.rules.specs.Answer as rules
 use Rattle.rules.specs.Check.{Reception}
 use Rattle.rules.specs.Condition3.{All}
-use Rattle.rules.specs.Frame.{Frame}
+use Rattle.rules.specs.Frame.{Arrival}
 use Rattle.rules.specs.Reception.{run, after}
 use Rattle.receiver.specs.Receive.{Result, arriving, received}
 use Rattle.answers.specs.Reception.{transferIn, told}
@@ -19,13 +19,13 @@ use Rattle.state.specs.Sound.{soundState}
 
 -- ── calls ──
 
--- one call of `receive`: a frame, and the output buffer lent to it
+-- one call of `receive`: a frame as it comes, and the output buffer lent to it
 pub record Call : Type 0 where
-  pub frame : Frame
+  pub arrival : Arrival
   pub out : List ℕ
 
 abbrev pub resultOf : List ℕ → Call → Result
-resultOf m c = received m (c .frame) (c .out)
+resultOf m c = received m (c .arrival) (c .out)
 
 -- the state that calls leave, each on the one that the last left
 unfoldable pub left : List ℕ → List Call → List ℕ
@@ -34,13 +34,13 @@ left m (c ∷ cs) = left (resultOf m c .state) cs
 
 -- the same calls to the rules
 abbrev pub receptionOf : Call → Reception
-receptionOf c = arriving (c .frame) (c .out)
+receptionOf c = arriving (c .arrival) (c .out)
 
 abbrev pub receptions : List Call → List Reception
 receptions = map receptionOf
 
 abbrev pub AllTyped : List Call → Type 0
-AllTyped = All (λ c. Typed (c .frame))
+AllTyped = All (λ c. Typed (c .arrival .frame))
 
 -- ── what the caller reads ──
 

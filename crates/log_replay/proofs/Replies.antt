@@ -14,14 +14,15 @@ use Rattle.log_line.specs.Line.{timeText}
 use Rattle.log_line.specs.Reading.{said, lineWith, lineIn}
 use Rattle.log_line.specs.declared.read.Line as line
 use Rattle.log_line.proofs.Lines.{Timed, timed, read}
-use Rattle.rules.specs.Frame.{Frame}
+use Rattle.rules.specs.Frame.{Frame, Arrival}
+use Rattle.rules.specs.Sent.{frameAt}
 use Rattle.receiver.specs.Receive as receive
-use Rattle.receiver.specs.Receive.{frameOf, arriving, lent, receivedIf, received}
+use Rattle.receiver.specs.Receive.{arriving, lent, receivedIf, received}
 use Rattle.rules.specs.Reception.{step}
 use Rattle.state.specs.Layout.{setupOf, placesOf}
 use Rattle.state.specs.Sound.{soundState}
 use Rattle.guarantees.specs.Received.{Typed}
-use Rattle.log_replay.specs.Replay.{counted, isHanded, answered, reply}
+use Rattle.log_replay.specs.Replay.{counted, isHanded, answered, logged, reply}
 use Rattle.log_replay.specs.inside.Call.{result, replayed}
 use Rattle.log_replay.specs.declared.Counts.{Counts}
 use Rattle.answers.specs.declared.Answer.{Answer}
@@ -30,7 +31,7 @@ use Rattle.digits.specs.Find.{before}
 
 -- the frame that a line says
 abbrev pub frameSaid : line.Line → Frame
-frameSaid r = frameOf (r .id) (take (r .len) (r .bytes)) (r .time)
+frameSaid r = frameAt (r .id) (take (r .len) (r .bytes)) (r .time)
 
 -- the struct of a line that reads
 record Struct (l : List ℕ) (r : line.Line) : Type 0 where
@@ -46,7 +47,7 @@ struct l r e ok = go (said l) refl where
       let q : r ≡ lineWith (before 46 l) (some f) = e ∙ ap (lineWith (before 46 l)) n in
       let t : take (length (f .bytes)) (f .bytes ++ replicate (8 - length (f .bytes)) 0) ≡ f .bytes = take-at (f .bytes) (replicate (8 - length (f .bytes)) 0) (length (f .bytes)) refl in
       record {
-        says = n ∙ rw q (ap (λ (b : List ℕ). some (frameOf (f .id) b (f .time))) (sym t));
+        says = n ∙ rw q (ap (λ (b : List ℕ). some (frameAt (f .id) b (f .time))) (sym t));
         head = ap (λ (x : line.Line). x .head) q;
         few = rw q (omega (arith, length-append (f .bytes) (replicate (8 - length (f .bytes)) 0)));
       }
@@ -79,7 +80,7 @@ module _ (l : List ℕ) (r : line.Line) (is : r ≡ lineIn l) (ok : r .ok ≡ tr
 
   -- the time, and the answer after it
   module _ (m m' pay out out₁ out₂ : List ℕ) (c c' : Counts) (a : Answer) (at p : ℕ) (room : at + r .head ≤ length out) where
-    pub replied : receive.result a m' pay ≡ received m (frameSaid r) (replicate 512 0) → out₁ ≡ splice out at (take (r .head) l)
+    pub replied : receive.result a m' pay ≡ received m (logged (frameSaid r)) (replicate 512 0) → out₁ ≡ splice out at (take (r .head) l)
         → Puts out₁ out₂ (at + r .head) p (answerText a pay)
         → c' ≡ counted c (isHanded a) → result (record { past = p; counts = c' }) m' out₂ ≡ replayed m l c out at
     unfolding reply answered
@@ -92,6 +93,6 @@ module _ (l : List ℕ) (r : line.Line) (is : r ≡ lineIn l) (ok : r .ok ≡ tr
         rw (says, ← e, y, n, x)
 
 -- a reception on a state without a fault is the rules' step
-pub tested : (m : List ℕ) (f : Frame) (out : List ℕ) → soundState m ≡ true → received m f out ≡ lent m out (step (setupOf m) (placesOf m) (arriving f out))
+pub tested : (m : List ℕ) (f : Arrival) (out : List ℕ) → soundState m ≡ true → received m f out ≡ lent m out (step (setupOf m) (placesOf m) (arriving f out))
 unfolding received receivedIf
 tested m f out h = rw h

@@ -7,7 +7,7 @@ use lib.Dec.{ltb, eqb}
 use lib.ListN.{replicate}
 use Rattle.log_line.specs.Line.{timeText}
 use Rattle.log_line.specs.Reading.{said}
-use Rattle.rules.specs.Frame.{Frame}
+use Rattle.rules.specs.Frame.{Frame, Arrival}
 use Rattle.rules.specs.Limits.{payloadMax}
 use Rattle.rules.specs.Tests.{pick}
 use Rattle.receiver.specs.Receive as receive
@@ -46,7 +46,11 @@ pub record Reply : Type 0 where
 unfoldable pub answered : ℕ → receive.Result → Reply
 answered time r = record { text = timeText time ++ answerText (r .answer) (r .out); state = r .state; handed = isHanded (r .answer) }
 
+-- RULES 12.1: a frame of a log comes by interface 0
+abbrev pub logged : Frame → Arrival
+logged f = record { frame = f; interface = 0 }
+
 -- RULES 12.5: a line that is not well formed leaves the receiver as it was; 12.1: the receiver is lent 512 bytes
 unfoldable pub reply : List ℕ → Option Frame → Reply
 reply m none = record { text = 63 ∷ numbered 45 18; state = m; handed = false }
-reply m (some f) = answered (f .time) (received m f (replicate payloadMax 0))
+reply m (some f) = answered (f .time) (received m (logged f) (replicate payloadMax 0))

@@ -81,7 +81,7 @@ fn receive(state: &mut [u8], l: Line, line: &[u8], c: Counts, out: &mut [u8], at
     let n = l.len;
     let head = l.head;
     let mut payload = [0u8; PAYLOAD];
-    let a = receiver::receive_sound(state, l.id, &bytes[0..n], l.time, &mut payload);
+    let a = receiver::receive_sound(state, l.id, &bytes[0..n], 0, l.time, &mut payload);
     bits::part::copy_at(out, at, &line[0..head]);
     let past = log_answer::put_answer(out, at + head, a, &payload);
     Said {

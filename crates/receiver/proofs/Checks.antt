@@ -9,10 +9,10 @@ use borrow.Author.Tests.{leb-false, eqb-false, ltb-false, lt-ltb, le-ltb}
 use lib.Dec.{eqb, ltb}
 use lib.ListN.{length}
 use Rattle.frame.specs.inside.Head.{headOf, headTestsOf}
-use Rattle.receiver.specs.Receive.{frameOf, arriving}
+use Rattle.receiver.specs.Receive.{arrivalOf, arriving}
 use Rattle.rules.specs.Answer.{refused}
-use Rattle.rules.specs.Check.{Reception, Test, Parsed, check, parsed, largeId, badLength, unnamedService, badTail, forAnother, notSubscribed, readTests, headTests, first, frameCheck, orZero}
-use Rattle.rules.specs.Frame.{Frame, Stream, isAnonymous, unnamed, priorityOf, streamOf, tailOf, payloadOf, isStart, isEnd, toggleOf, transferOf}
+use Rattle.rules.specs.Check.{Reception, Test, Parsed, check, parsed, largeId, badLength, noInterface, unnamedService, badTail, forAnother, notSubscribed, readTests, headTests, first, frameCheck, orZero}
+use Rattle.rules.specs.Frame.{Stream, isAnonymous, unnamed, priorityOf, streamOf, tailOf, payloadOf, isStart, isEnd, toggleOf, transferOf}
 use Rattle.rules.specs.Reception.{step, stepChecked, stepAnonymous}
 use Rattle.rules.specs.Setup.{Setup, signatureFor}
 use Rattle.rules.specs.Table.{Places, orElse}
@@ -39,12 +39,14 @@ refuses none r e h = absurd (omega arith)
 refuses (some n) r e h = ap (λ (x : ℕ). some x) (sym e)
 
 -- 0 is the number of no check
-read-none : (id n : ℕ) → orZero (first (readTests id n)) ≡ 0 → first (readTests id n) ≡ none
-read-none id n = go (largeId id) (badLength n) where
-  go : (a b : Bool) → orZero (pick a (some 2) (pick b (some 3) none)) ≡ 0 → pick {A = Option ℕ} a (some 2) (pick b (some 3) none) ≡ none
-  go true b z = absurd (omega arith)
-  go false true z = absurd (omega arith)
-  go false false z = refl
+read-none : (id n i : ℕ) → orZero (first (readTests id n i)) ≡ 0 → first (readTests id n i) ≡ none
+read-none id n i = go (largeId id) (badLength n) (noInterface i) where
+  go : (a b c : Bool) → orZero (pick a (some 2) (pick b (some 3) (pick c (some 19) none))) ≡ 0
+      → pick {A = Option ℕ} a (some 2) (pick b (some 3) (pick c (some 19) none)) ≡ none
+  go true b c z = absurd (omega arith)
+  go false true c z = absurd (omega arith)
+  go false false true z = absurd (omega arith)
+  go false false false z = refl
 
 head-none : (own : ℕ) (d : Stream) (start last toggle : Bool) (n : ℕ) → orZero (first (headTests own d start last toggle n)) ≡ 0 → first (headTests own d start last toggle n) ≡ none
 head-none own d start last toggle n = go (unnamedService d) (badTail (unnamed d) start last toggle n) (forAnother own d) where
@@ -72,25 +74,29 @@ or-right : (a b : Bool) → (a || b) ≡ false → b ≡ false
 or-right true b e = let z : _≡_ {A = ℕ} 0 1 = cc in absurd (omega arith)
 or-right false b e = e
 
-pub record Readable (id n : ℕ) : Type 0 where
+pub record Readable (id n i : ℕ) : Type 0 where
   pub small : id < 2 ^ 29
   pub some-bytes : 0 < n
   pub few-bytes : n ≤ 8
+  pub interface : i < 3
 
-pub readable : (id n r : ℕ) → r ≡ orZero (first (readTests id n)) → r ≤ 0 → Readable id n
-readable id n r e z = go (largeId id) refl (badLength n) refl (sym e) where
+pub readable : (id n i r : ℕ) → r ≡ orZero (first (readTests id n i)) → r ≤ 0 → Readable id n i
+readable id n i r e z = go (largeId id) refl (badLength n) refl (noInterface i) refl (sym e) where
   pos : (n : ℕ) → (n ≡ 0 → ⊥) → 0 < n
   pos zero z = absurd (z refl)
   pos (suc n) z = omega arith
 
-  go : (a : Bool) → largeId id ≡ a → (b : Bool) → badLength n ≡ b → orZero (pick a (some 2) (pick b (some 3) none)) ≡ r → Readable id n
-  go true p b q e = absurd (omega arith)
-  go false p true q e = absurd (omega arith)
-  go false p false q e =
+  go : (a : Bool) → largeId id ≡ a → (b : Bool) → badLength n ≡ b → (c : Bool) → noInterface i ≡ c
+      → orZero (pick a (some 2) (pick b (some 3) (pick c (some 19) none))) ≡ r → Readable id n i
+  go true p b q c t e = absurd (omega arith)
+  go false p true q c t e = absurd (omega arith)
+  go false p false q true t e = absurd (omega arith)
+  go false p false q false t e =
       record {
         small = leb-false (2 ^ 29) id p;
         some-bytes = pos n (eqb-false n 0 (or-left (eqb n 0) (ltb 8 n) q));
         few-bytes = ltb-false 8 n (or-right (eqb n 0) (ltb 8 n) q);
+        interface = leb-false 3 i t;
       }
 
 -- of a head that 4 to 6 let through: a start has toggle 0, and a frame that is not anonymous a named source
@@ -119,10 +125,10 @@ head-passes own d start last toggle n r e z = go (unnamedService d) refl (badTai
       }
 
 -- the head, the signature and the payload beside it are what the rules read
-pub parsed-is : (u : Setup) (id time signature : ℕ) (bs : List ℕ) → signatureFor u id ≡ some signature
-    → parsedOf (record { head = headOf id (tailOf bs); signature = signature; time = time }) (payloadOf bs) ≡ parsed u (frameOf id bs time)
+pub parsed-is : (u : Setup) (id i time signature : ℕ) (bs : List ℕ) → signatureFor u id ≡ some signature
+    → parsedOf (record { head = headOf id (tailOf bs); signature = signature; time = time; interface = i }) (payloadOf bs) ≡ parsed u (arrivalOf id bs i time)
 unfolding parsedOf headOf parsed
-parsed-is u id time signature bs e =
+parsed-is u id i time signature bs e =
     let g : signature ≡ orZero (signatureFor u id) = sym (ap orZero e) in
     λ j. record {
       stream = streamOf id;
@@ -134,33 +140,34 @@ parsed-is u id time signature bs e =
       transfer = transferOf (tailOf bs);
       payload = payloadOf bs;
       time = time;
+      interface = i;
     }
 
 -- ── the step, by the number of the check ──
 
-module _ (u : Setup) (id time : ℕ) (bs out : List ℕ) where
+module _ (u : Setup) (id i time : ℕ) (bs out : List ℕ) where
   abbrev reads : Option ℕ
-  reads = first (readTests id (length bs))
+  reads = first (readTests id (length bs) i)
 
   abbrev pub heads : Option ℕ
   heads = first (headTests (u .own) (streamOf id) (isStart (tailOf bs)) (isEnd (tailOf bs)) (toggleOf (tailOf bs)) (length bs))
 
-  in-order : frameCheck u (frameOf id bs time) ≡ orElse reads (orElse heads (pick (notSubscribed u (frameOf id bs time)) (some 7) none))
+  in-order : frameCheck u (arrivalOf id bs i time) ≡ orElse reads (orElse heads (pick (notSubscribed u (arrivalOf id bs i time .frame)) (some 7) none))
   unfolding frameCheck
   in-order =
       let hs = headTests (u .own) (streamOf id) (isStart (tailOf bs)) (isEnd (tailOf bs)) (toggleOf (tailOf bs)) (length bs) in
-      let last : List Test = record { refuses = notSubscribed u (frameOf id bs time); number = 7 } ∷ [] in
-      first-append (readTests id (length bs)) (hs ++ last) ∙ ap (orElse reads) (first-append hs last)
+      let last : List Test = record { refuses = notSubscribed u (arrivalOf id bs i time .frame); number = 7 } ∷ [] in
+      first-append (readTests id (length bs) i) (hs ++ last) ∙ ap (orElse reads) (first-append hs last)
 
-  pub read-refuses : (r : ℕ) → r ≡ orZero reads → 0 < r → check u (arriving (frameOf id bs time) out) ≡ some r
+  pub read-refuses : (r : ℕ) → r ≡ orZero reads → 0 < r → check u (arriving (arrivalOf id bs i time) out) ≡ some r
   unfolding check
   read-refuses r e h = rw (in-order, refuses reads r e h)
 
   module _ (r : ℕ) (e : r ≡ orZero reads) (z : r ≤ 0) where
     reads-none : reads ≡ none
-    reads-none = read-none id (length bs) (sym e ∙ omega arith)
+    reads-none = read-none id (length bs) i (sym e ∙ omega arith)
 
-    pub head-refuses : (k : ℕ) → k ≡ orZero heads → 0 < k → check u (arriving (frameOf id bs time) out) ≡ some k
+    pub head-refuses : (k : ℕ) → k ≡ orZero heads → 0 < k → check u (arriving (arrivalOf id bs i time) out) ≡ some k
     unfolding check
     head-refuses k e h = rw (in-order, reads-none, refuses heads k e h)
 
@@ -168,26 +175,26 @@ module _ (u : Setup) (id time : ℕ) (bs out : List ℕ) where
       heads-none : heads ≡ none
       heads-none = head-none (u .own) (streamOf id) (isStart (tailOf bs)) (isEnd (tailOf bs)) (toggleOf (tailOf bs)) (length bs) (sym d ∙ omega arith)
 
-      pub not-subscribed : signatureFor u id ≡ none → check u (arriving (frameOf id bs time) out) ≡ some 7
+      pub not-subscribed : signatureFor u id ≡ none → check u (arriving (arrivalOf id bs i time) out) ≡ some 7
       unfolding check
       not-subscribed s = rw (in-order, reads-none, heads-none, s)
 
       module _ (g : ℕ) (s : signatureFor u id ≡ some g) where
-        all-passed : frameCheck u (frameOf id bs time) ≡ none
+        all-passed : frameCheck u (arrivalOf id bs i time) ≡ none
         all-passed = rw (in-order, reads-none, heads-none, s)
 
-        pub no-room : length out < 512 → check u (arriving (frameOf id bs time) out) ≡ some 8
+        pub no-room : length out < 512 → check u (arriving (arrivalOf id bs i time) out) ≡ some 8
         unfolding check
         no-room h = rw (all-passed, lt-ltb (length out) 512 h)
 
-        pub accepted : 512 ≤ length out → check u (arriving (frameOf id bs time) out) ≡ none
+        pub accepted : 512 ≤ length out → check u (arriving (arrivalOf id bs i time) out) ≡ none
         unfolding check
         accepted h = rw (all-passed, le-ltb (length out) 512 h)
 
 pub step-refused : (u : Setup) (ps : Places) (r : Reception) (n : ℕ) → check u r ≡ some n → step u ps r ≡ record { answer = refused n; places = ps }
 unfolding step stepChecked
-step-refused u ps r n e = ap (λ (o : Option ℕ). stepChecked o (isAnonymous (r .frame .id)) ps (parsed u (r .frame))) e
+step-refused u ps r n e = ap (λ (o : Option ℕ). stepChecked o (isAnonymous (r .arrival .frame .id)) ps (parsed u (r .arrival))) e
 
-pub step-accepted : (u : Setup) (ps : Places) (r : Reception) → check u r ≡ none → step u ps r ≡ stepAnonymous (isAnonymous (r .frame .id)) ps (parsed u (r .frame))
+pub step-accepted : (u : Setup) (ps : Places) (r : Reception) → check u r ≡ none → step u ps r ≡ stepAnonymous (isAnonymous (r .arrival .frame .id)) ps (parsed u (r .arrival))
 unfolding step stepChecked
-step-accepted u ps r e = ap (λ (o : Option ℕ). stepChecked o (isAnonymous (r .frame .id)) ps (parsed u (r .frame))) e
+step-accepted u ps r e = ap (λ (o : Option ℕ). stepChecked o (isAnonymous (r .arrival .frame .id)) ps (parsed u (r .arrival))) e

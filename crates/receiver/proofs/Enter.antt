@@ -7,12 +7,12 @@ use native.Mathlib.Omega.{arith}
 use lib.ListN.{length}
 use lib.Seq.{length-take-le}
 use Rattle.bits.proofs.Splice.{length-span}
-use Rattle.rules.specs.Session.{Session, restarted}
+use Rattle.rules.specs.Session.{Session, waiting}
 use Rattle.receiver.specs.inside.Place.{entered}
 use Rattle.receiver.specs.declared.place.Way.{Way}
 use Rattle.receiver.specs.declared.place.Way.the-variants.{New, Again, On}
 use Rattle.session.specs.inside.Session.{sessionOf, streamOf, parsedOf, freshOf, progressOf, bare}
-use Rattle.session.proofs.Rules.{restartsAt, awaitedAt, restarts-bare, awaited-bare}
+use Rattle.session.proofs.Rules.{restarts-whole, over-whole}
 use Rattle.rules.specs.Session.{restarts, over}
 use Rattle.rules.specs.Tests.{isNone}
 use Rattle.session.specs.declared.Incoming.{Incoming}
@@ -32,16 +32,16 @@ pub on-new : On ≡ New → ⊥
 on-new q = let z : _≡_ {A = ℕ} 0 1 = cc in absurd (omega arith)
 
 module _ (m : List ℕ) (i : ℕ) (h : Incoming) (way : Way) where
-  pub enters-new : way ≡ New → (r : coded.Session) → r ≡ freshOf (h .head .transfer) (h .time) → (sessionOf r ≡ entered way m i h) × (r .len ≤ 514)
+  pub enters-new : way ≡ New → (r : coded.Session) → r ≡ freshOf (h .head .transfer) (h .time) (h .interface) → (sessionOf r ≡ entered way m i h) × (r .len ≤ 514)
   unfolding sessionOf parsedOf
   enters-new e r f = (ap sessionOf f ∙ ap (λ (w : Way). entered w m i h) (sym e), omega (arith, ap (λ (x : coded.Session). x .len) f))
 
   module _ (s : coded.Session) (l : sessionOf s ≡ sessionAt m i) where
     pub enters-again : way ≡ Again → (r : coded.Session)
-        → r ≡ record { expected = h .head .transfer; toggle = false; time = s .time; len = 0; bytes = s .bytes } → (sessionOf r ≡ entered way m i h) × (r .len ≤ 514)
+        → r ≡ record { expected = h .head .transfer; toggle = false; time = s .time; follows = h .interface; len = 0; bytes = s .bytes } → (sessionOf r ≡ entered way m i h) × (r .len ≤ 514)
     unfolding sessionOf
     enters-again e r f =
-        (ap sessionOf f ∙ ap (λ (x : Session). restarted x (h .head .transfer)) l ∙ ap (λ (w : Way). entered w m i h) (sym e), omega (arith, ap (λ (x : coded.Session). x .len) f))
+        (ap sessionOf f ∙ ap (λ (x : Session). waiting (h .head .transfer) (x .since) (h .interface)) l ∙ ap (λ (w : Way). entered w m i h) (sym e), omega (arith, ap (λ (x : coded.Session). x .len) f))
 
     pub enters-on : way ≡ On → s .len ≤ 514 → (sessionOf s ≡ entered way m i h) × (s .len ≤ 514)
     enters-on e n = (l ∙ ap (λ (w : Way). entered w m i h) (sym e), n)
@@ -54,6 +54,10 @@ in-hand s q l e = sym (length-take-le (s .len) (s .bytes) l) ∙ ap (λ (x : Ses
 pub expected-of : (s : coded.Session) (q : Session) → sessionOf s ≡ q → s .expected ≡ q .expected
 unfolding sessionOf
 expected-of s q e = ap (λ (x : Session). x .expected) e
+
+pub follows-of : (s : coded.Session) (q : Session) → sessionOf s ≡ q → s .follows ≡ q .follows
+unfolding sessionOf
+follows-of s q e = ap (λ (x : Session). x .follows) e
 
 -- the place is held, since the stream's source is named
 pub held-key : (h : Incoming) (m : List ℕ) (i k : ℕ) → (h .head .source ≡ 0 → ⊥) → k ≡ keyOf (streamOf h) → keyAt m i ≡ k → keyAt m i ≡ 0 → ⊥
@@ -68,10 +72,9 @@ held-few m fine i h z =
     omega arith
 
 -- the code's tests are those on the session of the place
-module _ (s : Session) (c : Progress) (e : c ≡ progressOf s) (h : Incoming) where
-  pub restarts-at : (b : Bool) → b ≡ restarts (bare c) (parsedOf h []) → (a : Bool) → b ≡ a → restartsAt (s .expected) (s .since) h ≡ a
-  restarts-at b t a q = sym (ap (λ (x : Progress). restartsAt (x .expected) (x .time) h) e) ∙ sym (restarts-bare c h) ∙ sym t ∙ q
+module _ (s : Session) (c : Progress) (e : c ≡ progressOf s) (h : Incoming) (p : List ℕ) where
+  pub restarts-at : (b : Bool) → b ≡ restarts (bare c) (parsedOf h []) → (a : Bool) → b ≡ a → restarts s (parsedOf h p) ≡ a
+  restarts-at b t a q = sym (t ∙ ap (λ (x : Progress). restarts (bare x) (parsedOf h [])) e ∙ restarts-whole s h p) ∙ q
 
-  pub awaited-at : (b : Bool) → b ≡ isNone (over (bare c) (parsedOf h [])) → (a : Bool) → b ≡ a
-      → awaitedAt (s .expected) (s .toggle) (length (s .gathered)) h ≡ a
-  awaited-at b t a q = sym (ap (λ (x : Progress). awaitedAt (x .expected) (x .toggle) (x .len) h) e) ∙ sym (awaited-bare c h) ∙ sym t ∙ q
+  pub awaited-at : (b : Bool) → b ≡ isNone (over (bare c) (parsedOf h [])) → (a : Bool) → b ≡ a → isNone (over s (parsedOf h p)) ≡ a
+  awaited-at b t a q = sym (t ∙ ap (λ (x : Progress). isNone (over (bare x) (parsedOf h []))) e ∙ ap isNone (over-whole s h p)) ∙ q

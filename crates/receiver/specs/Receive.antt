@@ -4,7 +4,7 @@ use mathlib.Core.List.{List}
 use Prim.Native.Nat.{ℕ}
 use lib.ListN.{length}
 use Rattle.rules.specs.Check.{Reception}
-use Rattle.rules.specs.Frame.{Frame}
+use Rattle.rules.specs.Frame.{Arrival}
 use Rattle.rules.specs.Reception.{Step, step}
 use Rattle.answers.specs.Reception.{told, outAfter}
 use Rattle.answers.specs.declared.Answer.{Answer}
@@ -21,20 +21,20 @@ pub record Result : Type 0 where
 abbrev pub result : Answer → List ℕ → List ℕ → Result
 result a m out = record { answer = a; state = m; out = out }
 
-abbrev pub frameOf : ℕ → List ℕ → ℕ → Frame
-frameOf id bytes time = record { id = id; bytes = bytes; time = time }
+abbrev pub arrivalOf : ℕ → List ℕ → ℕ → ℕ → Arrival
+arrivalOf id bytes interface time = record { frame = record { id = id; bytes = bytes; time = time }; interface = interface }
 
-abbrev pub arriving : Frame → List ℕ → Reception
-arriving f out = record { frame = f; room = length out }
+abbrev pub arriving : Arrival → List ℕ → Reception
+arriving f out = record { arrival = f; room = length out }
 
 -- a step of the rules on the lent bytes
 abbrev pub lent : List ℕ → List ℕ → Step → Result
 lent m out s = result (told (s .answer)) (written m 0 (s .places)) (outAfter (s .answer) out)
 
 -- RULES 5.3: a state at fault answers 20, first of all
-unfoldable pub receivedIf : Bool → List ℕ → Frame → List ℕ → Result
+unfoldable pub receivedIf : Bool → List ℕ → Arrival → List ℕ → Result
 receivedIf false m f out = result Faulty m out
 receivedIf true m f out = lent m out (step (setupOf m) (placesOf m) (arriving f out))
 
-unfoldable pub received : List ℕ → Frame → List ℕ → Result
+unfoldable pub received : List ℕ → Arrival → List ℕ → Result
 received m f out = receivedIf (soundState m) m f out

@@ -7,7 +7,7 @@ use session::Incoming;
 use subscriptions::Subscribed;
 ghost use mathlib.Core.Path.{_≡_};
 ghost use mathlib.Core.Bool.{true};
-ghost use Rattle.receiver.specs.Receive.{result, frameOf, arriving, lent, received};
+ghost use Rattle.receiver.specs.Receive.{result, arrivalOf, arriving, lent, received};
 ghost use Rattle.receiver.specs.inside.Called.{Accepted};
 ghost use Rattle.rules.specs.Frame.{unnamed, payloadOf};
 ghost use Rattle.rules.specs.Reception.{step, stepAnonymous};
@@ -28,12 +28,19 @@ fn accept(state: &mut [u8], f: Incoming, frame: &[u8], out: &mut [u8]) -> Answer
 }
 
 // Internal. `receive` on a state without a fault, which is not tested again: the frame is read once, then checked.
-pub fn receive_sound(state: &mut [u8], id: u32, frame: &[u8], time: u64, out: &mut [u8]) -> Answer
+pub fn receive_sound(
+    state: &mut [u8],
+    id: u32,
+    frame: &[u8],
+    interface: u32,
+    time: u64,
+    out: &mut [u8],
+) -> Answer
     requires { ⌜ soundState (now state) ≡ true ⌝ }
-    ensures { λ r. ⌜ result r (now (state .exit)) (now (out .exit)) ≡ lent (now (state .entry)) (now (out .entry)) (step (setupOf (now (state .entry))) (placesOf (now (state .entry))) (arriving (frameOf id (now (frame .entry)) time) (now (out .entry)))) ⌝ }
+    ensures { λ r. ⌜ result r (now (state .exit)) (now (out .exit)) ≡ lent (now (state .entry)) (now (out .entry)) (step (setupOf (now (state .entry))) (placesOf (now (state .entry))) (arriving (arrivalOf id (now (frame .entry)) interface time) (now (out .entry)))) ⌝ }
 {
     let n = frame.len();
-    let unreadable = frame::check::unreadable(id, n);
+    let unreadable = frame::check::unreadable(id, n, interface);
     if 0 < unreadable {
         return Answer::Refused(unreadable);
     }
@@ -54,6 +61,7 @@ pub fn receive_sound(state: &mut [u8], id: u32, frame: &[u8], time: u64, out: &m
                     head: h,
                     signature,
                     time,
+                    interface: (interface % 256) as u8,
                 },
                 frame,
                 out,
@@ -62,12 +70,19 @@ pub fn receive_sound(state: &mut [u8], id: u32, frame: &[u8], time: u64, out: &m
     }
 }
 
-// One frame with its time: the answer, the state after and the output buffer (RULES 4.9, 5.6). A state at fault answers 20.
-pub fn receive(state: &mut [u8], id: u32, frame: &[u8], time: u64, out: &mut [u8]) -> Answer
-    ensures { λ r. ⌜ result r (now (state .exit)) (now (out .exit)) ≡ received (now (state .entry)) (frameOf id (now (frame .entry)) time) (now (out .entry)) ⌝ }
+// One frame with its interface and time: the answer, the state after and the output buffer (RULES 4.9, 5.6). A state at fault answers 20.
+pub fn receive(
+    state: &mut [u8],
+    id: u32,
+    frame: &[u8],
+    interface: u32,
+    time: u64,
+    out: &mut [u8],
+) -> Answer
+    ensures { λ r. ⌜ result r (now (state .exit)) (now (out .exit)) ≡ received (now (state .entry)) (arrivalOf id (now (frame .entry)) interface time) (now (out .entry)) ⌝ }
 {
     if sessions::sound::is_sound(state) {
-        return receive_sound(state, id, frame, time, out);
+        return receive_sound(state, id, frame, interface, time, out);
     }
     Answer::Faulty
 }

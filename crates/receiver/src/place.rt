@@ -10,9 +10,9 @@ ghost use mathlib.Core.Path.{_≡_};
 ghost use mathlib.Core.Bool.{true};
 ghost use Prim.Native.Nat.{_≤_, _<_};
 ghost use lib.ListN.{length};
-ghost use Rattle.rules.specs.Limits.{sessionsMax, gatheredMax};
+ghost use Rattle.rules.specs.Limits.{sessionsMax, gatheredMax, interfacesMax};
 ghost use Rattle.rules.specs.Reception.{store, stepNew, stepSeek};
-ghost use Rattle.rules.specs.Session.{restarted, takes, react};
+ghost use Rattle.rules.specs.Session.{waiting, takes, react};
 ghost use Rattle.rules.specs.Table.{held, seek, holds, placeFor};
 ghost use Rattle.receiver.specs.inside.Place.{entered, Enters};
 ghost use Rattle.receiver.specs.Receive.{result, lent};
@@ -35,8 +35,8 @@ fn session_for(state: &[u8], i: usize, way: Way, f: Incoming) -> Session
     ensures { λ r. ⌜ (sessionOf r ≡ entered way (now (state .entry)) i f) × (r .len ≤ gatheredMax) ⌝ }
 {
     match way {
-        Way::New => Session::fresh(f.head.transfer, f.time),
-        Way::Again => sessions::place::load(state, i).restart(f.head.transfer),
+        Way::New => Session::fresh(f.head.transfer, f.time, f.interface),
+        Way::Again => sessions::place::load(state, i).restart(f.head.transfer, f.interface),
         Way::On => sessions::place::load(state, i),
     }
 }
@@ -63,6 +63,7 @@ fn enter(
             expected: q.expected,
             toggle: q.toggle,
             time: q.time,
+            follows: q.follows,
             len: q.len,
         };
         sessions::place::store(state, i, k, c, &q.bytes);
@@ -72,22 +73,24 @@ fn enter(
         expected: g.expected,
         toggle: g.toggle,
         time: g.time,
+        follows: g.follows,
         len: g.len,
     };
     sessions::place::store(state, i, k, c, &g.bytes);
     Answer::Taken
 }
 
-// Nothing is in hand any more: the session of place i waits for this transfer ID.
-fn reset(state: &mut [u8], i: usize, k: u32, expected: u8)
-    requires { ⌜ ((i < sessionsMax) × (size ≤ length (now state))) × ((countAt (now state) i ≤ gatheredMax) × (expected < 32)) ⌝ }
-    ensures { λ _. ⌜ now (state .exit) ≡ withPlace (now (state .entry)) i (held (streamOfKey k) (restarted (sessionAt (now (state .entry)) i) expected)) ⌝ }
+// Nothing is in hand any more: the session of place i waits for this transfer ID by this interface.
+fn reset(state: &mut [u8], i: usize, k: u32, expected: u8, interface: u8)
+    requires { ⌜ ((i < sessionsMax) × (size ≤ length (now state))) × ((countAt (now state) i ≤ gatheredMax) × ((expected < 32) × (interface < interfacesMax))) ⌝ }
+    ensures { λ _. ⌜ now (state .exit) ≡ withPlace (now (state .entry)) i (held (streamOfKey k) (waiting expected (sessionAt (now (state .entry)) i .since) interface)) ⌝ }
 {
-    let q = sessions::place::load(state, i).restart(expected);
+    let q = sessions::place::load(state, i).restart(expected, interface);
     let c = Progress {
         expected: q.expected,
         toggle: q.toggle,
         time: q.time,
+        follows: q.follows,
         len: q.len,
     };
     sessions::place::store(state, i, k, c, &q.bytes);
@@ -104,12 +107,12 @@ fn known(state: &mut [u8], i: usize, k: u32, f: Incoming, p: &[u8], out: &mut [u
         if f.head.start {
             return enter(state, i, k, Way::Again, f, p, out);
         }
-        reset(state, i, k, (f.head.transfer + 1) % 32);
+        reset(state, i, k, (f.head.transfer + 1) % 32, f.interface);
         return Answer::Passed;
     }
     if session::awaited(c, f) {
         if GATHERED < c.len + p.len() {
-            reset(state, i, k, (c.expected + 1) % 32);
+            reset(state, i, k, (c.expected + 1) % 32, c.follows);
             return Answer::TooLong;
         }
         return enter(state, i, k, Way::On, f, p, out);

@@ -9,19 +9,19 @@ use native.Mathlib.Omega.{arith}
 use lib.Dec.{ltb, eqb}
 use lib.ListN.{length, getD, take, drop}
 use lib.Seq.{length-take-le}
-use borrow.Author.Tests.{eq-eqb, ne-eqb, lt-ltb, le-ltb, le-leb, lt-leb, eqb-false}
+use borrow.Author.Tests.{eq-eqb, ne-eqb, lt-ltb, le-ltb, le-leb, lt-leb, eqb-true, eqb-false}
 use Rattle.rules.specs.Answer.{Answer, Reason}
 use Rattle.rules.specs.Answer as answer
 use Rattle.rules.specs.Check.{Reception, Parsed, parsed, badTail}
-use Rattle.rules.specs.Condition3.{ofStream, startOf, keep, All, framesWith, answersTo, upTo, forward, roomy, Brings, done, next, rulesTable}
-use Rattle.rules.specs.Frame.{Frame, Stream, sameStream, streamOf, tailOf, isStart, isEnd, toggleOf}
-use Rattle.rules.specs.Limits.{oldAge}
+use Rattle.rules.specs.Condition3.{ofStream, startOf, keep, All, framesWith, answersTo, upTo, forward, roomy, Brings, done, next, beside, rulesTable}
+use Rattle.rules.specs.Frame.{Frame, Arrival, Stream, sameStream, streamOf, tailOf, isStart, isEnd, toggleOf}
+use Rattle.rules.specs.Limits.{interfacesMax, switchDelay}
 use Rattle.rules.specs.Reception.{stepNew, stepStart, sessionIn, stepSeek, stepAnonymous, stepChecked, step}
 use Rattle.rules.specs.Sending as sending
 use Rattle.rules.specs.Sending.{Call, any}
-use Rattle.rules.specs.SendingLaws.{Hears, untimed}
-use Rattle.rules.specs.Sent.{tailByte, framed, pieces, carrying, frameAt}
-use Rattle.rules.specs.Session.{Session, overIf, over, sumOk, closing, takeEnd, takeLong, takes, proceedIf, proceed, reactIf, react, restarts, restarted, fresh}
+use Rattle.rules.specs.SendingLaws.{Hears, untimed, framesBy}
+use Rattle.rules.specs.Sent.{tailByte, framed, pieces, carrying, frameAt, arrivalAt}
+use Rattle.rules.specs.Session.{Session, overIf, over, sumOk, closing, takeEnd, takeLong, takes, proceedIf, proceed, met, react, fresh}
 use Rattle.rules.specs.Setup.{kindOf, Setup, subscribed, signatureFor}
 use Rattle.rules.specs.Table.{empty, Places, seek, holds, placeFor}
 use Rattle.rules.specs.Tests.{pick, bit, isEmpty, sameBool, isNone}
@@ -84,10 +84,11 @@ module _ (t : ℕ) (small : t < 32) where
 abbrev pub Sorted : Answer → Type 0
 Sorted a = any (map (eqb (answer.numberOf a)) (0 ∷ 1 ∷ 9 ∷ 10 ∷ [])) ≡ true
 
-over-empty : (a b c : Bool) → overIf true a b c ≡ none → b ≡ true
-over-empty true true c e = refl
-over-empty true false c e = let z : _≡_ {A = ℕ} 0 1 = cc in absurd (omega arith)
-over-empty false b c e = let z : _≡_ {A = ℕ} 0 1 = cc in absurd (omega arith)
+over-empty : (f a b c : Bool) → overIf f true a b c ≡ none → b ≡ true
+over-empty true true true c e = refl
+over-empty true true false c e = let z : _≡_ {A = ℕ} 0 1 = cc in absurd (omega arith)
+over-empty true false b c e = let z : _≡_ {A = ℕ} 0 1 = cc in absurd (omega arith)
+over-empty false a b c e = let z : _≡_ {A = ℕ} 0 1 = cc in absurd (omega arith)
 
 none-in-hand : (l xs : List ℕ) → isEmpty l ≡ true → length (l ++ xs) ≡ length xs
 none-in-hand [] xs e = refl
@@ -107,8 +108,8 @@ module _ (v : Parsed) (st : v .start ≡ true) (few : length (v .payload) ≤ 7)
   sorts-taken : (s : Session) → over s v ≡ none → Sorted (takes s v .answer)
   unfolding takes takeLong over
   sorts-taken s e =
-      let h = over-empty (eqb (v .transfer) (s .expected)) (isEmpty (s .gathered)) (sameBool (v .toggle) (s .toggle))
-      (ap (λ b. overIf b (eqb (v .transfer) (s .expected)) (isEmpty (s .gathered)) (sameBool (v .toggle) (s .toggle))) (sym st) ∙ e) in
+      let h = over-empty (eqb (v .interface) (s .follows)) (eqb (v .transfer) (s .expected)) (isEmpty (s .gathered)) (sameBool (v .toggle) (s .toggle))
+      (ap (λ b. overIf (eqb (v .interface) (s .follows)) b (eqb (v .transfer) (s .expected)) (isEmpty (s .gathered)) (sameBool (v .toggle) (s .toggle))) (sym st) ∙ e) in
       let n = none-in-hand (s .gathered) (v .payload) h in
       long (ltb 514 (length (s .gathered ++ v .payload))) (le-ltb 514 (length (s .gathered ++ v .payload)) (omega arith))
     where
@@ -128,13 +129,8 @@ module _ (v : Parsed) (st : v .start ≡ true) (few : length (v .payload) ≤ 7)
       go none e = sorts-taken s e
 
   sorts-react : (s : Session) → Sorted (react s v .answer)
-  unfolding react reactIf
-  sorts-react s = go (restarts s v) (v .start) st
-    where
-      go : (b c : Bool) → c ≡ true → Sorted (reactIf b c s v .answer)
-      go true true e = sorts-proceed (restarted s (v .transfer))
-      go true false e = absurd (true≢false (sym e))
-      go false c e = sorts-proceed s
+  unfolding react
+  sorts-react s = sorts-proceed (met s v)
 
   sorts-new : (ps : Places) (o : Option ℕ) → Sorted (stepNew o ps v .answer)
   unfolding stepNew
@@ -152,9 +148,12 @@ module _ (v : Parsed) (st : v .start ≡ true) (few : length (v .payload) ≤ 7)
 
 -- ── a stream's frames ──
 
--- one reception of each, at one time
+-- one reception of each, at one time and by interface 0
 abbrev pub each : ℕ → ℕ → ℕ → List (List ℕ) → List Reception
-each id time space l = map (λ c. record { frame = frameAt id c time; room = space }) l
+each id time space l = map (λ c. record { arrival = arrivalAt 0 id c time; room = space }) l
+
+abbrev pub arrivalsAt : ℕ → ℕ → List (List ℕ) → List Arrival
+arrivalsAt id time l = map (λ c. arrivalAt 0 id c time) l
 
 abbrev pub framesAt : ℕ → ℕ → List (List ℕ) → List Frame
 framesAt id time l = map (λ c. frameAt id c time) l
@@ -163,15 +162,15 @@ module _ (id : ℕ) (d : Stream) (small : id < 2 ^ 29) (stream : streamOf id ≡
   pub of-it : (c : List ℕ) (time : ℕ) → ofStream d (frameAt id c time) ≡ true
   of-it c time = and-intro (lt-ltb id (2 ^ 29) small) (ap (λ x. sameStream x d) stream ∙ same-refl d)
 
-  pub frames-each : (u : Setup) (time space : ℕ) (l : List (List ℕ)) → framesWith (rulesTable u) (ofStream d) (each id time space l) ≡ framesAt id time l
+  pub frames-each : (u : Setup) (time space : ℕ) (l : List (List ℕ)) → framesWith (rulesTable u) (ofStream d) (each id time space l) ≡ arrivalsAt id time l
   unfolding framesWith
   frames-each u time space [] = refl
-  frames-each u time space (c ∷ l) = rw (of-it c time) (ap (λ fs. frameAt id c time ∷ fs) (frames-each u time space l))
+  frames-each u time space (c ∷ l) = rw (of-it c time) (ap (λ fs. arrivalAt 0 id c time ∷ fs) (frames-each u time space l))
 
   pub upto-each : (u : Setup) (time space : ℕ) (l : List (List ℕ)) → upTo (rulesTable u) (ofStream d) (each id time space l) (length l) ≡ each id time space l
   unfolding upTo
   upto-each u time space [] = refl
-  upto-each u time space (c ∷ l) = rw (of-it c time) (ap (λ rs. record { frame = frameAt id c time; room = space } ∷ rs) (upto-each u time space l))
+  upto-each u time space (c ∷ l) = rw (of-it c time) (ap (λ rs. record { arrival = arrivalAt 0 id c time; room = space } ∷ rs) (upto-each u time space l))
 
   pub roomy-each : (u : Setup) (time space : ℕ) → 512 ≤ space → (l : List (List ℕ)) → roomy (rulesTable u) d (each id time space l) ≡ true
   roomy-each u time space h [] = refl
@@ -181,19 +180,20 @@ pub forward-each : (u : Setup) (id time space : ℕ) (l : List (List ℕ)) → f
 forward-each u id time space [] = refl
 forward-each u id time space (c ∷ l) = rw (le-leb time time (omega arith)) (forward-each u id time space l)
 
-pub untimed-each : (id time : ℕ) (l : List (List ℕ)) → map untimed (framesAt id time l) ≡ framesAt id 0 l
+pub untimed-each : (id time : ℕ) (l : List (List ℕ)) → map untimed (framesBy 0 (arrivalsAt id time l)) ≡ framesAt id 0 l
+unfolding framesBy
 untimed-each id time [] = refl
 untimed-each id time (c ∷ l) = ap (λ fs. frameAt id c 0 ∷ fs) (untimed-each id time l)
 
-pub soon-each : (id time : ℕ) (l : List (List ℕ)) → All (λ f. f .time ≤ time + oldAge) (framesAt id time l)
+pub soon-each : (id time : ℕ) (l : List (List ℕ)) → All (λ a. a .frame .time ≤ time + switchDelay) (arrivalsAt id time l)
 soon-each id time [] = tt
 soon-each id time (c ∷ l) = (omega arith, soon-each id time l)
 
-pub length-each : (id time : ℕ) (l : List (List ℕ)) → length (framesAt id time l) ≡ length l
+pub length-each : (id time : ℕ) (l : List (List ℕ)) → length (arrivalsAt id time l) ≡ length l
 length-each id time [] = refl
 length-each id time (c ∷ l) = ap suc (length-each id time l)
 
-pub brings-each : (id time : ℕ) (l : List (List ℕ)) → Brings id (time + oldAge) l (framesAt id time l)
+pub brings-each : (id time : ℕ) (l : List (List ℕ)) → Brings 0 id (time + switchDelay) l (arrivalsAt id time l)
 brings-each id time [] = done
 brings-each id time (c ∷ l) = next time (omega arith) (brings-each id time l)
 
@@ -205,33 +205,43 @@ module _ (id : ℕ) where
   pub first-timed : (f : Frame) (fs : List Frame) (c : List ℕ) (l : List (List ℕ)) → map untimed (f ∷ fs) ≡ framesAt id 0 (c ∷ l) → frameAt id c (f .time) ≡ f
   first-timed f fs c l e = timed f c (head-eq-of-cons-eq e)
 
-  pub brings-timed : (till : ℕ) (l : List (List ℕ)) (fs : List Frame) → map untimed fs ≡ framesAt id 0 l → All (λ f. f .time ≤ till) fs → Brings id till l fs
-  brings-timed till [] [] e h = done
-  brings-timed till [] (f ∷ fs) e h = absurd (cons≢nil e)
-  brings-timed till (c ∷ l) [] e h = absurd (nil≢cons e)
-  brings-timed till (c ∷ l) (f ∷ fs) e h =
-      subst (λ g. Brings id till (c ∷ l) (g ∷ fs)) (timed f c (head-eq-of-cons-eq e)) (next (f .time) (h .0) (brings-timed till l fs (tail-eq-of-cons-eq e) (h .1)))
+  -- those of one interface
+  module _ (i till : ℕ) where
+    by-it : (a : Arrival) (c : List ℕ) → eqb (a .interface) i ≡ true → untimed (a .frame) ≡ frameAt id c 0 → arrivalAt i id c (a .frame .time) ≡ a
+    by-it a c k e = λ j. record { frame = timed (a .frame) c e j; interface = sym (eqb-true (a .interface) i k) j }
 
-  pub starts-timed : (l : List (List ℕ)) (fs : List Frame) → map untimed fs ≡ framesAt id 0 l → NoStart l → All (λ f. isStart (tailOf (f .bytes)) ≡ false) fs
-  starts-timed [] [] e h = tt
-  starts-timed [] (f ∷ fs) e h = absurd (cons≢nil e)
-  starts-timed (c ∷ l) [] e h = absurd (nil≢cons e)
-  starts-timed (c ∷ l) (f ∷ fs) e h =
-      (ap (λ g. isStart (tailOf (g .bytes))) (head-eq-of-cons-eq e) ∙ h .0, starts-timed l fs (tail-eq-of-cons-eq e) (h .1))
+    pub brings-timed : (l : List (List ℕ)) (l' : List Arrival) → map untimed (framesBy i l') ≡ framesAt id 0 l → All (λ a. a .frame .time ≤ till) l'
+        → Brings i id till l l'
+    unfolding framesBy
+    brings-timed [] [] e h = done
+    brings-timed (c ∷ l) [] e h = absurd (nil≢cons e)
+    brings-timed l (a ∷ l') e h = go (eqb (a .interface) i) refl l e (λ k q. brings-timed k l' q (h .1))
+      where
+        go : (b : Bool) → eqb (a .interface) i ≡ b → (l : List (List ℕ)) → map untimed (keep b (a .frame) (framesBy i l')) ≡ framesAt id 0 l
+            → ((k : List (List ℕ)) → map untimed (framesBy i l') ≡ framesAt id 0 k → Brings i id till k l') → Brings i id till l (a ∷ l')
+        go true k [] e rest = absurd (cons≢nil e)
+        go true k (c ∷ l) e rest =
+            subst (λ g. Brings i id till (c ∷ l) (g ∷ l')) (by-it a c k (head-eq-of-cons-eq e))
+            (next (a .frame .time) (h .0) (rest l (tail-eq-of-cons-eq e)))
+        go false k l e rest = beside a k (h .0) (rest l e)
+
+pub starts-each : (id time : ℕ) (l : List (List ℕ)) → NoStart l → All (λ a. isStart (tailOf (a .frame .bytes)) ≡ false) (arrivalsAt id time l)
+starts-each id time [] h = tt
+starts-each id time (c ∷ l) h = (h .0, starts-each id time l (h .1))
 
 -- where the stream brings no start, none is answered
 pub no-starts : (u : Setup) (d : Stream) (ps : Places) (l : List Reception)
-    → All (λ f. isStart (tailOf (f .bytes)) ≡ false) (framesWith (rulesTable u) (ofStream d) l) → answersTo (rulesTable u) (startOf d) ps l ≡ []
+    → All (λ a. isStart (tailOf (a .frame .bytes)) ≡ false) (framesWith (rulesTable u) (ofStream d) l) → answersTo (rulesTable u) (startOf d) ps l ≡ []
 unfolding framesWith answersTo
 no-starts u d ps [] h = refl
-no-starts u d ps (r ∷ rs) h = go (ofStream d (r .frame)) h (no-starts u d (step u ps r .places) rs)
+no-starts u d ps (r ∷ rs) h = go (ofStream d (r .arrival .frame)) h (no-starts u d (step u ps r .places) rs)
   where
     rest : List Answer
     rest = answersTo (rulesTable u) (startOf d) (step u ps r .places) rs
 
-    go : (b : Bool) → All (λ f. isStart (tailOf (f .bytes)) ≡ false) (keep b (r .frame) (framesWith (rulesTable u) (ofStream d) rs))
-        → (All (λ f. isStart (tailOf (f .bytes)) ≡ false) (framesWith (rulesTable u) (ofStream d) rs) → rest ≡ [])
-        → keep (b && isStart (tailOf (r .frame .bytes))) (step u ps r .answer) rest ≡ []
+    go : (b : Bool) → All (λ a. isStart (tailOf (a .frame .bytes)) ≡ false) (keep b (r .arrival) (framesWith (rulesTable u) (ofStream d) rs))
+        → (All (λ a. isStart (tailOf (a .frame .bytes)) ≡ false) (framesWith (rulesTable u) (ofStream d) rs) → rest ≡ [])
+        → keep (b && isStart (tailOf (r .arrival .frame .bytes))) (step u ps r .answer) rest ≡ []
     go true k ih = rw (k .0) (ih (k .1))
     go false k ih = ih k
 
@@ -242,12 +252,13 @@ module _ (u : Setup) (c : Call) (hears : Hears u c) (id : ℕ) (small : id < 2 ^
   pub signed : signatureFor u id ≡ some (c .signature)
   signed = ap (λ s. subscribed (kindOf s) (s .type) (u .subscriptions)) stream ∙ hears .subscribes
 
-  module _ (t : ℕ) (t-small : t < 32) (xs : List ℕ) (last : Bool) (most : length xs ≤ 7) (whole : last ≡ false → length xs ≡ 7) (time : ℕ) where
+  module _ (t : ℕ) (t-small : t < 32) (xs : List ℕ) (last : Bool) (most : length xs ≤ 7) (whole : last ≡ false → length xs ≡ 7) (time i : ℕ)
+      (ours : i < interfacesMax) where
     abbrev bytes : List ℕ
     bytes = framed xs (tailByte true last false t)
 
-    abbrev f : Frame
-    f = frameAt id bytes time
+    abbrev f : Arrival
+    f = arrivalAt i id bytes time
 
     start-is : parsed u f .start ≡ true
     unfolding parsed
@@ -259,6 +270,7 @@ module _ (u : Setup) (c : Call) (hears : Hears u c) (id : ℕ) (small : id < 2 ^
         record {
           id = lt-leb (2 ^ 29) id small;
           length = rw (ne-eqb (length bytes) 0 (λ e. omega arith), le-ltb 8 (length bytes) (omega arith));
+          interface = lt-leb interfacesMax i ours;
           service = rw stream (served (eqb (c .transferType) 0) refl);
           tail = rw (named-not-anonymous id (rw stream named), starts t t-small xs true last false, ends t t-small xs true last false, toggles t t-small xs true last false)
               (tail last refl);
@@ -282,9 +294,9 @@ module _ (u : Setup) (c : Call) (hears : Hears u c) (id : ℕ) (small : id < 2 ^
 
     -- ── its start ──
 
-    pub sorts-start : (ps : Places) (space : ℕ) → 512 ≤ space → Sorted (step u ps (record { frame = f; room = space }) .answer)
+    pub sorts-start : (ps : Places) (space : ℕ) → 512 ≤ space → Sorted (step u ps (record { arrival = f; room = space }) .answer)
     unfolding step stepChecked stepAnonymous parsed
     sorts-start ps space h =
         let few : length (parsed u f .payload) ≤ 7 = rw (framed-payload xs (tailByte true last false t)) most in
-        rw (roomy-check u (record { frame = f; room = space }) h ∙ none-of u f accepts, named-not-anonymous id (rw stream named))
+        rw (roomy-check u (record { arrival = f; room = space }) h ∙ none-of u f accepts, named-not-anonymous id (rw stream named))
         (sorts-seek (parsed u f) start-is few ps (seek (holds (parsed u f .stream)) ps))

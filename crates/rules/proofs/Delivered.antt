@@ -1,30 +1,28 @@
 -- Sending and then receiving: the records of a send, heard by a receiver that they are for, hand the payload out if their start is taken.
 use mathlib.Core.Path.{_≡_, refl, sym, ap, ap₂, _∙_, subst}
 use mathlib.Core.Bool.{true, false, _&&_}
-use mathlib.Core.List.{List, [], _∷_, map, tail-eq-of-cons-eq}
+use mathlib.Core.List.{List, [], _∷_, map}
 use mathlib.Mathlib.Data.Bool.Basic.{and-elim-left, and-elim-right, and-intro}
 use Prim.Native.Nat.{ℕ, suc, _+_, _*_, _-_, _^_, _≤_, _<_}
 use native.Mathlib.Omega.{arith}
 use lib.Dec.{ltb}
 use lib.ListN.{length, getD}
-use lib.Seq.{take-length}
-use borrow.Author.Tests.{ne-eqb, ltb-true}
+use borrow.Author.Tests.{eq-eqb, ne-eqb, ltb-true}
 use Rattle.bits.specs.Tabulate.{tabulate}
 use Rattle.rules.specs.Answer.{handed}
-use Rattle.rules.specs.Condition3.{ofStream, startOf, All, framesWith, upTo, Receiver, frames, answers, tookStart, front, While, Transfer, handouts, Past, rulesTable}
-use Rattle.rules.specs.Frame.{Frame, Stream, streamOf, isStart, tailOf}
-use Rattle.rules.specs.Limits.{oldAge}
+use Rattle.rules.specs.Condition3.{ofStream, startOf, All, answersTo, upTo, Receiver, frames, answers, tookStart, never, front, Transfer, handouts, Past, rulesTable}
+use Rattle.rules.specs.Frame.{Frame, Arrival, Stream, streamOf, isStart, tailOf}
+use Rattle.rules.specs.Limits.{switchDelay}
 use Rattle.rules.specs.Reception.{step}
 use Rattle.rules.specs.Sending as sending
 use Rattle.rules.specs.Sending.{Call, done, framesOf, sendStep}
-use Rattle.rules.specs.SendingLaws.{transferFor, Correct, Hears, frameIn, untimed, framesIn, Hearing, inTurn, atOnce, Delivered}
+use Rattle.rules.specs.SendingLaws.{transferFor, Correct, Hears, frameIn, untimed, framesIn, framesBy, Hearing, inTurn, atOnce, Delivered}
 use Rattle.rules.specs.Map.{Map, sound}
-use Rattle.rules.specs.Sent.{tailByte, framed, carried, sent, idOf, frameAt}
+use Rattle.rules.specs.Sent.{tailByte, framed, carried, sent, idOf, frameAt, arrivalAt}
 use Rattle.rules.specs.Setup.{Setup}
 use Rattle.rules.specs.Sound.{serviceFits, streamFits}
 use Rattle.rules.specs.Table.{Places}
-use Rattle.rules.proofs.Arrivals.{starts, Opening, opening, Sorted, each, framesAt, of-it, frames-each, upto-each, roomy-each, forward-each, untimed-each, soon-each, length-each, first-timed, brings-timed, starts-timed, no-starts, signed, sorts-start}
-use Rattle.rules.proofs.Follow.{frames-upto}
+use Rattle.rules.proofs.Arrivals.{starts, Opening, opening, Sorted, each, framesAt, of-it, arrivalsAt, frames-each, upto-each, roomy-each, forward-each, untimed-each, soon-each, length-each, first-timed, brings-timed, starts-each, no-starts, signed, sorts-start}
 use Rattle.rules.proofs.Ids.{id-laws}
 use Rattle.rules.proofs.Lift.{free}
 use Rattle.rules.proofs.Records.{Short, sent-short, length-records, back}
@@ -58,45 +56,39 @@ module _ (u : Setup) (c : Call) (hears : Hears u c) (m : Map) (records : List �
       ltb-true 0 (c .destination) (and-elim-left _ _ (and-elim-right (ltb (c .type) 256) _ s))
 
   module _ (n : ℕ) (x : Receiver (rulesTable u)) (h : Hearing u d records n x) (o : Opening t (ok .transfer) data')
-      (heard : map untimed (x .start .frame ∷ frames (rulesTable u) d x) ≡ framesAt id 0 data') where
-    abbrev time : ℕ
-    time = x .start .frame .time
+      (heard : map untimed (framesBy (x .start .arrival .interface) (x .start .arrival ∷ frames (rulesTable u) d x)) ≡ framesAt id 0 data') where
+    abbrev f : Arrival
+    f = x .start .arrival
 
-    abbrev fs : List Frame
+    abbrev time : ℕ
+    time = f .frame .time
+
+    abbrev fs : List Arrival
     fs = frames (rulesTable u) d x
 
     abbrev first : List ℕ
     first = framed (o .bytes) (tailByte true (o .last) false t)
 
-    in-order : map untimed (x .start .frame ∷ fs) ≡ framesAt id 0 (first ∷ o .rest)
-    in-order = heard ∙ ap (framesAt id 0) (o .is)
+    in-order : map untimed (f .frame ∷ framesBy (f .interface) fs) ≡ framesAt id 0 (first ∷ o .rest)
+    unfolding framesBy
+    in-order = rw (eq-eqb (f .interface) (f .interface) refl) at heard ∙ ap (framesAt id 0) (o .is)
 
-    start-is : frameAt id first time ≡ x .start .frame
-    start-is = first-timed id (x .start .frame) fs first (o .rest) in-order
+    start-is : frameAt id first time ≡ f .frame
+    start-is = first-timed id (f .frame) (framesBy (f .interface) fs) first (o .rest) in-order
 
-    starting : startOf d (x .start .frame) ≡ true
+    starting : startOf d (f .frame) ≡ true
     starting =
-        subst (λ f. startOf d f ≡ true) start-is
+        subst (λ g. startOf d g ≡ true) start-is
         (and-intro (of-it id d small stream first time) (starts t (ok .transfer) (o .bytes) true (o .last) false))
 
-    later : All (λ f. isStart (tailOf (f .bytes)) ≡ false) fs
-    later = starts-timed id (o .rest) fs (tail-eq-of-cons-eq in-order) (o .later)
-
-    holds-on : While (rulesTable u) d (length fs) x
-    holds-on =
-        let e : framesWith (rulesTable u) (ofStream d) (front (rulesTable u) d (length fs) x) ≡ fs = frames-upto (ofStream d) u (x .list) (length fs) ∙ take-length fs in
-        let q = no-starts u d (step u (x .state) (x .start) .places) (front (rulesTable u) d (length fs) x)
-        (subst (All (λ f. isStart (tailOf (f .bytes)) ≡ false)) (sym e) later) in
-        record { time = h .time; room = h .rooms; table = rw q }
-
-    transfer : Transfer u d (x .start .frame) fs (c .priority) t (c .payload)
+    transfer : Transfer u d f fs (c .priority) t (c .payload)
     transfer =
         record {
           size = ok .payload;
           fields = (ok .priority, ok .transfer);
           signature = c .signature;
           subscribed = signed u c hears id small stream named aimed;
-          brings = brings-timed id (time + oldAge) data' (x .start .frame ∷ fs) heard (omega arith, h .soon);
+          brings = brings-timed id (f .interface) (time + switchDelay) data' (f ∷ fs) heard (omega arith, h .soon);
         }
 
     hands-out : tookStart (rulesTable u) x ≡ true → handouts (rulesTable u) (answers (rulesTable u) d x) ≡ handed (c .payload) d (c .priority) t ∷ []
@@ -111,12 +103,12 @@ module _ (u : Setup) (c : Call) (hears : Hears u c) (m : Map) (records : List �
           take = (tk, tk);
           same = refl;
         })
-        .delivered (c .priority) t (c .payload) transfer holds-on holds-on .0
+        .delivered (c .priority) t (c .payload) transfer (h .while) (h .while) .0
 
     sorted : Sorted (step u (x .state) (x .start) .answer)
     sorted =
-        subst (λ f. Sorted (step u (x .state) (record { frame = f; room = x .start .room }) .answer)) start-is
-        (sorts-start u c hears id small stream named aimed t (ok .transfer) (o .bytes) (o .last) (o .most) (o .whole) time (x .state) (x .start .room) (h .room))
+        subst (λ g. Sorted (step u (x .state) (record { arrival = record { frame = g; interface = f .interface }; room = x .start .room }) .answer)) start-is
+        (sorts-start u c hears id small stream named aimed t (ok .transfer) (o .bytes) (o .last) (o .most) (o .whole) time (f .interface) (h .interface) (x .state) (x .start .room) (h .room))
 
 -- what is read from the records is each frame in turn
 tab-each : {A : Type 0} (g : List ℕ → A) (l : List (List ℕ)) (f : ℕ → A) (i : ℕ) → ((k : ℕ) → k < length l → f (i + k) ≡ g (getD l k [])) → tabulate f i (length l) ≡ map g l
@@ -180,12 +172,12 @@ module _ (c : Call) (m : Map) (room n i : ℕ) (h : sound m ≡ true) (e : sendS
     d' = sending.streamOf c
 
     abbrev plain : Receiver (rulesTable u)
-    plain = record { state = ps; start = record { frame = frameAt wire one time; room = space }; list = each wire time space rest }
+    plain = record { state = ps; start = record { arrival = arrivalAt 0 wire one time; room = space }; list = each wire time space rest }
 
     stream-of : streamOf wire ≡ d'
     stream-of = id-laws .stream d' (c .priority) (correct .stream)
 
-    plain-frames : frames (rulesTable u) d' plain ≡ framesAt wire time rest
+    plain-frames : frames (rulesTable u) d' plain ≡ arrivalsAt wire time rest
     plain-frames = frames-each wire d' below stream-of u time space rest
 
     plain-front : front (rulesTable u) d' (length (frames (rulesTable u) d' plain)) plain ≡ each wire time space rest
@@ -193,34 +185,44 @@ module _ (c : Call) (m : Map) (room n i : ℕ) (h : sound m ≡ true) (e : sendS
         ap (upTo (rulesTable u) (ofStream d') (each wire time space rest)) (ap length plain-frames ∙ length-each wire time rest)
         ∙ upto-each wire d' below stream-of u time space rest
 
+    none-starts : answersTo (rulesTable u) (startOf d') (step u ps (plain .start) .places) (each wire time space rest) ≡ []
+    none-starts = no-starts u d' (step u ps (plain .start) .places) (each wire time space rest)
+        (subst (All (λ a. isStart (tailOf (a .frame .bytes)) ≡ false)) (sym plain-frames) (starts-each wire time rest (opens .later)))
+
     hears-plain : Hearing u d' out n plain
+    unfolding framesBy
     hears-plain =
         record {
           past = past;
-          heard = ap (λ fs. frameAt wire one 0 ∷ map untimed fs) plain-frames ∙ ap (λ fs. frameAt wire one 0 ∷ fs) (untimed-each wire time rest)
+          interface = omega arith;
+          heard = ap (λ fs. frameAt wire one 0 ∷ map untimed (framesBy 0 fs)) plain-frames ∙ ap (λ fs. frameAt wire one 0 ∷ fs) (untimed-each wire time rest)
               ∙ sym (frames-in ∙ ap (framesAt wire 0) (opens .is));
-          soon = subst (All (λ f. f .time ≤ time + oldAge)) (sym plain-frames) (soon-each wire time rest);
-          time = rw plain-front (forward-each u wire time space rest);
+          soon = subst (All (λ a. a .frame .time ≤ time + switchDelay)) (sym plain-frames) (soon-each wire time rest);
           room = wide;
-          rooms = rw plain-front (roomy-each wire d' below stream-of u time space wide rest);
+          while =
+              record {
+                time = rw plain-front (forward-each u wire time space rest);
+                room = rw plain-front (roomy-each wire d' below stream-of u time space wide rest);
+                table = rw plain-front (ap (never (rulesTable u) 9) none-starts);
+              };
         }
 
     longer : length all ≡ suc (length rest)
     longer = ap length (opens .is)
 
     -- record k is frame k
-    turn : (k : ℕ) → k < length all → inTurn out time space k ≡ record { frame = frameAt wire (getD all k []) time; room = space }
-    turn k b = ap (λ f. record { frame = f; room = space }) (read time k b)
+    turn : (k : ℕ) → k < length all → inTurn out time space k ≡ record { arrival = arrivalAt 0 wire (getD all k []) time; room = space }
+    turn k b = ap (λ f. record { arrival = record { frame = f; interface = 0 }; room = space }) (read time k b)
 
     is-plain : atOnce u ps out n time space ≡ plain
     is-plain =
         let first : inTurn out time space 0 ≡ plain .start =
-        turn 0 (omega (arith, longer)) ∙ ap (λ l. record { frame = frameAt wire (getD l 0 []) time; room = space }) (opens .is) in
+        turn 0 (omega (arith, longer)) ∙ ap (λ l. record { arrival = arrivalAt 0 wire (getD l 0 []) time; room = space }) (opens .is) in
         let others : tabulate (inTurn out time space) 1 (n - 1) ≡ plain .list =
         ap (tabulate (inTurn out time space) 1) (omega (arith, many, longer))
-        ∙ tab-each (λ b. record { frame = frameAt wire b time; room = space }) rest (inTurn out time space) 1
+        ∙ tab-each (λ b. record { arrival = arrivalAt 0 wire b time; room = space }) rest (inTurn out time space) 1
         (λ k b. let z : 1 + k ≡ suc k = omega arith in
-        ap (inTurn out time space) z ∙ turn (suc k) (omega (arith, longer)) ∙ ap (λ l. record { frame = frameAt wire (getD l (suc k) []) time; room = space }) (opens .is)) in
+        ap (inTurn out time space) z ∙ turn (suc k) (omega (arith, longer)) ∙ ap (λ l. record { arrival = arrivalAt 0 wire (getD l (suc k) []) time; room = space }) (opens .is)) in
         λ i. record { state = ps; start = first i; list = others i }
 
     hears-at-once : Hearing u d' out n (atOnce u ps out n time space)

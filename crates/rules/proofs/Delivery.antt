@@ -1,35 +1,36 @@
--- A session that hears its stream alone: of the answers to the frames that carry some bytes, one alone is neither 0 nor a passing over. It is the
+-- A session that hears its stream alone: of the answers to the frames that carry some bytes, one alone is neither 0, nor a passing over, nor a refusal. It is the
 -- last frame's, and closes the transfer as the bytes decide.
 use mathlib.Core.Path.{_≡_, refl, sym, ap, _∙_}
 use mathlib.Core.Bool.{Bool, true, false, true≢false, not, and-false, Bool·not-not}
 use mathlib.Core.List.{List, [], _∷_, _++_, append-assoc, nil≢cons, head-eq-of-cons-eq, tail-eq-of-cons-eq}
-use mathlib.Core.Option.{none, some}
+use mathlib.Core.Option.{Option, none, some}
 use Prim.Native.Nat.{ℕ, zero, suc, _+_, _*_, _-_, _%_, _≤_, _<_}
 use native.Mathlib.Omega.{arith}
 use lib.Dec.{eqb, leb}
 use lib.ListN.{length, take, drop, length-append, length-take, length-drop, take-append-drop}
 use lib.Seq.{length-take-le}
 use borrow.Author.Tests.{eq-eqb, ne-eqb, le-ltb, le-leb, lt-leb}
-use Rattle.rules.specs.Answer.{Answer, taken, handed, refused, full, passed, long, differs, Reason, noTransfer, wrongToggle, wrongTransfer, repeatedStart}
+use Rattle.rules.specs.Answer.{Answer, taken, handed, refused, full, passed, long, differs, Reason, noTransfer, wrongToggle, wrongTransfer, repeatedStart, otherInterface}
 use Rattle.rules.specs.Check.{Parsed, orZero, parsed, badLength, badTail, frameCheck}
-use Rattle.rules.specs.Condition3.{keep, Brings, done, next as onward, again}
-use Rattle.rules.specs.Frame.{Frame, streamOf, priorityOf, isAnonymous}
-use Rattle.rules.specs.Limits.{oldAge}
-use Rattle.rules.specs.Sent.{tailByte, framed, frameAt, pieces, carrying}
-use Rattle.rules.specs.Session.{Session, Out, distance, next, restarts, overIf, over, sumOk, closing, takeEnd, takeLong, takes, proceedIf, proceed, reactIf, react, fresh}
+use Rattle.rules.specs.Condition3.{keep, Brings, done, next as onward, again, beside}
+use Rattle.rules.specs.Frame.{Arrival, streamOf, priorityOf, isAnonymous}
+use Rattle.rules.specs.Limits.{oldAge, switchDelay}
+use Rattle.rules.specs.Sent.{tailByte, framed, arrivalAt, pieces, carrying}
+use Rattle.rules.specs.Session.{Session, Out, distance, next, restarts, overIf, over, sumOk, closing, takeEnd, takeLong, takes, proceedIf, proceed, react, fresh}
 use Rattle.rules.specs.Setup.{Setup, signatureFor}
 use Rattle.rules.specs.Tests.{pick, bit, sameBool, isEmpty}
 use Rattle.rules.proofs.Checks.{Accepted, none-of, check-time, badTailIn}
 use Rattle.rules.proofs.Frames.{framed-length, framed-tail, framed-payload, pieces-length, fulls}
 use Rattle.rules.proofs.Ids.{bit-is, flag-le}
-use Rattle.rules.proofs.Own.{proceed-taken, react-is, refIf, ref, refRun}
+use Rattle.rules.proofs.Own.{proceed-taken, react-stays, refIf, ref, refRun}
+use Rattle.rules.proofs.Ranges.{Small, two-or-more, frame-small}
 
--- ── answers that neither take nor pass over ──
+-- ── answers that end a transfer ──
 
 abbrev pub goesOn : Answer → Bool
 goesOn taken = true
 goesOn (handed p d priority t) = false
-goesOn (refused n) = false
+goesOn (refused n) = not (eqb n 1)
 goesOn full = false
 goesOn (passed r) = true
 goesOn long = false
@@ -42,31 +43,41 @@ closings (a ∷ l) = keep (not (goesOn a)) a (closings l)
 -- ── frames in order, beside the one taken last ──
 
 -- c was taken last, and `more` is to come
-data Then (id till : ℕ) : List ℕ → List (List ℕ) → List Frame → Type 0 where
-  none-left : {c : List ℕ} → Then id till c [] []
-  repeated : {c : List ℕ} {more : List (List ℕ)} {fs : List Frame} (t : ℕ) → t ≤ till → Then id till c more fs
-      → Then id till c more (frameAt id c t ∷ fs)
-  moved : {c n : List ℕ} {more : List (List ℕ)} {fs : List Frame} (t : ℕ) → t ≤ till → Then id till n more fs
-      → Then id till c (n ∷ more) (frameAt id n t ∷ fs)
+data Then (i id till : ℕ) : List ℕ → List (List ℕ) → List Arrival → Type 0 where
+  none-left : {c : List ℕ} → Then i id till c [] []
+  repeated : {c : List ℕ} {more : List (List ℕ)} {fs : List Arrival} (t : ℕ) → t ≤ till → Then i id till c more fs
+      → Then i id till c more (arrivalAt i id c t ∷ fs)
+  moved : {c n : List ℕ} {more : List (List ℕ)} {fs : List Arrival} (t : ℕ) → t ≤ till → Then i id till n more fs
+      → Then i id till c (n ∷ more) (arrivalAt i id n t ∷ fs)
+  astray : {c : List ℕ} {more : List (List ℕ)} {fs : List Arrival} (a : Arrival) → eqb (a .interface) i ≡ false → a .frame .time ≤ till
+      → Then i id till c more fs → Then i id till c more (a ∷ fs)
 
 -- the first of the frames was taken already
-abbrev Taken : ℕ → ℕ → List (List ℕ) → List Frame → Type 0
-Taken id till [] fs = Unit {0}
-Taken id till (n ∷ more) fs = Then id till n more fs
+abbrev Taken : ℕ → ℕ → ℕ → List (List ℕ) → List Arrival → Type 0
+Taken i id till [] fs = Unit {0}
+Taken i id till (n ∷ more) fs = Then i id till n more fs
 
-brought : {id till : ℕ} {ms : List (List ℕ)} {fs : List Frame} → Brings id till ms fs → ((c : List ℕ) → Then id till c ms fs) × Taken id till ms fs
+astray-taken : (i id till : ℕ) (ms : List (List ℕ)) (fs : List Arrival) (a : Arrival) → eqb (a .interface) i ≡ false → a .frame .time ≤ till
+    → Taken i id till ms fs → Taken i id till ms (a ∷ fs)
+astray-taken i id till [] fs a e h k = tt
+astray-taken i id till (n ∷ ms) fs a e h k = astray a e h k
+
+brought : {i id till : ℕ} {ms : List (List ℕ)} {fs : List Arrival} → Brings i id till ms fs → ((c : List ℕ) → Then i id till c ms fs) × Taken i id till ms fs
 brought done = (λ c. none-left, tt)
 brought (onward {c = n} t h b) = let q = brought b in (λ c. moved t h (q .0 n), repeated t h (q .0 n))
 brought (again t h b) = let q = brought b in (λ c. moved t h (q .1), repeated t h (q .1))
+brought {i = i} {id = id} {till = till} (beside {l = l} {fs = fs} a e h b) = let q = brought b in (λ c. astray a e h (q .0 c), astray-taken i id till l fs a e h (q .1))
 
 -- the first frame, and what follows it
-record Opened (id till : ℕ) (c : List ℕ) (more : List (List ℕ)) (f : Frame) (fs : List Frame) : Type 0 where
-  pub bytes : f .bytes ≡ c
-  pub rest : Then id till c more fs
+record Opened (i id till : ℕ) (c : List ℕ) (more : List (List ℕ)) (f : Arrival) (fs : List Arrival) : Type 0 where
+  pub bytes : f .frame .bytes ≡ c
+  pub rest : Then i id till c more fs
 
-opened : {id till : ℕ} {c : List ℕ} {more : List (List ℕ)} {f : Frame} {fs : List Frame} → Brings id till (c ∷ more) (f ∷ fs) → Opened id till c more f fs
-opened {c = c} (onward t h b) = record { bytes = refl; rest = brought b .0 c }
-opened (again t h b) = record { bytes = refl; rest = brought b .1 }
+opened : {i id till : ℕ} {c : List ℕ} {more : List (List ℕ)} {f : Arrival} {fs : List Arrival} → eqb (f .interface) i ≡ true
+    → Brings i id till (c ∷ more) (f ∷ fs) → Opened i id till c more f fs
+opened {c = c} k (onward t h b) = record { bytes = refl; rest = brought b .0 c }
+opened k (again t h b) = record { bytes = refl; rest = brought b .1 }
+opened k (beside a e h b) = absurd (true≢false (sym k ∙ e))
 
 -- ── what a frame's data says ──
 
@@ -83,8 +94,8 @@ module _ (s l g : Bool) (t : ℕ) (h : t < 32) where
   tail-transfer : tailByte s l g t % 32 ≡ t
   tail-transfer = omega arith
 
-abbrev seen : Setup → ℕ → ℕ → ℕ → Bool → Bool → Bool → List ℕ → Parsed
-seen u id t x s l g xs =
+abbrev seen : Setup → ℕ → ℕ → ℕ → ℕ → Bool → Bool → Bool → List ℕ → Parsed
+seen u i id t x s l g xs =
     record {
       stream = streamOf id;
       signature = orZero (signatureFor u id);
@@ -95,38 +106,40 @@ seen u id t x s l g xs =
       transfer = t;
       payload = xs;
       time = x;
+      interface = i;
     }
 
-module _ (u : Setup) (id t : ℕ) (small : t < 32) where
-  sees : (s l g : Bool) (xs : List ℕ) (x : ℕ) → parsed u (frameAt id (framed xs (tailByte s l g t)) x) ≡ seen u id t x s l g xs
+module _ (u : Setup) (i id t : ℕ) (small : t < 32) where
+  sees : (s l g : Bool) (xs : List ℕ) (x : ℕ) → parsed u (arrivalAt i id (framed xs (tailByte s l g t)) x) ≡ seen u i id t x s l g xs
   unfolding parsed
   sees s l g xs x =
       let q = framed-tail xs (tailByte s l g t) in
-      λ i. record {
+      λ j. record {
         stream = streamOf id;
         signature = orZero (signatureFor u id);
         priority = priorityOf id;
-        start = (ap (λ b. bit b 128) q ∙ tail-start s l g t small) i;
-        last = (ap (λ b. bit b 64) q ∙ tail-last s l g t small) i;
-        toggle = (ap (λ b. bit b 32) q ∙ tail-toggle s l g t small) i;
-        transfer = (ap (λ b. b % 32) q ∙ tail-transfer s l g t small) i;
-        payload = framed-payload xs (tailByte s l g t) i;
+        start = (ap (λ b. bit b 128) q ∙ tail-start s l g t small) j;
+        last = (ap (λ b. bit b 64) q ∙ tail-last s l g t small) j;
+        toggle = (ap (λ b. bit b 32) q ∙ tail-toggle s l g t small) j;
+        transfer = (ap (λ b. b % 32) q ∙ tail-transfer s l g t small) j;
+        payload = framed-payload xs (tailByte s l g t) j;
         time = x;
+        interface = i;
       }
 
-  ref-is : (c : List ℕ) (x : ℕ) (z : Session) (v : Parsed) → frameCheck u (frameAt id c x) ≡ none → parsed u (frameAt id c x) ≡ v
-      → ref u z (frameAt id c x) ≡ react z v
+  ref-is : (c : List ℕ) (x : ℕ) (z : Session) (v : Parsed) → frameCheck u (arrivalAt i id c x) ≡ none → parsed u (arrivalAt i id c x) ≡ v
+      → ref u z (arrivalAt i id c x) ≡ react z v
   unfolding ref refIf
-  ref-is c x z v e k = ap (λ o. refIf o z (parsed u (frameAt id c x))) e ∙ ap (λ w. react z w) k
+  ref-is c x z v e k = ap (λ o. refIf o z (parsed u (arrivalAt i id c x))) e ∙ ap (λ w. react z w) k
 
 -- a frame of the transfer, whenever it comes
-record Copy (u : Setup) (id t : ℕ) (g : Bool) (c : List ℕ) : Type 0 where
-  pub ok : (x : ℕ) → frameCheck u (frameAt id c x) ≡ none
-  pub transfer : (x : ℕ) → parsed u (frameAt id c x) .transfer ≡ t
-  pub toggle : (x : ℕ) → parsed u (frameAt id c x) .toggle ≡ g
+record Copy (u : Setup) (i id t : ℕ) (g : Bool) (c : List ℕ) : Type 0 where
+  pub ok : (x : ℕ) → frameCheck u (arrivalAt i id c x) ≡ none
+  pub transfer : (x : ℕ) → parsed u (arrivalAt i id c x) .transfer ≡ t
+  pub toggle : (x : ℕ) → parsed u (arrivalAt i id c x) .toggle ≡ g
 
 -- a later frame of the transfer passes the checks, as the first did
-module _ (u : Setup) (f : Frame) (ok : Accepted u f) (named : isAnonymous (f .id) ≡ false) (t : ℕ) (small : t < 32) where
+module _ (u : Setup) (f : Arrival) (ok : Accepted u f) (named : isAnonymous (f .frame .id) ≡ false) (t : ℕ) (small : t < 32) where
   module _ (l g : Bool) (xs : List ℕ) (most : length xs ≤ 7) (least : 1 ≤ length xs) (whole : l ≡ false → length xs ≡ 7) where
     abbrev later-data : List ℕ
     later-data = framed xs (tailByte false l g t)
@@ -141,69 +154,109 @@ module _ (u : Setup) (f : Frame) (ok : Accepted u f) (named : isAnonymous (f .id
     good-end true e = ne-eqb (length later-data) 1 (λ k. omega (arith, size))
     good-end false e = rw (le-ltb (length later-data) 8 (omega (arith, size, whole e)))
 
-    good-tail : (x : ℕ) → badTailIn (frameAt (f .id) later-data x) ≡ false
+    good-tail : (x : ℕ) → badTailIn (arrivalAt (f .interface) (f .frame .id) later-data x .frame) ≡ false
     unfolding parsed
     good-tail x =
-        let w = parsed u (frameAt (f .id) later-data x) in
+        let w = parsed u (arrivalAt (f .interface) (f .frame .id) later-data x) in
         ap (λ a. badTail a (w .start) (w .last) (w .toggle) (length later-data)) named
-        ∙ ap (λ v. badTail false (v .start) (v .last) (v .toggle) (length later-data)) (sees u (f .id) t small false l g xs x)
+        ∙ ap (λ v. badTail false (v .start) (v .last) (v .toggle) (length later-data)) (sees u (f .interface) (f .frame .id) t small false l g xs x)
         ∙ good-end l refl
 
-    copy : Copy u (f .id) t g later-data
+    copy : Copy u (f .interface) (f .frame .id) t g later-data
     copy =
         record {
-          ok = λ x. none-of u (frameAt (f .id) later-data x)
-              (record { id = ok .id; length = good-length x; service = ok .service; tail = good-tail x; mine = ok .mine; subscribed = ok .subscribed });
-          transfer = λ x. ap (λ v. v .transfer) (sees u (f .id) t small false l g xs x);
-          toggle = λ x. ap (λ v. v .toggle) (sees u (f .id) t small false l g xs x);
+          ok = λ x. none-of u (arrivalAt (f .interface) (f .frame .id) later-data x)
+              (record { id = ok .id; length = good-length x; interface = ok .interface; service = ok .service; tail = good-tail x; mine = ok .mine; subscribed = ok .subscribed });
+          transfer = λ x. ap (λ v. v .transfer) (sees u (f .interface) (f .frame .id) t small false l g xs x);
+          toggle = λ x. ap (λ v. v .toggle) (sees u (f .interface) (f .frame .id) t small false l g xs x);
         }
+
+no-restart : (s : Session) (v : Parsed) → v .time ≤ s .since + switchDelay → distance (v .transfer) (s .expected) ≤ 1 → restarts s v ≡ false
+unfolding restarts
+no-restart s v h k =
+    rw (
+      le-ltb oldAge (v .time - s .since) (omega arith),
+      le-ltb switchDelay (v .time - s .since) (omega arith),
+      le-ltb 1 (distance (v .transfer) (s .expected)) k,
+      and-false (eqb (v .interface) (s .follows)),
+    )
+    (and-false (v .start))
+
+react-passed : (s : Session) (v : Parsed) (r : Reason) → restarts s v ≡ false → over s v ≡ some r → react s v ≡ record { answer = passed r; session = s }
+unfolding proceed proceedIf
+react-passed s v r e k = react-stays s v e ∙ ap (λ o. proceedIf o s v) k
+
+react-taken : (s : Session) (v : Parsed) → restarts s v ≡ false → over s v ≡ none → react s v ≡ takes s v
+react-taken s v e k = react-stays s v e ∙ proceed-taken s v k
+
+-- ── a frame of another interface, within the delay ──
+
+module _ (s : Session) (v : Parsed) (other : eqb (v .interface) (s .follows) ≡ false) where
+  other-stays : v .time ≤ s .since + switchDelay → restarts s v ≡ false
+  unfolding restarts
+  other-stays h =
+      rw (le-ltb oldAge (v .time - s .since) (omega arith), le-ltb switchDelay (v .time - s .since) (omega arith), other) (and-false (v .start))
+
+  other-over : over s v ≡ some otherInterface
+  unfolding over
+  other-over = rw other
+
+-- it changes nothing, and ends no transfer
+other-passes : (u : Setup) (s : Session) (a : Arrival) → eqb (a .interface) (s .follows) ≡ false → a .frame .time ≤ s .since + switchDelay
+    → (goesOn (ref u s a .answer) ≡ true) × (ref u s a .session ≡ s)
+unfolding ref refIf parsed
+other-passes u s a e h = go (frameCheck u a) (frame-small u a)
+  where
+    go : (o : Option ℕ) → Small o → (goesOn (refIf o s (parsed u a) .answer) ≡ true) × (refIf o s (parsed u a) .session ≡ s)
+    go (some n) k = (rw (ne-eqb n 1 (λ z. omega (arith, two-or-more n k))), refl)
+    go none k =
+        let q = react-passed s (parsed u a) otherInterface (other-stays s (parsed u a) e h) (other-over s (parsed u a) e) in
+        (ap (λ o. goesOn (o .answer)) q, ap (λ o. o .session) q)
+
+other-run : (u : Setup) (s : Session) (a : Arrival) (fs : List Arrival) → eqb (a .interface) (s .follows) ≡ false → a .frame .time ≤ s .since + switchDelay
+    → closings (refRun u s (a ∷ fs)) ≡ closings (refRun u s fs)
+unfolding refRun
+other-run u s a fs e h = let q = other-passes u s a e h in rw (q .0, q .1)
 
 -- ── a session, frame by frame ──
 
-no-restart : (s : Session) (v : Parsed) → v .time ≤ s .since + oldAge → distance (v .transfer) (s .expected) ≤ 1 → restarts s v ≡ false
-unfolding restarts
-no-restart s v h k =
-    rw (le-ltb oldAge (v .time - s .since) (omega arith), le-ltb 1 (distance (v .transfer) (s .expected)) k) (and-false (v .start))
-
-react-passed : (s : Session) (v : Parsed) (r : Reason) → restarts s v ≡ false → over s v ≡ some r → react s v ≡ record { answer = passed r; session = s }
-unfolding reactIf proceed proceedIf
-react-passed s v r e k = react-is s v false (v .start) e refl ∙ ap (λ o. proceedIf o s v) k
-
-react-taken : (s : Session) (v : Parsed) → restarts s v ≡ false → over s v ≡ none → react s v ≡ takes s v
-unfolding reactIf
-react-taken s v e k = react-is s v false (v .start) e refl ∙ proceed-taken s v k
-
-parsed-time : (u : Setup) (id : ℕ) (c : List ℕ) (x : ℕ) → parsed u (frameAt id c x) .time ≡ x
+parsed-time : (u : Setup) (i id : ℕ) (c : List ℕ) (x : ℕ) → parsed u (arrivalAt i id c x) .time ≡ x
 unfolding parsed
-parsed-time u id c x = refl
+parsed-time u i id c x = refl
 
--- closed: the expected ID is one past the transfer's, so each repeat is passed over
-module _ (u : Setup) (id t since : ℕ) (small : t < 32) where
+parsed-interface : (u : Setup) (i id : ℕ) (c : List ℕ) (x : ℕ) → parsed u (arrivalAt i id c x) .interface ≡ i
+unfolding parsed
+parsed-interface u i id c x = refl
+
+-- closed: the transfer's ID is behind the expected one, so each repeat is passed over
+module _ (u : Setup) (i id t since : ℕ) (small : t < 32) where
   abbrev idle : Session
-  idle = record { expected = next t; gathered = []; toggle = false; since = since }
+  idle = record { expected = next t; gathered = []; toggle = false; since = since; follows = i }
 
-  idle-over : (v : Parsed) → v .transfer ≡ t → over idle v ≡ some (pick (v .start) wrongTransfer noTransfer)
+  idle-over : (v : Parsed) → v .interface ≡ i → v .transfer ≡ t → over idle v ≡ some (pick (v .start) wrongTransfer noTransfer)
   unfolding over
-  idle-over v e =
+  idle-over v n e =
       let q : eqb (v .transfer) (next t) ≡ false = rw e (ne-eqb t (next t) (λ k. omega arith)) in
-      ap (λ b. overIf (v .start) b true (sameBool (v .toggle) false)) q ∙ go (v .start) (sameBool (v .toggle) false)
+      ap (λ b. overIf b (v .start) (eqb (v .transfer) (next t)) true (sameBool (v .toggle) false)) (eq-eqb (v .interface) i n)
+      ∙ ap (λ b. overIf true (v .start) b true (sameBool (v .toggle) false)) q ∙ go (v .start) (sameBool (v .toggle) false)
     where
-      go : (b g : Bool) → overIf b false true g ≡ some (pick b wrongTransfer noTransfer)
+      go : (b g : Bool) → overIf true b false true g ≡ some (pick b wrongTransfer noTransfer)
       go true g = refl
       go false g = refl
 
-  idle-passes : (v : Parsed) → v .transfer ≡ t → v .time ≤ since + oldAge
+  idle-passes : (v : Parsed) → v .interface ≡ i → v .transfer ≡ t → v .time ≤ since + switchDelay
       → react idle v ≡ record { answer = passed (pick (v .start) wrongTransfer noTransfer); session = idle }
-  idle-passes v e h = react-passed idle v (pick (v .start) wrongTransfer noTransfer) (no-restart idle v h (rw e (omega arith))) (idle-over v e)
+  idle-passes v n e h = react-passed idle v (pick (v .start) wrongTransfer noTransfer) (no-restart idle v h (rw e (omega arith))) (idle-over v n e)
 
-  idle-run : (c : List ℕ) (g : Bool) → Copy u id t g c
-      → (more : List (List ℕ)) (fs : List Frame) → more ≡ [] → Then id (since + oldAge) c more fs → closings (refRun u idle fs) ≡ []
+  idle-run : (c : List ℕ) (g : Bool) → Copy u i id t g c
+      → (more : List (List ℕ)) (fs : List Arrival) → more ≡ [] → Then i id (since + switchDelay) c more fs → closings (refRun u idle fs) ≡ []
   unfolding refRun
   idle-run c g k more fs e none-left = refl
   idle-run c g k more fs e (repeated x h b) =
-      rw (ref-is u id t small c x idle (parsed u (frameAt id c x)) (k .ok x) refl
-      ∙ idle-passes (parsed u (frameAt id c x)) (k .transfer x) (rw (parsed-time u id c x) h))
+      rw (ref-is u i id t small c x idle (parsed u (arrivalAt i id c x)) (k .ok x) refl
+      ∙ idle-passes (parsed u (arrivalAt i id c x)) (parsed-interface u i id c x) (k .transfer x) (rw (parsed-time u i id c x) h))
       (idle-run c g k more _ e b)
+  idle-run c g k more fs e (astray {fs = gs} a n h b) = other-run u idle a gs n h ∙ idle-run c g k more _ e b
   idle-run c g k more fs e (moved x h b) = absurd (nil≢cons (sym e))
 
 same-not : (g : Bool) → sameBool (not g) g ≡ false
@@ -234,66 +287,67 @@ closing-kept false false all v l = refl
 
 -- the answer that closes frames of an ID that carry `all`: alone, or by the checksum in front
 abbrev pub verdict : Setup → ℕ → ℕ → List ℕ → Bool → Answer
-verdict u id t all single = closing single (sumOk (orZero (signatureFor u id)) all) all (seen u id t 0 true true false all)
+verdict u id t all single = closing single (sumOk (orZero (signatureFor u id)) all) all (seen u 0 id t 0 true true false all)
 
 -- ── all the frames that carry some bytes ──
 
-module _ (u : Setup) (f : Frame) (ok : Accepted u f) (named : isAnonymous (f .id) ≡ false) (t : ℕ) (small : t < 32) (all : List ℕ) (most : length all ≤ 514) where
+module _ (u : Setup) (f : Arrival) (ok : Accepted u f) (named : isAnonymous (f .frame .id) ≡ false) (t : ℕ) (small : t < 32) (all : List ℕ) (most : length all ≤ 514) where
   abbrev till : ℕ
-  till = f .time + oldAge
+  till = f .frame .time + switchDelay
 
   abbrev gathering : List ℕ → Bool → Session
-  gathering a g = record { expected = t; gathered = a; toggle = g; since = f .time }
+  gathering a g = record { expected = t; gathered = a; toggle = g; since = f .frame .time; follows = f .interface }
 
   -- a repeat of what was taken last
-  repeat-over : (a : List ℕ) (g : Bool) (v : Parsed) → isEmpty a ≡ false → v .transfer ≡ t → v .toggle ≡ not g
+  repeat-over : (a : List ℕ) (g : Bool) (v : Parsed) → v .interface ≡ f .interface → isEmpty a ≡ false → v .transfer ≡ t → v .toggle ≡ not g
       → over (gathering a g) v ≡ some (pick (v .start) repeatedStart wrongToggle)
   unfolding over
-  repeat-over a g v n e k =
+  repeat-over a g v m n e k =
       let same : sameBool (v .toggle) g ≡ false = rw k (same-not g) in
-      ap (λ b. overIf (v .start) b (isEmpty a) (sameBool (v .toggle) g)) (eq-eqb (v .transfer) t e)
-      ∙ ap (λ b. overIf (v .start) true b (sameBool (v .toggle) g)) n
-      ∙ ap (λ b. overIf (v .start) true false b) same
+      ap (λ b. overIf b (v .start) (eqb (v .transfer) t) (isEmpty a) (sameBool (v .toggle) g)) (eq-eqb (v .interface) (f .interface) m)
+      ∙ ap (λ b. overIf true (v .start) b (isEmpty a) (sameBool (v .toggle) g)) (eq-eqb (v .transfer) t e)
+      ∙ ap (λ b. overIf true (v .start) true b (sameBool (v .toggle) g)) n
+      ∙ ap (λ b. overIf true (v .start) true false b) same
       ∙ go (v .start)
     where
-      go : (b : Bool) → overIf b true false false ≡ some (pick b repeatedStart wrongToggle)
+      go : (b : Bool) → overIf true b true false false ≡ some (pick b repeatedStart wrongToggle)
       go true = refl
       go false = refl
 
-  repeat-passed : (a : List ℕ) (g : Bool) (v : Parsed) → isEmpty a ≡ false → v .transfer ≡ t → v .toggle ≡ not g → v .time ≤ till
+  repeat-passed : (a : List ℕ) (g : Bool) (v : Parsed) → v .interface ≡ f .interface → isEmpty a ≡ false → v .transfer ≡ t → v .toggle ≡ not g → v .time ≤ till
       → react (gathering a g) v ≡ record { answer = passed (pick (v .start) repeatedStart wrongToggle); session = gathering a g }
-  repeat-passed a g v n e k h =
-      react-passed (gathering a g) v (pick (v .start) repeatedStart wrongToggle) (no-restart (gathering a g) v h (rw e (omega arith))) (repeat-over a g v n e k)
+  repeat-passed a g v m n e k h =
+      react-passed (gathering a g) v (pick (v .start) repeatedStart wrongToggle) (no-restart (gathering a g) v h (rw e (omega arith))) (repeat-over a g v m n e k)
 
   -- the next frame
   next-taken : (a xs : List ℕ) (g l : Bool) (x : ℕ) → isEmpty a ≡ false → length (a ++ xs) ≤ 514 → x ≤ till
-      → react (gathering a g) (seen u (f .id) t x false l g xs) ≡ takeEnd l (gathering a g) (seen u (f .id) t x false l g xs) (a ++ xs)
+      → react (gathering a g) (seen u (f .interface) (f .frame .id) t x false l g xs) ≡ takeEnd l (gathering a g) (seen u (f .interface) (f .frame .id) t x false l g xs) (a ++ xs)
   unfolding over takes takeLong
   next-taken a xs g l x n h k =
-      react-taken (gathering a g) (seen u (f .id) t x false l g xs)
-      (no-restart (gathering a g) (seen u (f .id) t x false l g xs) k (omega arith))
-      (rw (same-self g, eq-eqb t t refl, n))
-      ∙ ap (λ b. takeLong b (gathering a g) (seen u (f .id) t x false l g xs) (a ++ xs)) (le-ltb 514 (length (a ++ xs)) h)
+      react-taken (gathering a g) (seen u (f .interface) (f .frame .id) t x false l g xs)
+      (no-restart (gathering a g) (seen u (f .interface) (f .frame .id) t x false l g xs) k (omega arith))
+      (rw (same-self g, eq-eqb (f .interface) (f .interface) refl, eq-eqb t t refl, n))
+      ∙ ap (λ b. takeLong b (gathering a g) (seen u (f .interface) (f .frame .id) t x false l g xs) (a ++ xs)) (le-ltb 514 (length (a ++ xs)) h)
 
   closes-as : (single l g : Bool) (x : ℕ) (xs : List ℕ)
-      → closing single (sumOk (orZero (signatureFor u (f .id))) all) all (seen u (f .id) t x single l g xs) ≡ verdict u (f .id) t all single
+      → closing single (sumOk (orZero (signatureFor u (f .frame .id))) all) all (seen u (f .interface) (f .frame .id) t x single l g xs) ≡ verdict u (f .frame .id) t all single
   closes-as single l g x xs =
-      same-closing single (sumOk (orZero (signatureFor u (f .id))) all) all (seen u (f .id) t x single l g xs) (seen u (f .id) t 0 true true false all) refl refl refl
+      same-closing single (sumOk (orZero (signatureFor u (f .frame .id))) all) all (seen u (f .interface) (f .frame .id) t x single l g xs) (seen u 0 (f .frame .id) t 0 true true false all) refl refl refl
 
-  verdict-kept : (single : Bool) (l : List Answer) → closings (verdict u (f .id) t all single ∷ l) ≡ verdict u (f .id) t all single ∷ closings l
-  verdict-kept single l = closing-kept single (sumOk (orZero (signatureFor u (f .id))) all) all (seen u (f .id) t 0 true true false all) l
+  verdict-kept : (single : Bool) (l : List Answer) → closings (verdict u (f .frame .id) t all single ∷ l) ≡ verdict u (f .frame .id) t all single ∷ closings l
+  verdict-kept single l = closing-kept single (sumOk (orZero (signatureFor u (f .frame .id))) all) all (seen u 0 (f .frame .id) t 0 true true false all) l
 
   -- the last frame, of several
   closes : (a rest : List ℕ) (g : Bool) (x : ℕ) → isEmpty a ≡ false → a ++ rest ≡ all → x ≤ till
-      → react (gathering a g) (seen u (f .id) t x false true g rest) ≡ record { answer = verdict u (f .id) t all false; session = idle u (f .id) t (f .time) small }
+      → react (gathering a g) (seen u (f .interface) (f .frame .id) t x false true g rest) ≡ record { answer = verdict u (f .frame .id) t all false; session = idle u (f .interface) (f .frame .id) t (f .frame .time) small }
   unfolding takeEnd
   closes a rest g x n e h =
       next-taken a rest g true x n (rw e most) h
-      ∙ rw e (ap (λ (w : Answer). record { answer = w; session = idle u (f .id) t (f .time) small }) (closes-as false true g x rest))
+      ∙ rw e (ap (λ (w : Answer). record { answer = w; session = idle u (f .interface) (f .frame .id) t (f .frame .time) small }) (closes-as false true g x rest))
 
   -- one that is not the last
   goes-on : (a rest : List ℕ) (g : Bool) (x : ℕ) → isEmpty a ≡ false → a ++ rest ≡ all → x ≤ till
-      → react (gathering a g) (seen u (f .id) t x false false g (take 7 rest)) ≡ record { answer = taken; session = gathering (a ++ take 7 rest) (not g) }
+      → react (gathering a g) (seen u (f .interface) (f .frame .id) t x false false g (take 7 rest)) ≡ record { answer = taken; session = gathering (a ++ take 7 rest) (not g) }
   unfolding takeEnd
   goes-on a rest g x n e h =
       next-taken a (take 7 rest) g false x n
@@ -302,38 +356,38 @@ module _ (u : Setup) (f : Frame) (ok : Accepted u f) (named : isAnonymous (f .id
   -- `a` is in hand, `rest` is to come in n full frames and a last one, and of the frame c taken last only copies may come before the next
   abbrev ToCome : ℕ → Bool → List ℕ → List ℕ → List ℕ → Type 0
   ToCome n g a rest c =
-      (isEmpty a ≡ false) × (a ++ rest ≡ all) × (7 * n < length rest) × (length rest ≤ 7 * n + 7) × Copy u (f .id) t (not g) c
+      (isEmpty a ≡ false) × (a ++ rest ≡ all) × (7 * n < length rest) × (length rest ≤ 7 * n + 7) × Copy u (f .interface) (f .frame .id) t (not g) c
 
-  abbrev Goal : Bool → List ℕ → List Frame → Type 0
-  Goal g a fs = closings (refRun u (gathering a g) fs) ≡ verdict u (f .id) t all false ∷ []
+  abbrev Goal : Bool → List ℕ → List Arrival → Type 0
+  Goal g a fs = closings (refRun u (gathering a g) fs) ≡ verdict u (f .frame .id) t all false ∷ []
 
-  last-frame : (g : Bool) (a rest c d : List ℕ) (ms : List (List ℕ)) (gs : List Frame) (x : ℕ) → x ≤ till → ToCome 0 g a rest c
-      → d ∷ ms ≡ pieces 0 false g t rest → Then (f .id) till d ms gs → Goal g a (frameAt (f .id) d x ∷ gs)
+  last-frame : (g : Bool) (a rest c d : List ℕ) (ms : List (List ℕ)) (gs : List Arrival) (x : ℕ) → x ≤ till → ToCome 0 g a rest c
+      → d ∷ ms ≡ pieces 0 false g t rest → Then (f .interface) (f .frame .id) till d ms gs → Goal g a (arrivalAt (f .interface) (f .frame .id) d x ∷ gs)
   unfolding refRun pieces
   last-frame g a rest c d ms gs x h w e b =
       let ed : d ≡ framed rest (tailByte false true g t) = head-eq-of-cons-eq e in
       let cp = copy u f ok named t small true g rest (omega arith) (omega arith) (λ z. absurd (true≢false z)) in
-      let q : ref u (gathering a g) (frameAt (f .id) d x) ≡ record { answer = verdict u (f .id) t all false; session = idle u (f .id) t (f .time) small } =
-      ap (λ y. ref u (gathering a g) (frameAt (f .id) y x)) ed
-      ∙ ref-is u (f .id) t small (framed rest (tailByte false true g t)) x (gathering a g) (seen u (f .id) t x false true g rest) (cp .ok x)
-      (sees u (f .id) t small false true g rest x)
+      let q : ref u (gathering a g) (arrivalAt (f .interface) (f .frame .id) d x) ≡ record { answer = verdict u (f .frame .id) t all false; session = idle u (f .interface) (f .frame .id) t (f .frame .time) small } =
+      ap (λ y. ref u (gathering a g) (arrivalAt (f .interface) (f .frame .id) y x)) ed
+      ∙ ref-is u (f .interface) (f .frame .id) t small (framed rest (tailByte false true g t)) x (gathering a g) (seen u (f .interface) (f .frame .id) t x false true g rest) (cp .ok x)
+      (sees u (f .interface) (f .frame .id) t small false true g rest x)
       ∙ closes a rest g x (w .0) (w .1) h in
-      rw q (verdict-kept false (refRun u (idle u (f .id) t (f .time) small) gs)
-      ∙ ap (λ l. verdict u (f .id) t all false ∷ l) (idle-run u (f .id) t (f .time) small d g (rw ed cp) ms gs (tail-eq-of-cons-eq e) b))
+      rw q (verdict-kept false (refRun u (idle u (f .interface) (f .frame .id) t (f .frame .time) small) gs)
+      ∙ ap (λ l. verdict u (f .frame .id) t all false ∷ l) (idle-run u (f .interface) (f .frame .id) t (f .frame .time) small d g (rw ed cp) ms gs (tail-eq-of-cons-eq e) b))
 
-  full-frame : (n : ℕ) (g : Bool) (a rest c d : List ℕ) (ms : List (List ℕ)) (gs : List Frame) (x : ℕ) → x ≤ till → ToCome (suc n) g a rest c
+  full-frame : (n : ℕ) (g : Bool) (a rest c d : List ℕ) (ms : List (List ℕ)) (gs : List Arrival) (x : ℕ) → x ≤ till → ToCome (suc n) g a rest c
       → d ∷ ms ≡ pieces (suc n) false g t rest
       → (ToCome n (not g) (a ++ take 7 rest) (drop 7 rest) d → ms ≡ pieces n false (not g) t (drop 7 rest) → Goal (not g) (a ++ take 7 rest) gs)
-      → Goal g a (frameAt (f .id) d x ∷ gs)
+      → Goal g a (arrivalAt (f .interface) (f .frame .id) d x ∷ gs)
   unfolding refRun pieces
   full-frame n g a rest c d ms gs x h w e go =
       let ed : d ≡ framed (take 7 rest) (tailByte false false g t) = head-eq-of-cons-eq e in
       let s : length (take 7 rest) ≡ 7 = length-take-le 7 rest (omega arith) in
       let cp = copy u f ok named t small false g (take 7 rest) (omega arith) (omega arith) (λ z. s) in
-      let q : ref u (gathering a g) (frameAt (f .id) d x) ≡ record { answer = taken; session = gathering (a ++ take 7 rest) (not g) } =
-      ap (λ y. ref u (gathering a g) (frameAt (f .id) y x)) ed
-      ∙ ref-is u (f .id) t small (framed (take 7 rest) (tailByte false false g t)) x (gathering a g) (seen u (f .id) t x false false g (take 7 rest)) (cp .ok x)
-      (sees u (f .id) t small false false g (take 7 rest) x)
+      let q : ref u (gathering a g) (arrivalAt (f .interface) (f .frame .id) d x) ≡ record { answer = taken; session = gathering (a ++ take 7 rest) (not g) } =
+      ap (λ y. ref u (gathering a g) (arrivalAt (f .interface) (f .frame .id) y x)) ed
+      ∙ ref-is u (f .interface) (f .frame .id) t small (framed (take 7 rest) (tailByte false false g t)) x (gathering a g) (seen u (f .interface) (f .frame .id) t x false false g (take 7 rest)) (cp .ok x)
+      (sees u (f .interface) (f .frame .id) t small false false g (take 7 rest) x)
       ∙ goes-on a rest g x (w .0) (w .1) h in
       rw q
       (go (
@@ -345,21 +399,22 @@ module _ (u : Setup) (f : Frame) (ok : Accepted u f) (named : isAnonymous (f .id
       )
       (tail-eq-of-cons-eq e))
 
-  next-frame : (n : ℕ) (g : Bool) (a rest c d : List ℕ) (ms : List (List ℕ)) (gs : List Frame) (x : ℕ) → x ≤ till → ToCome n g a rest c
-      → d ∷ ms ≡ pieces n false g t rest → Then (f .id) till d ms gs
+  next-frame : (n : ℕ) (g : Bool) (a rest c d : List ℕ) (ms : List (List ℕ)) (gs : List Arrival) (x : ℕ) → x ≤ till → ToCome n g a rest c
+      → d ∷ ms ≡ pieces n false g t rest → Then (f .interface) (f .frame .id) till d ms gs
       → ((n : ℕ) (g : Bool) (a rest : List ℕ) → ToCome n g a rest d → ms ≡ pieces n false g t rest → Goal g a gs)
-      → Goal g a (frameAt (f .id) d x ∷ gs)
+      → Goal g a (arrivalAt (f .interface) (f .frame .id) d x ∷ gs)
   next-frame zero g a rest c d ms gs x h w e b go = last-frame g a rest c d ms gs x h w e b
   next-frame (suc n) g a rest c d ms gs x h w e b go = full-frame n g a rest c d ms gs x h w e (go n (not g) (a ++ take 7 rest) (drop 7 rest))
 
-  run-on : (c : List ℕ) (more : List (List ℕ)) (fs : List Frame) → Then (f .id) till c more fs
+  run-on : (c : List ℕ) (more : List (List ℕ)) (fs : List Arrival) → Then (f .interface) (f .frame .id) till c more fs
       → (n : ℕ) (g : Bool) (a rest : List ℕ) → ToCome n g a rest c → more ≡ pieces n false g t rest → Goal g a fs
   unfolding refRun
   run-on c more fs none-left n g a rest w e = absurd (omega (arith, ap length e, pieces-length n false g t rest))
   run-on c more fs (repeated x h b) n g a rest w e =
-      rw (ref-is u (f .id) t small c x (gathering a g) (parsed u (frameAt (f .id) c x)) (w .4 .ok x) refl
-      ∙ repeat-passed a g (parsed u (frameAt (f .id) c x)) (w .0) (w .4 .transfer x) (w .4 .toggle x) (rw (parsed-time u (f .id) c x) h))
+      rw (ref-is u (f .interface) (f .frame .id) t small c x (gathering a g) (parsed u (arrivalAt (f .interface) (f .frame .id) c x)) (w .4 .ok x) refl
+      ∙ repeat-passed a g (parsed u (arrivalAt (f .interface) (f .frame .id) c x)) (parsed-interface u (f .interface) (f .frame .id) c x) (w .0) (w .4 .transfer x) (w .4 .toggle x) (rw (parsed-time u (f .interface) (f .frame .id) c x) h))
       (run-on c more _ b n g a rest w e)
+  run-on c more fs (astray {fs = gs} y n' h b) n g a rest w e = other-run u (gathering a g) y gs n' h ∙ run-on c more _ b n g a rest w e
   run-on c more fs (moved {n = d} {more = ms} {fs = gs} x h b) n g a rest w e =
       next-frame n g a rest c d ms gs x h w e b (λ n' g' a' rest' w' e'. run-on d ms gs b n' g' a' rest' w' e')
 
@@ -368,11 +423,11 @@ module _ (u : Setup) (f : Frame) (ok : Accepted u f) (named : isAnonymous (f .id
   abbrev first : Out
   first = takes (fresh (parsed u f)) (parsed u f)
 
-  module _ (l : Bool) (xs : List ℕ) (e : f .bytes ≡ framed xs (tailByte true l false t)) where
-    first-seen : (x : ℕ) → parsed u (frameAt (f .id) (f .bytes) x) ≡ seen u (f .id) t x true l false xs
-    first-seen x = ap (λ c. parsed u (frameAt (f .id) c x)) e ∙ sees u (f .id) t small true l false xs x
+  module _ (l : Bool) (xs : List ℕ) (e : f .frame .bytes ≡ framed xs (tailByte true l false t)) where
+    first-seen : (x : ℕ) → parsed u (arrivalAt (f .interface) (f .frame .id) (f .frame .bytes) x) ≡ seen u (f .interface) (f .frame .id) t x true l false xs
+    first-seen x = ap (λ c. parsed u (arrivalAt (f .interface) (f .frame .id) c x)) e ∙ sees u (f .interface) (f .frame .id) t small true l false xs x
 
-    first-copy : Copy u (f .id) t false (f .bytes)
+    first-copy : Copy u (f .interface) (f .frame .id) t false (f .frame .bytes)
     first-copy =
         record {
           ok = λ x. check-time u f x ∙ none-of u f ok;
@@ -380,48 +435,48 @@ module _ (u : Setup) (f : Frame) (ok : Accepted u f) (named : isAnonymous (f .id
           toggle = λ x. ap (λ v. v .toggle) (first-seen x);
         }
 
-    first-is : length xs ≤ 7 → first ≡ takeEnd l (fresh (seen u (f .id) t (f .time) true l false xs)) (seen u (f .id) t (f .time) true l false xs) xs
+    first-is : length xs ≤ 7 → first ≡ takeEnd l (fresh (seen u (f .interface) (f .frame .id) t (f .frame .time) true l false xs)) (seen u (f .interface) (f .frame .id) t (f .frame .time) true l false xs) xs
     unfolding takes takeLong
     first-is h =
-        ap (λ v. takes (fresh v) v) (first-seen (f .time))
-        ∙ ap (λ c. takeLong c (fresh (seen u (f .id) t (f .time) true l false xs)) (seen u (f .id) t (f .time) true l false xs) xs)
+        ap (λ v. takes (fresh v) v) (first-seen (f .frame .time))
+        ∙ ap (λ c. takeLong c (fresh (seen u (f .interface) (f .frame .id) t (f .frame .time) true l false xs)) (seen u (f .interface) (f .frame .id) t (f .frame .time) true l false xs) xs)
         (le-ltb 514 (length xs) (omega arith))
 
   -- one frame, and its repeats
-  alone : (fs : List Frame) (more : List (List ℕ)) → length all ≤ 7 → f .bytes ≡ framed all (tailByte true true false t) → more ≡ []
-      → Then (f .id) till (f .bytes) more fs → closings (first .answer ∷ refRun u (first .session) fs) ≡ verdict u (f .id) t all true ∷ []
+  alone : (fs : List Arrival) (more : List (List ℕ)) → length all ≤ 7 → f .frame .bytes ≡ framed all (tailByte true true false t) → more ≡ []
+      → Then (f .interface) (f .frame .id) till (f .frame .bytes) more fs → closings (first .answer ∷ refRun u (first .session) fs) ≡ verdict u (f .frame .id) t all true ∷ []
   unfolding takeEnd
   alone fs more h e m b =
-      rw (first-is true all e h, closes-as true true false (f .time) all)
-      (verdict-kept true (refRun u (idle u (f .id) t (f .time) small) fs)
-      ∙ ap (λ l. verdict u (f .id) t all true ∷ l) (idle-run u (f .id) t (f .time) small (f .bytes) false (first-copy true all e) more fs m b))
+      rw (first-is true all e h, closes-as true true false (f .frame .time) all)
+      (verdict-kept true (refRun u (idle u (f .interface) (f .frame .id) t (f .frame .time) small) fs)
+      ∙ ap (λ l. verdict u (f .frame .id) t all true ∷ l) (idle-run u (f .interface) (f .frame .id) t (f .frame .time) small (f .frame .bytes) false (first-copy true all e) more fs m b))
 
   take-hand : (l : List ℕ) → 7 < length l → isEmpty (take 7 l) ≡ false
   take-hand [] h = absurd (omega arith)
   take-hand (b ∷ l) h = refl
 
   -- several frames
-  several : (n : ℕ) (fs : List Frame) (more : List (List ℕ)) → fulls all ≡ suc n → f .bytes ≡ framed (take 7 all) (tailByte true false false t)
-      → more ≡ pieces n false true t (drop 7 all) → Then (f .id) till (f .bytes) more fs
-      → closings (first .answer ∷ refRun u (first .session) fs) ≡ verdict u (f .id) t all false ∷ []
+  several : (n : ℕ) (fs : List Arrival) (more : List (List ℕ)) → fulls all ≡ suc n → f .frame .bytes ≡ framed (take 7 all) (tailByte true false false t)
+      → more ≡ pieces n false true t (drop 7 all) → Then (f .interface) (f .frame .id) till (f .frame .bytes) more fs
+      → closings (first .answer ∷ refRun u (first .session) fs) ≡ verdict u (f .frame .id) t all false ∷ []
   unfolding takeEnd
   several n fs more h e m b =
       let s : 7 < length all = omega arith in
       rw (first-is false (take 7 all) e (simp length-take (omega arith)))
-      (run-on (f .bytes) more fs b n true (take 7 all) (drop 7 all)
+      (run-on (f .frame .bytes) more fs b n true (take 7 all) (drop 7 all)
       (take-hand all s, take-append-drop 7 all, simp length-drop (omega arith), simp length-drop (omega arith), first-copy false (take 7 all) e) m)
 
-  pub closes-once : (fs : List Frame) → Brings (f .id) till (carrying t all) (f ∷ fs)
-      → closings (first .answer ∷ refRun u (first .session) fs) ≡ verdict u (f .id) t all (leb (length all) 7) ∷ []
+  pub closes-once : (fs : List Arrival) → Brings (f .interface) (f .frame .id) till (carrying t all) (f ∷ fs)
+      → closings (first .answer ∷ refRun u (first .session) fs) ≡ verdict u (f .frame .id) t all (leb (length all) 7) ∷ []
   unfolding carrying pieces
   closes-once fs b = go (fulls all) refl b
     where
-      go : (n : ℕ) → fulls all ≡ n → Brings (f .id) till (pieces n true false t all) (f ∷ fs)
-          → closings (first .answer ∷ refRun u (first .session) fs) ≡ verdict u (f .id) t all (leb (length all) 7) ∷ []
+      go : (n : ℕ) → fulls all ≡ n → Brings (f .interface) (f .frame .id) till (pieces n true false t all) (f ∷ fs)
+          → closings (first .answer ∷ refRun u (first .session) fs) ≡ verdict u (f .frame .id) t all (leb (length all) 7) ∷ []
       go zero e b =
-          let o = opened b in
+          let o = opened (eq-eqb (f .interface) (f .interface) refl) b in
           let s : length all ≤ 7 = omega arith in
           rw (le-leb (length all) 7 s) (alone fs [] s (o .bytes) refl (rw (← (o .bytes)) at (o .rest)))
       go (suc n) e b =
-          let o = opened b in
+          let o = opened (eq-eqb (f .interface) (f .interface) refl) b in
           rw (lt-leb (length all) 7 (omega arith)) (several n fs _ e (o .bytes) refl (rw (← (o .bytes)) at (o .rest)))

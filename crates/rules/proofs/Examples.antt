@@ -1,4 +1,4 @@
--- The cases of specs/Example.antt and specs/WhyPremises.antt, by computing; the example's claim follows by condition 3.
+-- The cases of specs/Example.antt, specs/WhyPremises.antt and specs/Interfaces.antt, by computing; the example's claim follows by condition 3.
 use mathlib.Core.Path.{_≡_, refl, sym, ap, subst}
 use mathlib.Core.Bool.{Bool, true, false}
 use mathlib.Core.List.{List, [], _∷_}
@@ -11,13 +11,14 @@ use Rattle.bits.specs.Little.{leBytes}
 use Rattle.checksum.specs.Crc.{shift, shifts, crcByte, crcOver}
 use Rattle.checksum.specs.Crc16.{checksum}
 use Rattle.rules.specs.Check.{parsed, frameCheck, check}
-use Rattle.rules.specs.Condition3.{framesWith, answersTo, upTo, frames, Premises, While, Brings, done, next, again, Transfer, fromSetup, lent, heard, rulesTable}
-use Rattle.rules.specs.Example.{setup, stream, payload, frame, start, crowd, earlier, spacious, crowded, Example}
+use Rattle.rules.specs.Condition3.{framesWith, answersTo, upTo, frames, Premises, While, Brings, done, next, again, beside, Transfer, fromSetup, lent, heard, rulesTable}
+use Rattle.rules.specs.Example.{setup, stream, payload, one, three, frame, copied, start, crowd, earlier, spacious, crowded, Example}
 use Rattle.rules.specs.Frame.{sameStream, streamOf}
-use Rattle.rules.specs.Limits.{oldAge}
-use Rattle.rules.specs.Reception.{stepNew, stepStart, stepSeek, stepAnonymous, stepChecked, step, after}
+use Rattle.rules.specs.Interfaces.{Interfaces}
+use Rattle.rules.specs.Limits.{switchDelay}
+use Rattle.rules.specs.Reception.{stepNew, stepStart, stepSeek, stepAnonymous, stepChecked, step, after, run}
 use Rattle.rules.specs.Sent.{tailByte, framed, pieces, carrying, carried, sent, idOf}
-use Rattle.rules.specs.Session.{restarts, over, closing, takeEnd, takeLong, takes, proceedIf, proceed, reactIf, react}
+use Rattle.rules.specs.Session.{restarts, over, closing, takeEnd, takeLong, takes, proceedIf, proceed, restarted, met, react}
 use Rattle.rules.specs.Setup.{subscribed, signatureFor}
 use Rattle.rules.specs.Sound.{streamFits, sessionFits, sound}
 use Rattle.rules.specs.Table.{seek, placeFor}
@@ -27,23 +28,23 @@ use Rattle.rules.proofs.Lift.{free}
 use Rattle.rules.proofs.Theorem.{theorem}
 
 pub example : Example
-unfolding crowd sound streamFits sessionFits framesWith answersTo upTo after step stepChecked stepAnonymous stepSeek stepStart stepNew seek placeFor check frameCheck parsed streamOf sameStream subscribed react reactIf restarts proceed proceedIf over takes takeLong takeEnd idOf sent carrying carried pieces checksum crcOver crcByte shifts shift leBytes
+unfolding crowd sound streamFits sessionFits framesWith answersTo upTo after step stepChecked stepAnonymous stepSeek stepStart stepNew seek placeFor check frameCheck parsed streamOf sameStream subscribed react met restarted restarts proceed proceedIf over takes takeLong takeEnd idOf sent carrying carried pieces checksum crcOver crcByte shifts shift leBytes
 example =
     record {
       premises = premises;
       whiles = (spacious-while, crowded-while);
       transfer = transfer;
-      alike = theorem setup stream spacious crowded premises .alike 5 spacious-while crowded-while;
+      alike = theorem setup stream spacious crowded premises .alike 8 spacious-while crowded-while;
       delivered = theorem setup stream spacious crowded premises .delivered 16 5 payload transfer spacious-while crowded-while;
     }
   where
     premises : Premises (rulesTable setup) stream spacious crowded
     premises = record { pasts = (heard fromSetup earlier, lent refl); typed = (free setup (spacious .start ∷ spacious .list), free setup (crowded .start ∷ crowded .list)); named = omega arith; start = refl; together = refl; take = (refl, refl); same = refl }
 
-    spacious-while : While (rulesTable setup) stream 5 spacious
+    spacious-while : While (rulesTable setup) stream 8 spacious
     spacious-while = record { time = refl; room = refl; table = refl }
 
-    crowded-while : While (rulesTable setup) stream 5 crowded
+    crowded-while : While (rulesTable setup) stream 8 crowded
     crowded-while = record { time = refl; room = refl; table = refl }
 
     transfer : Transfer setup stream start (frames (rulesTable setup) stream spacious) 16 5 payload
@@ -55,9 +56,12 @@ example =
           subscribed = refl;
           brings =
               again 10000000 (omega arith)
+              (beside (copied one 10000000 .arrival) refl (omega arith)
               (next 10000001 (omega arith)
               (again 10001000 (omega arith)
-              (next 10002000 (omega arith) (again 11999999 (omega arith) (next 12000000 (omega arith) done)))));
+              (beside (copied three 10001000 .arrival) refl (omega arith)
+              (next 10002000 (omega arith)
+              (again 10999999 (omega arith) (next 11000000 (omega arith) (beside (copied one 11000000 .arrival) refl (omega arith) done))))))));
         }
 
 -- ── why the premises ──
@@ -94,22 +98,22 @@ complete =
 
 -- frames at one time are brought in order
 brought : (l : List (List ℕ)) (c : List ℕ) (more : List (List ℕ)) → l ≡ c ∷ more
-    → Brings (idOf stream 16) (10000000 + oldAge) l (hearing l .start .frame ∷ frames (rulesTable setup) stream (hearing l))
+    → Brings 0 (idOf stream 16) (10000000 + switchDelay) l (hearing l .start .arrival ∷ frames (rulesTable setup) stream (hearing l))
 unfolding idOf streamOf sameStream
 brought l c more e =
-    subst (λ k. Brings 0x103FF22A (10000000 + oldAge) k (hearing k .start .frame ∷ frames (rulesTable setup) stream (hearing k))) (sym e)
-    (subst (λ fs. Brings 0x103FF22A (10000000 + oldAge) (c ∷ more) (frame c 10000000 ∷ fs)) (sym (frames-each 0x103FF22A stream (omega arith) refl setup 10000000 512 more))
+    subst (λ k. Brings 0 0x103FF22A (10000000 + switchDelay) k (hearing k .start .arrival ∷ frames (rulesTable setup) stream (hearing k))) (sym e)
+    (subst (λ fs. Brings 0 0x103FF22A (10000000 + switchDelay) (c ∷ more) (frame c 10000000 ∷ fs)) (sym (frames-each 0x103FF22A stream (omega arith) refl setup 10000000 512 more))
     (brings-each 0x103FF22A 10000000 (c ∷ more)))
 
 size-case : Sent (hearing (sent agreed 5 long)) agreed 5 long (false ∷ true ∷ true ∷ [])
     × (handedOut (hearing (sent agreed 5 long)) ≡ [])
-unfolding framesWith answersTo upTo step stepChecked stepAnonymous stepSeek stepStart stepNew seek placeFor check frameCheck parsed streamOf sameStream subscribed react reactIf restarts proceed proceedIf over takes takeLong takeEnd closing sound streamFits sessionFits idOf sent carrying carried pieces checksum crcOver crcByte shifts shift leBytes
+unfolding framesWith answersTo upTo step stepChecked stepAnonymous stepSeek stepStart stepNew seek placeFor check frameCheck parsed streamOf sameStream subscribed react met restarted restarts proceed proceedIf over takes takeLong takeEnd closing sound streamFits sessionFits idOf sent carrying carried pieces checksum crcOver crcByte shifts shift leBytes
 size-case =
     let o = opening 5 (omega arith) (carried agreed long) in
     (record { premises = refl; fits = refl; brings = brought (sent agreed 5 long) (framed (o .bytes) (tailByte true (o .last) false 5)) (o .rest) (o .is) }, refl)
 
 pub why-premises : WhyPremises
-unfolding crowd sound streamFits sessionFits framesWith answersTo upTo step stepChecked stepAnonymous stepSeek stepStart stepNew seek placeFor check frameCheck parsed streamOf sameStream subscribed react reactIf restarts proceed proceedIf over takes takeLong takeEnd closing idOf sent carrying carried pieces checksum crcOver crcByte shifts shift leBytes
+unfolding crowd sound streamFits sessionFits framesWith answersTo upTo step stepChecked stepAnonymous stepSeek stepStart stepNew seek placeFor check frameCheck parsed streamOf sameStream subscribed react met restarted restarts proceed proceedIf over takes takeLong takeEnd closing idOf sent carrying carried pieces checksum crcOver crcByte shifts shift leBytes
 why-premises =
     record {
       complete = complete;
@@ -125,16 +129,18 @@ why-premises =
       size = size-case;
       fields = (record { premises = refl; fits = refl; brings = brought (sent agreed 69 payload) _ _ refl }, refl, refl);
       subscribed = (record { premises = refl; fits = refl; brings = brought (sent 7 5 payload) _ _ refl }, refl);
-      seconds = (refl, next 10000000 (omega arith) (next 10100000 (omega arith) (next 12000001 (omega arith) done)), refl);
+      interfaces = (refl, refl, refl, refl, refl);
+      interface = (refl, refl, refl, refl, refl);
+      second = (refl, next 10000000 (omega arith) (next 10100000 (omega arith) (beside (copied one 11000001 .arrival) refl (omega arith) (next 11000001 (omega arith) done))), refl);
       order = (record { premises = refl; fits = refl; brings = in-order }, refl, refl, refl);
     }
   where
-    in-order : Brings (idOf stream 16) (10000000 + oldAge) (sent agreed 5 degrees) (inOrder .start .frame ∷ frames (rulesTable setup) stream inOrder)
+    in-order : Brings 0 (idOf stream 16) (10000000 + switchDelay) (sent agreed 5 degrees) (inOrder .start .arrival ∷ frames (rulesTable setup) stream inOrder)
     in-order =
         next 10000000 (omega arith)
         (again 10100000 (omega arith) (next 10200000 (omega arith) (next 10300000 (omega arith) (next 10400000 (omega arith) done))))
 
-    named : Transfer setup unnamed (twice .start .frame) (frames (rulesTable setup) unnamed twice) 16 0 (1 ∷ [])
+    named : Transfer setup unnamed (twice .start .arrival) (frames (rulesTable setup) unnamed twice) 16 0 (1 ∷ [])
     named =
         record {
           size = omega arith;
@@ -143,3 +149,7 @@ why-premises =
           subscribed = refl;
           brings = again 10000000 (omega arith) (next 10000001 (omega arith) done);
         }
+
+pub interfaces : Interfaces
+unfolding run after step stepChecked stepAnonymous stepSeek stepStart stepNew seek placeFor check frameCheck parsed streamOf sameStream subscribed react met restarted restarts proceed proceedIf over takes takeLong takeEnd closing
+interfaces = record { followed = refl; repeated = refl; switched = refl; ahead = refl; aged = refl; order = refl }

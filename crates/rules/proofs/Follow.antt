@@ -28,11 +28,11 @@ module _ (t : Frame → Bool) (u : Setup) where
   frames-upto [] zero = refl
   frames-upto [] (suc k) = refl
   frames-upto (r ∷ rs) zero = refl
-  frames-upto (r ∷ rs) (suc k) = go (t (r .frame)) (λ n. frames-upto rs n)
+  frames-upto (r ∷ rs) (suc k) = go (t (r .arrival .frame)) (λ n. frames-upto rs n)
     where
       go : (b : Bool) → ((n : ℕ) → framesWith (rulesTable u) t (upTo (rulesTable u) t rs n) ≡ take n (framesWith (rulesTable u) t rs))
-          → keep b (r .frame) (framesWith (rulesTable u) t (upTo (rulesTable u) t rs (pick b k (suc k)))) ≡ take (suc k) (keep b (r .frame) (framesWith (rulesTable u) t rs))
-      go true ih = ap (λ fs. r .frame ∷ fs) (ih k)
+          → keep b (r .arrival) (framesWith (rulesTable u) t (upTo (rulesTable u) t rs (pick b k (suc k)))) ≡ take (suc k) (keep b (r .arrival) (framesWith (rulesTable u) t rs))
+      go true ih = ap (λ fs. r .arrival ∷ fs) (ih k)
       go false ih = ih (suc k)
 
   pub answers-upto : (ps : Places) (l : List Reception) (k : ℕ) → answersTo (rulesTable u) t ps (upTo (rulesTable u) t l k) ≡ take k (answersTo (rulesTable u) t ps l)
@@ -40,7 +40,7 @@ module _ (t : Frame → Bool) (u : Setup) where
   answers-upto ps [] zero = refl
   answers-upto ps [] (suc k) = refl
   answers-upto ps (r ∷ rs) zero = refl
-  answers-upto ps (r ∷ rs) (suc k) = go (t (r .frame)) (λ n. answers-upto (step u ps r .places) rs n)
+  answers-upto ps (r ∷ rs) (suc k) = go (t (r .arrival .frame)) (λ n. answers-upto (step u ps r .places) rs n)
     where
       go : (b : Bool) → ((n : ℕ) → answersTo (rulesTable u) t (step u ps r .places) (upTo (rulesTable u) t rs n) ≡ take n (answersTo (rulesTable u) t (step u ps r .places) rs))
           → keep b (step u ps r .answer) (answersTo (rulesTable u) t (step u ps r .places) (upTo (rulesTable u) t rs (pick b k (suc k))))
@@ -52,10 +52,10 @@ module _ (t : Frame → Bool) (u : Setup) where
   pub answers-length : (ps : Places) (l : List Reception) → length (answersTo (rulesTable u) t ps l) ≡ length (framesWith (rulesTable u) t l)
   unfolding answersTo framesWith
   answers-length ps [] = refl
-  answers-length ps (r ∷ rs) = go (t (r .frame)) (answers-length (step u ps r .places) rs)
+  answers-length ps (r ∷ rs) = go (t (r .arrival .frame)) (answers-length (step u ps r .places) rs)
     where
       go : (b : Bool) → length (answersTo (rulesTable u) t (step u ps r .places) rs) ≡ length (framesWith (rulesTable u) t rs)
-          → length (keep b (step u ps r .answer) (answersTo (rulesTable u) t (step u ps r .places) rs)) ≡ length (keep b (r .frame) (framesWith (rulesTable u) t rs))
+          → length (keep b (step u ps r .answer) (answersTo (rulesTable u) t (step u ps r .places) rs)) ≡ length (keep b (r .arrival) (framesWith (rulesTable u) t rs))
       go true ih = ap suc ih
       go false ih = ih
 
@@ -76,21 +76,21 @@ module _ (u : Setup) (d : Stream) (named : 0 < d .source) where
   unfolding answersTo framesWith refRun parsed Sole
   follow t ps s [] fw ro nf sole beside = refl
   follow t ps s (r ∷ rs) fw ro nf sole beside =
-      go (ofStream d (r .frame)) refl
-      (λ x b. follow (r .frame .time) (step u ps r .places) x rs (and-elim-right (leb t (r .frame .time)) _ fw)
-      (and-elim-right (pick (ofStream d (r .frame)) (leb 512 (r .room)) true) _ ro)
-      (rest-never u (startOf d (r .frame)) 9 (step u ps r .answer) _ nf) (sole-step u ps r sole) b)
+      go (ofStream d (r .arrival .frame)) refl
+      (λ x b. follow (r .arrival .frame .time) (step u ps r .places) x rs (and-elim-right (leb t (r .arrival .frame .time)) _ fw)
+      (and-elim-right (pick (ofStream d (r .arrival .frame)) (leb 512 (r .room)) true) _ ro)
+      (rest-never u (startOf d (r .arrival .frame)) 9 (step u ps r .answer) _ nf) (sole-step u ps r sole) b)
     where
-      onward : t ≤ r .frame .time
-      onward = leb-true t (r .frame .time) (and-elim-left _ _ fw)
+      onward : t ≤ r .arrival .frame .time
+      onward = leb-true t (r .arrival .frame .time) (and-elim-left _ _ fw)
 
-      go : (b : Bool) → ofStream d (r .frame) ≡ b
-          → ((x : Session) → Beside d (r .frame .time) (step u ps r .places) x → answersTo (rulesTable u) (ofStream d) (step u ps r .places) rs ≡ refRun u x (framesWith (rulesTable u) (ofStream d) rs))
-          → keep b (step u ps r .answer) (answersTo (rulesTable u) (ofStream d) (step u ps r .places) rs) ≡ refRun u s (keep b (r .frame) (framesWith (rulesTable u) (ofStream d) rs))
+      go : (b : Bool) → ofStream d (r .arrival .frame) ≡ b
+          → ((x : Session) → Beside d (r .arrival .frame .time) (step u ps r .places) x → answersTo (rulesTable u) (ofStream d) (step u ps r .places) rs ≡ refRun u x (framesWith (rulesTable u) (ofStream d) rs))
+          → keep b (step u ps r .answer) (answersTo (rulesTable u) (ofStream d) (step u ps r .places) rs) ≡ refRun u s (keep b (r .arrival) (framesWith (rulesTable u) (ofStream d) rs))
       go true e ih =
-          let room : pick (ofStream d (r .frame)) (leb 512 (r .room)) true ≡ true = and-elim-left _ _ ro in
+          let room : pick (ofStream d (r .arrival .frame)) (leb 512 (r .room)) true ≡ true = and-elim-left _ _ ro in
           let a = own u d t ps s r sole named e onward (leb-true 512 (r .room) (rw e at room)) beside
-          (λ st. not-full u (startOf d (r .frame)) (step u ps r .answer) _ nf (and-intro e st)) in
+          (λ st. not-full u (startOf d (r .arrival .frame)) (step u ps r .answer) _ nf (and-intro e st)) in
           ap (λ k. k ∷ answersTo (rulesTable u) (ofStream d) (step u ps r .places) rs) (a .answer)
-          ∙ ap (λ k. ref u s (r .frame) .answer ∷ k) (ih (ref u s (r .frame) .session) (a .beside))
-      go false e ih = ih s (beside-kept (others-kept u d ps r (sole d) e) (later (r .frame .time) onward beside))
+          ∙ ap (λ k. ref u s (r .arrival) .answer ∷ k) (ih (ref u s (r .arrival) .session) (a .beside))
+      go false e ih = ih s (beside-kept (others-kept u d ps r (sole d) e) (later (r .arrival .frame .time) onward beside))

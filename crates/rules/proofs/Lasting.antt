@@ -12,9 +12,9 @@ use borrow.Author.Tests.{eqb-true, eq-eqb, eqb-false, ltb-true, ltb-false, lt-lt
 use Rattle.rules.specs.Answer.{Reason}
 use Rattle.rules.specs.Check.{Reception, Parsed, parsed, badTail, check}
 use Rattle.rules.specs.Condition3.{keep}
-use Rattle.rules.specs.Frame.{Frame, Stream, sameStream, isService, sourceOf, destinationOf, isAnonymous, streamIf, streamOf, tailOf, isStart, isEnd, toggleOf}
+use Rattle.rules.specs.Frame.{Arrival, Stream, sameStream, isService, sourceOf, destinationOf, isAnonymous, streamIf, streamOf, tailOf, isStart, isEnd, toggleOf}
 use Rattle.rules.specs.Reception.{stepNew, stepStart, sessionIn, stepSeek, stepAnonymous, stepChecked, step}
-use Rattle.rules.specs.Session.{Session, next, restarts, restarted, over, closed, sinceOf, takeEnd, takeLong, takes, proceedIf, proceed, reactIf, react, fresh}
+use Rattle.rules.specs.Session.{Session, next, restarts, restarted, met, over, closed, sinceOf, takeEnd, takeLong, takes, proceedIf, proceed, react, fresh}
 use Rattle.rules.specs.Setup.{Setup}
 use Rattle.rules.specs.Sound.{messageFits, streamFits, sessionFits, placeFits, placesFit, noneHolds, notAgain, apart, sound, Lasting}
 use Rattle.rules.specs.Table.{Place, empty, held, Places, seek, holds, placeFor}
@@ -78,20 +78,24 @@ sole-apart (p ∷ ps) h = and-intro (sole-first p ps h) (sole-apart ps (sole-res
 
 record Fits (s : Session) : Type 0 where
   pub expected : s .expected < 32
+  pub follows : s .follows < 3
   pub size : length (s .gathered) ≤ 514
   pub toggle : (not (s .toggle) || not (isEmpty (s .gathered))) ≡ true
 
 fits-test : (s : Session) → Fits s → sessionFits s ≡ true
 unfolding sessionFits
 fits-test s h =
-    and-intro (lt-ltb (s .expected) 32 (h .expected)) (and-intro (le-leb (length (s .gathered)) 514 (h .size)) (h .toggle))
+    and-intro (and-intro (lt-ltb (s .expected) 32 (h .expected)) (lt-ltb (s .follows) 3 (h .follows)))
+    (and-intro (le-leb (length (s .gathered)) 514 (h .size)) (h .toggle))
 
 test-fits : (s : Session) → sessionFits s ≡ true → Fits s
 unfolding sessionFits
 test-fits s h =
-    let k = and-elim-right (ltb (s .expected) 32) _ h in
+    let j = and-elim-left (ltb (s .expected) 32 && ltb (s .follows) 3) _ h in
+    let k = and-elim-right (ltb (s .expected) 32 && ltb (s .follows) 3) _ h in
     record {
-      expected = ltb-true (s .expected) 32 (and-elim-left _ _ h);
+      expected = ltb-true (s .expected) 32 (and-elim-left _ _ j);
+      follows = ltb-true (s .follows) 3 (and-elim-right (ltb (s .expected) 32) _ j);
       size = leb-true (length (s .gathered)) 514 (and-elim-left _ _ k);
       toggle = and-elim-right (leb (length (s .gathered)) 514) _ k;
     }
@@ -99,32 +103,39 @@ test-fits s h =
 -- what is in range in a frame that passed the checks
 record ParsedFits (v : Parsed) : Type 0 where
   pub transfer : v .transfer < 32
+  pub interface : v .interface < 3
   pub whole : v .last ≡ false → isEmpty (v .payload) ≡ false
 
 append-some : (a b : List ℕ) → isEmpty b ≡ false → isEmpty (a ++ b) ≡ false
 append-some [] b e = e
 append-some (x ∷ a) b e = refl
 
-restarted-fits : (s : Session) (t : ℕ) → t < 32 → Fits (restarted s t)
-restarted-fits s t h = record { expected = h; size = omega arith; toggle = refl }
+restarted-fits : (s : Session) (v : Parsed) → ParsedFits v → Fits (restarted s v)
+unfolding restarted
+restarted-fits s v h = record { expected = go (v .start); follows = h .interface; size = omega arith; toggle = refl }
+  where
+    go : (b : Bool) → pick b (v .transfer) (next (v .transfer)) < 32
+    go true = h .transfer
+    go false = omega arith
 
-closed-fits : (s : Session) (t : ℕ) → Fits (closed s t)
-closed-fits s t = record { expected = omega arith; size = omega arith; toggle = refl }
+closed-fits : (s : Session) (t : ℕ) → s .follows < 3 → Fits (closed s t)
+closed-fits s t h = record { expected = omega arith; follows = h; size = omega arith; toggle = refl }
 
 module _ (s : Session) (v : Parsed) (ok : Fits s) (vok : ParsedFits v) where
   end-fits : (b : Bool) → v .last ≡ b → length (s .gathered ++ v .payload) ≤ 514 → Fits (takeEnd b s v (s .gathered ++ v .payload) .session)
   unfolding takeEnd
-  end-fits true e h = closed-fits s (sinceOf s v)
+  end-fits true e h = closed-fits s (sinceOf s v) (ok .follows)
   end-fits false e h =
       record {
         expected = ok .expected;
+        follows = ok .follows;
         size = h;
         toggle = rw (append-some (s .gathered) (v .payload) (vok .whole e)) (or-true (not (not (s .toggle))));
       }
 
   long-fits : (b : Bool) → ltb 514 (length (s .gathered ++ v .payload)) ≡ b → Fits (takeLong b s v (s .gathered ++ v .payload) .session)
   unfolding takeLong
-  long-fits true e = closed-fits s (sinceOf s v)
+  long-fits true e = closed-fits s (sinceOf s v) (ok .follows)
   long-fits false e = end-fits (v .last) refl (ltb-false 514 (length (s .gathered ++ v .payload)) e)
 
   proceed-fits : Fits (proceed s v .session)
@@ -135,14 +146,17 @@ module _ (s : Session) (v : Parsed) (ok : Fits s) (vok : ParsedFits v) where
       go (some r) = ok
       go none = long-fits (ltb 514 (length (s .gathered ++ v .payload))) refl
 
-react-fits : (s : Session) (v : Parsed) → Fits s → ParsedFits v → Fits (react s v .session)
-unfolding react reactIf
-react-fits s v ok vok = go (restarts s v) (v .start)
+met-fits : (s : Session) (v : Parsed) → Fits s → ParsedFits v → Fits (met s v)
+unfolding met
+met-fits s v ok vok = go (restarts s v)
   where
-    go : (a b : Bool) → Fits (reactIf a b s v .session)
-    go true true = proceed-fits (restarted s (v .transfer)) v (restarted-fits s (v .transfer) (vok .transfer)) vok
-    go true false = restarted-fits s (next (v .transfer)) (omega arith)
-    go false b = proceed-fits s v ok vok
+    go : (b : Bool) → Fits (pick b (restarted s v) s)
+    go true = restarted-fits s v vok
+    go false = ok
+
+react-fits : (s : Session) (v : Parsed) → Fits s → ParsedFits v → Fits (react s v .session)
+unfolding react
+react-fits s v ok vok = proceed-fits (met s v) v (met-fits s v ok vok) vok
 
 -- ── the table ──
 
@@ -157,7 +171,7 @@ at-fits (p ∷ ps) zero h = and-elim-left _ _ h
 at-fits (p ∷ ps) (suc i) h = at-fits ps i (and-elim-right (placeFits p) _ h)
 
 session-fits : (p : Place) (v : Parsed) → placeFits p ≡ true → ParsedFits v → Fits (sessionIn p v)
-session-fits empty v h vok = restarted-fits (fresh v) (v .transfer) (vok .transfer)
+session-fits empty v h vok = record { expected = vok .transfer; follows = vok .interface; size = omega arith; toggle = refl }
 session-fits (held e s) v h vok = test-fits s (and-elim-right (streamFits e) _ h)
 
 module _ (ps : Places) (v : Parsed) (ok : placesFit ps ≡ true) (vok : ParsedFits v) (stream : streamFits (v .stream) ≡ true) where
@@ -214,16 +228,16 @@ service-fits id h k =
     go true = refl
     go false = refl
 
-pub stream-fits : (u : Setup) (f : Frame) → Accepted u f → isAnonymous (f .id) ≡ false → streamFits (streamOf (f .id)) ≡ true
+pub stream-fits : (u : Setup) (f : Arrival) → Accepted u f → isAnonymous (f .frame .id) ≡ false → streamFits (streamOf (f .frame .id)) ≡ true
 unfolding streamOf
-stream-fits u f a n = go (isService (f .id)) refl
+stream-fits u f a n = go (isService (f .frame .id)) refl
   where
-    go : (b : Bool) → isService (f .id) ≡ b → streamFits (streamIf b (f .id)) ≡ true
+    go : (b : Bool) → isService (f .frame .id) ≡ b → streamFits (streamIf b (f .frame .id)) ≡ true
     go true k =
-        let q = both-named (f .id) k (a .service) in
+        let q = both-named (f .frame .id) k (a .service) in
         let z = or-off _ _ .0 q in
-        service-fits (f .id) (eqb-false (sourceOf (f .id)) 0 (z .0)) (eqb-false (destinationOf (f .id)) 0 (z .1))
-    go false k = message-fits (f .id) (eqb-false (sourceOf (f .id)) 0 (rw k at n))
+        service-fits (f .frame .id) (eqb-false (sourceOf (f .frame .id)) 0 (z .0)) (eqb-false (destinationOf (f .frame .id)) 0 (z .1))
+    go false k = message-fits (f .frame .id) (eqb-false (sourceOf (f .frame .id)) 0 (rw k at n))
 
 take-some : (n : ℕ) (l : List ℕ) → 0 < n → 0 < length l → isEmpty (take n l) ≡ false
 take-some zero l h k = absurd (omega arith)
@@ -237,15 +251,16 @@ whole anonymous start last toggle n e k =
     or-off (not last && ltb n 8) _ .0 (or-off (anonymous && not (start && last)) _ .0 (or-off (start && toggle) _ .0 e .1) .1) .0 in
     ltb-false n 8 (rw k at q)
 
-parsed-fits : (u : Setup) (f : Frame) → Accepted u f → ParsedFits (parsed u f)
+parsed-fits : (u : Setup) (f : Arrival) → Accepted u f → ParsedFits (parsed u f)
 unfolding parsed
 parsed-fits u f a =
     record {
       transfer = omega arith;
+      interface = omega (arith, ltb-false 2 (f .interface) (a .interface));
       whole = λ e.
-          let n : 8 ≤ length (f .bytes) =
-          whole (isAnonymous (f .id)) (isStart (tailOf (f .bytes))) (isEnd (tailOf (f .bytes))) (toggleOf (tailOf (f .bytes))) (length (f .bytes)) (a .tail) e in
-          take-some (length (f .bytes) - 1) (f .bytes) (omega arith) (omega arith);
+          let n : 8 ≤ length (f .frame .bytes) =
+          whole (isAnonymous (f .frame .id)) (isStart (tailOf (f .frame .bytes))) (isEnd (tailOf (f .frame .bytes))) (toggleOf (tailOf (f .frame .bytes))) (length (f .frame .bytes)) (a .tail) e in
+          take-some (length (f .frame .bytes) - 1) (f .frame .bytes) (omega arith) (omega arith);
     }
 
 -- ── the step ──
@@ -254,18 +269,18 @@ fits-step : (u : Setup) (ps : Places) (r : Reception) → placesFit ps ≡ true 
 unfolding step stepChecked parsed
 fits-step u ps r ok = go (check u r) refl
   where
-    go : (o : Option ℕ) → check u r ≡ o → placesFit (stepChecked o (isAnonymous (r .frame .id)) ps (parsed u (r .frame)) .places) ≡ true
+    go : (o : Option ℕ) → check u r ≡ o → placesFit (stepChecked o (isAnonymous (r .arrival .frame .id)) ps (parsed u (r .arrival)) .places) ≡ true
     go (some n) e = ok
     go none e =
-        let a = accepted u (r .frame) (checked u r e) in
-        anonymous-fits ps (parsed u (r .frame)) (isAnonymous (r .frame .id)) ok (parsed-fits u (r .frame) a) (λ n. stream-fits u (r .frame) a n)
+        let a = accepted u (r .arrival) (checked u r e) in
+        anonymous-fits ps (parsed u (r .arrival)) (isAnonymous (r .arrival .frame .id)) ok (parsed-fits u (r .arrival) a) (λ n. stream-fits u (r .arrival) a n)
 
 size-step : (u : Setup) (ps : Places) (r : Reception) → length (step u ps r .places) ≡ length ps
 unfolding step stepChecked stepAnonymous stepSeek stepStart stepNew
-size-step u ps r = checks (check u r) (isAnonymous (r .frame .id))
+size-step u ps r = checks (check u r) (isAnonymous (r .arrival .frame .id))
   where
     v : Parsed
-    v = parsed u (r .frame)
+    v = parsed u (r .arrival)
 
     new : (o : Option ℕ) → length (stepNew o ps v .places) ≡ length ps
     new none = refl

@@ -8,7 +8,7 @@ use lib.Dec.{leb, eqb}
 use lib.ListN.{length, take}
 use Rattle.rules.specs.Answer.{Answer, handed, numberOf}
 use Rattle.rules.specs.Check.{Reception}
-use Rattle.rules.specs.Condition3.{Machine, ofStream, startOf, took, keep, All, frameOf, framesWith, answersTo, upTo, Receiver, startFrame, frames, answers, tookStart, Premises, forward, roomy, never, front, While, Transfer, handouts, Claim, Condition3, Past, rulesTable}
+use Rattle.rules.specs.Condition3.{Machine, ofStream, startOf, took, keep, All, arrivalOf, frameOf, framesWith, answersTo, upTo, Receiver, startFrame, frames, answers, tookStart, Premises, forward, roomy, never, front, While, Transfer, handouts, Claim, Condition3, Past, rulesTable}
 use Rattle.rules.specs.Frame.{Frame, Stream}
 use Rattle.rules.specs.Limits.{payloadMax}
 use Rattle.rules.specs.Range.{Ranged}
@@ -39,7 +39,7 @@ module _ (u : Setup) (M : Machine) where
   pub frames-are : (t : Frame → Bool) (l : List (M .Call)) → framesWith M t l ≡ framesWith (rulesTable u) t (map (M .reception) l)
   unfolding framesWith
   frames-are t [] = refl
-  frames-are t (c ∷ cs) = ap (λ fs. keep (t (frameOf M c)) (frameOf M c) fs) (frames-are t cs)
+  frames-are t (c ∷ cs) = ap (λ fs. keep (t (frameOf M c)) (arrivalOf M c) fs) (frames-are t cs)
 
   upto-are : (t : Frame → Bool) (l : List (M .Call)) (k : ℕ) → map (M .reception) (upTo M t l k) ≡ upTo (rulesTable u) t (map (M .reception) l) k
   unfolding upTo
@@ -71,7 +71,7 @@ module _ (u : Setup) (M : Machine) where
   unfolding answersTo
   all-ranged t ps [] = tt
   all-ranged t ps (r ∷ rs) =
-      keep-ranged (t (r .frame)) (step u ps r .answer) (answersTo (rulesTable u) t (step u ps r .places) rs) (ranges u ps r) (all-ranged t (step u ps r .places) rs)
+      keep-ranged (t (r .arrival .frame)) (step u ps r .answer) (answersTo (rulesTable u) t (step u ps r .places) rs) (ranges u ps r) (all-ranged t (step u ps r .places) rs)
 
   keep-map : (b : Bool) (a : Answer) (l : List Answer) → map (M .shows) (keep b a l) ≡ keep b (M .shows a) (map (M .shows) l)
   keep-map true a l = refl
@@ -133,8 +133,8 @@ module _ (u : Setup) (M : Machine) where
         front-is : map (M .reception) (front M d k x) ≡ seen
         front-is = upto-are (ofStream d) (x .list) k
 
-        time-is : forward M (startFrame M x .time) (front M d k x) ≡ forward (rulesTable u) (startFrame M x .time) seen
-        time-is = forward-is (startFrame M x .time) (front M d k x) ∙ ap (forward (rulesTable u) (startFrame M x .time)) front-is
+        time-is : forward M (startFrame M x .frame .time) (front M d k x) ≡ forward (rulesTable u) (startFrame M x .frame .time) seen
+        time-is = forward-is (startFrame M x .frame .time) (front M d k x) ∙ ap (forward (rulesTable u) (startFrame M x .frame .time)) front-is
 
         room-is : roomy M d (front M d k x) ≡ roomy (rulesTable u) d seen
         room-is = roomy-is d (front M d k x) ∙ ap (roomy (rulesTable u) d) front-is

@@ -107,18 +107,18 @@ module _ (d : Stream) (ps : Places) (v : Parsed) (one : AtMostOne (sessionsOf d 
   kept-anonymous true = still refl
   kept-anonymous false = kept-seek (seek (holds (v .stream)) ps) (seek-spec (holds (v .stream)) ps)
 
-pub others-kept : (u : Setup) (d : Stream) (ps : Places) (r : Reception) → AtMostOne (sessionsOf d ps) → ofStream d (r .frame) ≡ false
-    → Kept d (r .frame .time) ps (step u ps r .places)
+pub others-kept : (u : Setup) (d : Stream) (ps : Places) (r : Reception) → AtMostOne (sessionsOf d ps) → ofStream d (r .arrival .frame) ≡ false
+    → Kept d (r .arrival .frame .time) ps (step u ps r .places)
 unfolding step parsed stepChecked
 others-kept u d ps r one foreign = go (check u r) refl
   where
-    apart : check u r ≡ none → sameStream (parsed u (r .frame) .stream) d ≡ false
+    apart : check u r ≡ none → sameStream (parsed u (r .arrival) .stream) d ≡ false
     apart e =
-        let k : ltb (r .frame .id) (2 ^ 29) ≡ true = lt-ltb (r .frame .id) (2 ^ 29) (leb-false (2 ^ 29) (r .frame .id) (accepted u (r .frame) (checked u r e) .id)) in
+        let k : ltb (r .arrival .frame .id) (2 ^ 29) ≡ true = lt-ltb (r .arrival .frame .id) (2 ^ 29) (leb-false (2 ^ 29) (r .arrival .frame .id) (accepted u (r .arrival) (checked u r e) .id)) in
         rw k at foreign
 
-    go : (o : Option ℕ) → check u r ≡ o → Kept d (r .frame .time) ps (stepChecked o (isAnonymous (r .frame .id)) ps (parsed u (r .frame)) .places)
-    go none e = kept-anonymous d ps (parsed u (r .frame)) one (apart e) (isAnonymous (r .frame .id))
+    go : (o : Option ℕ) → check u r ≡ o → Kept d (r .arrival .frame .time) ps (stepChecked o (isAnonymous (r .arrival .frame .id)) ps (parsed u (r .arrival)) .places)
+    go none e = kept-anonymous d ps (parsed u (r .arrival)) one (apart e) (isAnonymous (r .arrival .frame .id))
     go (some n) e = still refl
 
 -- ── no step gives a stream a second session ──
@@ -151,4 +151,4 @@ module _ (ps : Places) (v : Parsed) (sole : Sole ps) where
 
 pub sole-step : (u : Setup) (ps : Places) (r : Reception) → Sole ps → Sole (step u ps r .places)
 unfolding step
-sole-step u ps r sole = sole-checked ps (parsed u (r .frame)) sole (check u r) (isAnonymous (r .frame .id))
+sole-step u ps r sole = sole-checked ps (parsed u (r .arrival)) sole (check u r) (isAnonymous (r .arrival .frame .id))

@@ -11,9 +11,9 @@ use borrow.Author.Tests.{eq-eqb}
 use Rattle.rules.specs.Answer.{Answer, refused, full, passed, noTransfer}
 use Rattle.rules.specs.Check.{Reception, Parsed, parsed, frameCheck}
 use Rattle.rules.specs.Condition3.{ofStream}
-use Rattle.rules.specs.Frame.{Frame, Stream, streamOf}
+use Rattle.rules.specs.Frame.{Arrival, Stream, streamOf}
 use Rattle.rules.specs.Reception.{Step, store, stepNew, stepStart, sessionIn, stepSeek, stepAnonymous, stepChecked, step}
-use Rattle.rules.specs.Session.{Session, Out, next, restarts, restarted, over, takeEnd, takeLong, takes, proceedIf, proceed, reactIf, react, fresh}
+use Rattle.rules.specs.Session.{Session, Out, restarts, restarted, met, over, takeEnd, takeLong, takes, proceedIf, proceed, react, fresh}
 use Rattle.rules.specs.Setup.{Setup}
 use Rattle.rules.specs.Table.{empty, held, Places, seek, holds, placeFor}
 use Rattle.rules.proofs.Checks.{roomy-check, start-toggle, named-not-anonymous, of-stream}
@@ -26,10 +26,10 @@ unfoldable pub refIf : Option ℕ → Session → Parsed → Out
 refIf (some n) s v = record { answer = refused n; session = s }
 refIf none s v = react s v
 
-unfoldable pub ref : Setup → Session → Frame → Out
+unfoldable pub ref : Setup → Session → Arrival → Out
 ref u s f = refIf (frameCheck u f) s (parsed u f)
 
-unfoldable pub refRun : Setup → Session → List Frame → List Answer
+unfoldable pub refRun : Setup → Session → List Arrival → List Answer
 refRun u s [] = []
 refRun u s (f ∷ fs) = ref u s f .answer ∷ refRun u (ref u s f .session) fs
 
@@ -56,7 +56,7 @@ beside-kept (aged o n) (past o' os) = past n os
 -- ── a session that a start begins: nothing of the past is left ──
 
 abbrev pub began : ℕ → Parsed → Session
-began x v = record { expected = v .transfer; gathered = []; toggle = false; since = x }
+began x v = record { expected = v .transfer; gathered = []; toggle = false; since = x; follows = v .interface }
 
 end-free : (b : Bool) (x y : ℕ) (v : Parsed) (all : List ℕ) → v .start ≡ true → takeEnd b (began x v) v all ≡ takeEnd b (began y v) v all
 unfolding takeEnd
@@ -74,7 +74,7 @@ proceed-taken s v e = ap (λ o. proceedIf o s v) e
 
 began-taken : (x : ℕ) (v : Parsed) → v .start ≡ true → v .toggle ≡ false → over (began x v) v ≡ none
 unfolding over
-began-taken x v e g = rw (e, g, eq-eqb (v .transfer) (v .transfer) refl)
+began-taken x v e g = rw (e, g, eq-eqb (v .interface) (v .interface) refl, eq-eqb (v .transfer) (v .transfer) refl)
 
 pub begins : (x : ℕ) (v : Parsed) → v .start ≡ true → v .toggle ≡ false → proceed (began x v) v ≡ takes (fresh v) v
 unfolding takes
@@ -87,18 +87,34 @@ old-restarts : (s : Session) (v : Parsed) → Old (v .time) s → restarts s v �
 unfolding restarts
 old-restarts s v o = rw (true-old (v .time) s o)
 
-pub react-is : (s : Session) (v : Parsed) (a b : Bool) → restarts s v ≡ a → v .start ≡ b → react s v ≡ reactIf a b s v
+pub react-met : (s x : Session) (v : Parsed) → met s v ≡ x → react s v ≡ proceed x v
 unfolding react
-react-is s v a b e k = ap (λ c. reactIf c (v .start) s v) e ∙ ap (λ c. reactIf a c s v) k
+react-met s x v e = ap (λ y. proceed y v) e
+
+-- a session that restarts goes on as one that the frame begins
+pub react-restarts : (s : Session) (v : Parsed) → restarts s v ≡ true → react s v ≡ proceed (restarted s v) v
+unfolding met
+react-restarts s v e = react-met s (restarted s v) v (rw e)
+
+pub react-stays : (s : Session) (v : Parsed) → restarts s v ≡ false → react s v ≡ proceed s v
+unfolding met
+react-stays s v e = react-met s s v (rw e)
+
+pub restart-start : (s : Session) (v : Parsed) → restarts s v ≡ true → v .start ≡ true → v .toggle ≡ false → react s v ≡ takes (fresh v) v
+unfolding restarted
+restart-start s v r e g = react-restarts s v r ∙ ap (λ y. proceed y v) (rw e) ∙ begins (s .since) v e g
 
 react-old-start : (s : Session) (v : Parsed) → Old (v .time) s → v .start ≡ true → v .toggle ≡ false → react s v ≡ takes (fresh v) v
-unfolding reactIf
-react-old-start s v o e g = react-is s v true true (old-restarts s v o) e ∙ begins (s .since) v e g
+react-old-start s v o e g = restart-start s v (old-restarts s v o) e g
 
 react-old-other : (s : Session) (v : Parsed) → Old (v .time) s → v .start ≡ false
-    → react s v ≡ record { answer = passed noTransfer; session = restarted s (next (v .transfer)) }
-unfolding reactIf
-react-old-other s v o e = react-is s v true false (old-restarts s v o) e
+    → react s v ≡ record { answer = passed noTransfer; session = restarted s v }
+unfolding proceed proceedIf over restarted
+react-old-other s v o e = react-restarts s v (old-restarts s v o) ∙ rw (e, eq-eqb (v .interface) (v .interface) refl)
+
+old-stays : (s : Session) (v : Parsed) → Old (v .time) s → Old (v .time) (restarted s v)
+unfolding restarted
+old-stays s v o = o
 
 -- ── a frame of the stream ──
 
@@ -119,7 +135,7 @@ module _ (ps : Places) (s : Session) (v : Parsed) (proper : v .start ≡ true �
           record { answer = ap (λ o. o .answer) q; beside = same (stored (react x v .session) ∙ ap (λ o. o .session ∷ []) q) }
       go false e =
           rw (react-old-other x v ox e, react-old-other s v os e)
-          (record { answer = refl; beside = past (rw (stored (restarted x (next (v .transfer)))) (ox, tt)) os })
+          (record { answer = refl; beside = past (rw (stored (restarted x v)) (old-stays x v ox, tt)) (old-stays s v os) })
 
   own-found : (i : ℕ) → Found (holds (v .stream)) ps (some i) → Beside (v .stream) (v .time) ps s
       → Agree (v .stream) (v .time) (stepSeek (some i) ps v) (react s v)
@@ -148,7 +164,7 @@ module _ (ps : Places) (s : Session) (v : Parsed) (proper : v .start ≡ true �
       → (b ≡ true → stepStart b ps v .answer ≡ full → ⊥) → Agree (v .stream) (v .time) (stepStart b ps v) (react s v)
   unfolding stepStart
   own-start true st e os nf = own-new (placeFor (v .time) ps) (place-spec (v .time) ps) e os st (nf refl)
-  own-start false st e os nf = rw (react-old-other s v os st) (record { answer = refl; beside = past (rw e tt) os })
+  own-start false st e os nf = rw (react-old-other s v os st) (record { answer = refl; beside = past (rw e tt) (old-stays s v os) })
 
   own-none : sessionsOf (v .stream) ps ≡ [] → Beside (v .stream) (v .time) ps s
       → (v .start ≡ true → stepStart (v .start) ps v .answer ≡ full → ⊥) → Agree (v .stream) (v .time) (stepStart (v .start) ps v) (react s v)
@@ -162,25 +178,25 @@ module _ (ps : Places) (s : Session) (v : Parsed) (proper : v .start ≡ true �
   own-seek (some i) h b nf = own-found i h b
 
 own-stream : (u : Setup) (ps : Places) (s : Session) (r : Reception) → Sole ps
-    → 0 < streamOf (r .frame .id) .source → 512 ≤ r .room → Beside (streamOf (r .frame .id)) (r .frame .time) ps s
-    → (parsed u (r .frame) .start ≡ true → step u ps r .answer ≡ full → ⊥)
-    → Agree (streamOf (r .frame .id)) (r .frame .time) (step u ps r) (ref u s (r .frame))
+    → 0 < streamOf (r .arrival .frame .id) .source → 512 ≤ r .room → Beside (streamOf (r .arrival .frame .id)) (r .arrival .frame .time) ps s
+    → (parsed u (r .arrival) .start ≡ true → step u ps r .answer ≡ full → ⊥)
+    → Agree (streamOf (r .arrival .frame .id)) (r .arrival .frame .time) (step u ps r) (ref u s (r .arrival))
 unfolding step parsed stepChecked stepAnonymous ref refIf
 own-stream u ps s r sole named room beside nf =
-    rw (roomy-check u r room, named-not-anonymous (r .frame .id) named)
-    (go (frameCheck u (r .frame)) refl (rw (roomy-check u r room, named-not-anonymous (r .frame .id) named) at nf))
+    rw (roomy-check u r room, named-not-anonymous (r .arrival .frame .id) named)
+    (go (frameCheck u (r .arrival)) refl (rw (roomy-check u r room, named-not-anonymous (r .arrival .frame .id) named) at nf))
   where
     v : Parsed
-    v = parsed u (r .frame)
+    v = parsed u (r .arrival)
 
-    go : (o : Option ℕ) → frameCheck u (r .frame) ≡ o → (v .start ≡ true → stepChecked o false ps v .answer ≡ full → ⊥)
-        → Agree (streamOf (r .frame .id)) (r .frame .time) (stepChecked o false ps v) (refIf o s v)
-    go none e n = own-seek ps s v (start-toggle u (r .frame) e) sole (seek (holds (v .stream)) ps) (seek-spec (holds (v .stream)) ps) beside n
+    go : (o : Option ℕ) → frameCheck u (r .arrival) ≡ o → (v .start ≡ true → stepChecked o false ps v .answer ≡ full → ⊥)
+        → Agree (streamOf (r .arrival .frame .id)) (r .arrival .frame .time) (stepChecked o false ps v) (refIf o s v)
+    go none e n = own-seek ps s v (start-toggle u (r .arrival) e) sole (seek (holds (v .stream)) ps) (seek-spec (holds (v .stream)) ps) beside n
     go (some n) e k = record { answer = refl; beside = beside }
 
 pub own : (u : Setup) (d : Stream) (t : ℕ) (ps : Places) (s : Session) (r : Reception) → Sole ps
-    → 0 < d .source → ofStream d (r .frame) ≡ true → t ≤ r .frame .time → 512 ≤ r .room → Beside d t ps s
-    → (parsed u (r .frame) .start ≡ true → step u ps r .answer ≡ full → ⊥) → Agree d (r .frame .time) (step u ps r) (ref u s (r .frame))
+    → 0 < d .source → ofStream d (r .arrival .frame) ≡ true → t ≤ r .arrival .frame .time → 512 ≤ r .room → Beside d t ps s
+    → (parsed u (r .arrival) .start ≡ true → step u ps r .answer ≡ full → ⊥) → Agree d (r .arrival .frame .time) (step u ps r) (ref u s (r .arrival))
 own u d t ps s r sole named e h room beside nf =
-    subst (λ k. 0 < k .source → Beside k (r .frame .time) ps s → Agree k (r .frame .time) (step u ps r) (ref u s (r .frame)))
-    (of-stream d (r .frame) e) (λ n l. own-stream u ps s r sole n room l nf) named (later (r .frame .time) h beside)
+    subst (λ k. 0 < k .source → Beside k (r .arrival .frame .time) ps s → Agree k (r .arrival .frame .time) (step u ps r) (ref u s (r .arrival)))
+    (of-stream d (r .arrival .frame) e) (λ n l. own-stream u ps s r sole n room l nf) named (later (r .arrival .frame .time) h beside)

@@ -2,6 +2,7 @@
 use mathlib.Core.Path.{_≡_, refl}
 use mathlib.Core.Bool.{Bool, true, false}
 use mathlib.Core.List.{List, [], _∷_, _++_}
+use mathlib.Core.Logic.{_⊎_, inl, inr}
 use mathlib.Core.Option.{Option, none, some}
 use mathlib.Mathlib.Data.Bool.Basic.{or-eq-false-eq-eq-false-and-eq-false as or-off}
 use Prim.Native.Nat.{ℕ, _/_, _%_, _^_, _-_, _≤_, _<_}
@@ -10,11 +11,11 @@ use lib.Dec.{ltb, eqb}
 use lib.ListN.{length, take, drop, getD, length-take, length-drop}
 use borrow.Author.Tests.{ltb-false, leb-false}
 use Rattle.rules.specs.Answer.{Answer, taken, handed, refused, full, passed, long, differs, Reason, numberOf}
-use Rattle.rules.specs.Check.{Reception, Parsed, parsed, largeId, badLength, unnamedService, forAnother, notSubscribed, frameCheck, roomCheck, check}
-use Rattle.rules.specs.Frame.{Frame, isService, isAnonymous, sourceOf, streamIf, streamOf}
+use Rattle.rules.specs.Check.{Reception, Parsed, parsed, largeId, badLength, noInterface, unnamedService, forAnother, notSubscribed, frameCheck, roomCheck, check}
+use Rattle.rules.specs.Frame.{Arrival, isService, isAnonymous, sourceOf, streamIf, streamOf}
 use Rattle.rules.specs.Range.{HandedRange, Ranged, RangeLaw, out, HandOut, OneLaw}
 use Rattle.rules.specs.Reception.{sessionIn, stepNew, stepStart, stepSeek, stepAnonymous, stepChecked, step}
-use Rattle.rules.specs.Session.{Session, sumOk, closing, takeEnd, takeLong, takes, overIf, over, proceedIf, proceed, reactIf, react, restarts, restarted, fresh}
+use Rattle.rules.specs.Session.{Session, sumOk, closing, takeEnd, takeLong, takes, overIf, over, proceedIf, proceed, react, met, fresh}
 use Rattle.rules.specs.Setup.{Setup}
 use Rattle.rules.specs.Table.{Places, empty, seek, holds, placeFor}
 use Rattle.rules.specs.Tests.{bit, pick, isEmpty, sameBool}
@@ -25,32 +26,32 @@ use Rattle.rules.proofs.Checks.{Accepted, accepted, checked, badTailIn}
 abbrev Headed : Parsed → Type 0
 Headed v = HandedRange (v .payload) (v .stream) (v .priority) (v .transfer) × (length (v .payload) ≤ 7)
 
-headed : (u : Setup) (f : Frame) → Accepted u f → Headed (parsed u f)
+headed : (u : Setup) (f : Arrival) → Accepted u f → Headed (parsed u f)
 unfolding parsed streamOf
-headed u f a = go (isService (f .id))
+headed u f a = go (isService (f .frame .id))
   where
-    id-lt : f .id < 2 ^ 29
-    id-lt = leb-false (2 ^ 29) (f .id) (a .id)
+    id-lt : f .frame .id < 2 ^ 29
+    id-lt = leb-false (2 ^ 29) (f .frame .id) (a .id)
 
-    short : length (take (length (f .bytes) - 1) (f .bytes)) ≤ 7
+    short : length (take (length (f .frame .bytes) - 1) (f .frame .bytes)) ≤ 7
     short =
-        let l = ltb-false 8 (length (f .bytes)) (or-off (eqb (length (f .bytes)) 0) (ltb 8 (length (f .bytes))) .0 (a .length) .1) in
-        omega (arith, length-take (length (f .bytes) - 1) (f .bytes), l)
+        let l = ltb-false 8 (length (f .frame .bytes)) (or-off (eqb (length (f .frame .bytes)) 0) (ltb 8 (length (f .frame .bytes))) .0 (a .length) .1) in
+        omega (arith, length-take (length (f .frame .bytes) - 1) (f .frame .bytes), l)
 
     kinds : (b : Bool) → pick {A = ℕ} b 1 2 < 3
     kinds true = omega arith
     kinds false = omega arith
 
-    types : (b : Bool) → pick b (f .id / 256 % 4) (f .id / 256 % 65536) < 65536
+    types : (b : Bool) → pick b (f .frame .id / 256 % 4) (f .frame .id / 256 % 65536) < 65536
     types true = omega arith
     types false = omega arith
 
-    go : (b : Bool) → HandedRange (take (length (f .bytes) - 1) (f .bytes)) (streamIf b (f .id)) (f .id / 16777216) (getD (f .bytes) (length (f .bytes) - 1) 0 % 32)
-        × (length (take (length (f .bytes) - 1) (f .bytes)) ≤ 7)
+    go : (b : Bool) → HandedRange (take (length (f .frame .bytes) - 1) (f .frame .bytes)) (streamIf b (f .frame .id)) (f .frame .id / 16777216) (getD (f .frame .bytes) (length (f .frame .bytes) - 1) 0 % 32)
+        × (length (take (length (f .frame .bytes) - 1) (f .frame .bytes)) ≤ 7)
     go true = (
       record {
         length = omega (arith, short);
-        transferType = kinds (bit (f .id) 32768);
+        transferType = kinds (bit (f .frame .id) 32768);
         type = omega arith;
         source = omega arith;
         destination = omega arith;
@@ -63,7 +64,7 @@ headed u f a = go (isService (f .id))
       record {
         length = omega (arith, short);
         transferType = omega arith;
-        type = types (eqb (sourceOf (f .id)) 0);
+        type = types (eqb (sourceOf (f .frame .id)) 0);
         source = omega arith;
         destination = omega arith;
         priority = omega (arith, id-lt);
@@ -109,11 +110,12 @@ module _ (v : Parsed) (h : Headed v) where
   take-range s k = long-range (ltb 514 (length (s .gathered ++ v .payload))) s (s .gathered ++ v .payload) refl k
 
   -- a start that is taken meets nothing in hand
-  start-empty : (start expected hand toggle : Bool) → overIf start expected hand toggle ≡ none → start ≡ true → hand ≡ true
-  start-empty true true true toggle e k = refl
-  start-empty true true false toggle e k = let z : _≡_ {A = ℕ} 0 1 = cc in absurd (omega arith)
-  start-empty true false hand toggle e k = let z : _≡_ {A = ℕ} 0 1 = cc in absurd (omega arith)
-  start-empty false expected hand toggle e k = let z : _≡_ {A = ℕ} 0 1 = cc in absurd (omega arith)
+  start-empty : (followed start expected hand toggle : Bool) → overIf followed start expected hand toggle ≡ none → start ≡ true → hand ≡ true
+  start-empty true true true true toggle e k = refl
+  start-empty true true true false toggle e k = let z : _≡_ {A = ℕ} 0 1 = cc in absurd (omega arith)
+  start-empty true true false hand toggle e k = let z : _≡_ {A = ℕ} 0 1 = cc in absurd (omega arith)
+  start-empty true false expected hand toggle e k = let z : _≡_ {A = ℕ} 0 1 = cc in absurd (omega arith)
+  start-empty false start expected hand toggle e k = let z : _≡_ {A = ℕ} 0 1 = cc in absurd (omega arith)
 
   from-empty : (g : List ℕ) → isEmpty g ≡ true → length (g ++ v .payload) ≤ 7
   from-empty [] e = h .1
@@ -126,16 +128,11 @@ module _ (v : Parsed) (h : Headed v) where
       go : (o : Option Reason) → over s v ≡ o → Ranged (proceedIf o s v .answer)
       go (some r) e = tt
       go none e =
-          take-range s (λ k. from-empty (s .gathered) (start-empty (v .start) (eqb (v .transfer) (s .expected)) (isEmpty (s .gathered)) (sameBool (v .toggle) (s .toggle)) e k))
+          take-range s (λ k. from-empty (s .gathered) (start-empty (eqb (v .interface) (s .follows)) (v .start) (eqb (v .transfer) (s .expected)) (isEmpty (s .gathered)) (sameBool (v .toggle) (s .toggle)) e k))
 
   react-range : (s : Session) → Ranged (react s v .answer)
-  unfolding react reactIf
-  react-range s = go (restarts s v) (v .start)
-    where
-      go : (a b : Bool) → Ranged (reactIf a b s v .answer)
-      go true true = proceed-range (restarted s (v .transfer))
-      go true false = tt
-      go false b = proceed-range s
+  unfolding react
+  react-range s = proceed-range (met s v)
 
   -- ── the table ──
 
@@ -161,42 +158,49 @@ module _ (v : Parsed) (h : Headed v) where
 
 abbrev pub Small : Option ℕ → Type 0
 Small none = Unit {0}
-Small (some n) = (2 ≤ n) × (n ≤ 8)
+Small (some n) = ((2 ≤ n) × (n ≤ 8)) ⊎ (n ≡ 19)
 
-or-next : (b : Bool) (n : ℕ) (o : Option ℕ) → (2 ≤ n) × (n ≤ 8) → Small o → Small (pick b (some n) o)
+pub two-or-more : (n : ℕ) → Small (some n) → 2 ≤ n
+two-or-more n (inl h) = h .0
+two-or-more n (inr e) = omega arith
+
+or-next : (b : Bool) (n : ℕ) (o : Option ℕ) → ((2 ≤ n) × (n ≤ 8)) ⊎ (n ≡ 19) → Small o → Small (pick b (some n) o)
 or-next true n o h k = h
 or-next false n o h k = k
 
-frame-small : (u : Setup) (f : Frame) → Small (frameCheck u f)
+pub frame-small : (u : Setup) (f : Arrival) → Small (frameCheck u f)
 unfolding frameCheck
 frame-small u f =
-    or-next (largeId (f .id)) 2 _ (omega arith, omega arith)
-    (or-next (badLength (length (f .bytes))) 3 _ (omega arith, omega arith)
-    (or-next (unnamedService (streamOf (f .id))) 4 _ (omega arith, omega arith)
-    (or-next (badTailIn f) 5 _ (omega arith, omega arith) (or-next (forAnother (u .own) (streamOf (f .id))) 6 _ (omega arith, omega arith) (or-next (notSubscribed u f) 7 none (omega arith, omega arith) tt)))))
+    or-next (largeId (f .frame .id)) 2 _ (inl (omega arith, omega arith))
+    (or-next (badLength (length (f .frame .bytes))) 3 _ (inl (omega arith, omega arith))
+    (or-next (noInterface (f .interface)) 19 _ (inr refl)
+    (or-next (unnamedService (streamOf (f .frame .id))) 4 _ (inl (omega arith, omega arith))
+    (or-next (badTailIn (f .frame)) 5 _ (inl (omega arith, omega arith))
+    (or-next (forAnother (u .own) (streamOf (f .frame .id))) 6 _ (inl (omega arith, omega arith))
+    (or-next (notSubscribed u (f .frame)) 7 none (inl (omega arith, omega arith)) tt))))))
 
 pub check-small : (u : Setup) (r : Reception) → Small (check u r)
 unfolding check
-check-small u r = go (frameCheck u (r .frame)) (ltb (r .room) 512) (frame-small u (r .frame))
+check-small u r = go (frameCheck u (r .arrival)) (ltb (r .room) 512) (frame-small u (r .arrival))
   where
     go : (o : Option ℕ) (b : Bool) → Small o → Small (roomCheck o b)
     go (some n) b k = k
-    go none true k = (omega arith, omega arith)
+    go none true k = inl (omega arith, omega arith)
     go none false k = tt
 
 pub ranges : RangeLaw
 unfolding step stepChecked
 ranges u ps r = go (check u r) refl (check-small u r)
   where
-    go : (o : Option ℕ) → check u r ≡ o → Small o → Ranged (stepChecked o (isAnonymous (r .frame .id)) ps (parsed u (r .frame)) .answer)
+    go : (o : Option ℕ) → check u r ≡ o → Small o → Ranged (stepChecked o (isAnonymous (r .arrival .frame .id)) ps (parsed u (r .arrival)) .answer)
     go (some n) e k = k
     go none e k =
-        named-range (parsed u (r .frame)) (headed u (r .frame) (accepted u (r .frame) (checked u r e))) (isAnonymous (r .frame .id)) ps
+        named-range (parsed u (r .arrival)) (headed u (r .arrival) (accepted u (r .arrival) (checked u r e))) (isAnonymous (r .arrival .frame .id)) ps
 
 one : (a : Answer) → Ranged a → numberOf a ≡ 1 → HandOut a
 one taken h e = absurd (omega arith)
 one (handed p d prio t) h e = out p d prio t
-one (refused n) h e = absurd (omega arith)
+one (refused n) h e = absurd (omega (arith, two-or-more n h))
 one full h e = absurd (omega arith)
 one (passed r) h e = absurd (omega arith)
 one long h e = absurd (omega arith)

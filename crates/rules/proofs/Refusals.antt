@@ -13,7 +13,7 @@ use Rattle.rules.specs.Frame.{isAnonymous}
 use Rattle.rules.specs.Limits.{gatheredMax}
 use Rattle.rules.specs.Reception.{sessionIn, stepNew, stepStart, stepSeek, stepAnonymous, stepChecked, step}
 use Rattle.rules.specs.Refusal.{refuses, RefusalLaw}
-use Rattle.rules.specs.Session.{Session, sumOk, closing, takeEnd, takeLong, takes, over, proceedIf, proceed, reactIf, react, restarts, restarted, fresh}
+use Rattle.rules.specs.Session.{Session, sumOk, closing, takeEnd, takeLong, takes, over, proceedIf, proceed, met, react, fresh}
 use Rattle.rules.specs.Table.{Places, empty, seek, holds, placeFor}
 
 abbrev Answers : Answer → Type 0
@@ -47,13 +47,8 @@ module _ (v : Parsed) where
       go none = let all = s .gathered ++ v .payload in long-answers (ltb gatheredMax (length all)) s all
 
   react-answers : (s : Session) → Answers (react s v .answer)
-  unfolding react reactIf
-  react-answers s = go (restarts s v) (v .start)
-    where
-      go : (a b : Bool) → Answers (reactIf a b s v .answer)
-      go true true = proceed-answers (restarted s (v .transfer))
-      go true false = refl
-      go false b = proceed-answers s
+  unfolding react
+  react-answers s = proceed-answers (met s v)
 
   -- ── the table ──
 
@@ -88,4 +83,4 @@ module _ (v : Parsed) where
 
 pub refusals : RefusalLaw
 unfolding step
-refusals u ps r = checked-kept (parsed u (r .frame)) ps (check u r) (isAnonymous (r .frame .id))
+refusals u ps r = checked-kept (parsed u (r .arrival)) ps (check u r) (isAnonymous (r .arrival .frame .id))

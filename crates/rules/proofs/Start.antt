@@ -13,14 +13,14 @@ use Rattle.rules.specs.Check.{Reception, Parsed, parsed, frameCheck, che
 use Rattle.rules.specs.Condition3.{ofStream, took}
 use Rattle.rules.specs.Frame.{Stream, streamOf, isAnonymous}
 use Rattle.rules.specs.Reception.{Step, stepNew, stepStart, sessionIn, stepSeek, stepAnonymous, stepChecked, step}
-use Rattle.rules.specs.Session.{Session, Out, restarts, overStart, overIf, over, takes, proceedIf, proceed, reactIf, react, fresh}
+use Rattle.rules.specs.Session.{Session, Out, restarts, overStart, overIf, over, takes, proceedIf, proceed, react, fresh}
 use Rattle.rules.specs.Setup.{Setup}
 use Rattle.rules.specs.Table.{empty, Places, seek, holds, placeFor}
 use Rattle.rules.specs.Tests.{sameBool, isEmpty}
 use Rattle.rules.proofs.Checks.{checked, start-toggle, named-not-anonymous, of-stream}
 use Rattle.rules.proofs.Others.{FoundPlace, place-spec}
-use Rattle.rules.proofs.Own.{began, long-free, begins, react-is}
-use Rattle.rules.proofs.Ranges.{Small, check-small}
+use Rattle.rules.proofs.Own.{began, long-free, begins, restart-start, react-stays}
+use Rattle.rules.proofs.Ranges.{Small, two-or-more, check-small}
 use Rattle.rules.proofs.Table.{Found, seek-spec, sessionsOf, fails-none, Sole, only, new-at}
 
 -- ── one session ──
@@ -40,16 +40,22 @@ is-empty : (l : List ℕ) → isEmpty l ≡ true → l ≡ []
 is-empty [] e = refl
 is-empty (b ∷ l) e = absurd (false≢true e)
 
+followed : (a b c d e : Bool) → overIf a b c d e ≡ none → (a ≡ true) × (overIf true b c d e ≡ none)
+followed true b c d e h = (refl, h)
+followed false b c d e h = let z : _≡_ {A = ℕ} 0 1 = cc in absurd (omega arith)
+
 -- a session that takes a start was as one that the start begins
 took-began : (s : Session) (v : Parsed) → v .start ≡ true → v .toggle ≡ false → over s v ≡ none → s ≡ began (s .since) v
 unfolding over
 took-began s v st g e =
+    let f = followed (eqb (v .interface) (s .follows)) (v .start) (eqb (v .transfer) (s .expected)) (isEmpty (s .gathered)) (sameBool (v .toggle) (s .toggle)) e in
     let k = start-taken (eqb (v .transfer) (s .expected)) (isEmpty (s .gathered)) (sameBool (v .toggle) (s .toggle))
-    (ap (λ b. overIf b (eqb (v .transfer) (s .expected)) (isEmpty (s .gathered)) (sameBool (v .toggle) (s .toggle))) (sym st) ∙ e) in
+    (ap (λ b. overIf true b (eqb (v .transfer) (s .expected)) (isEmpty (s .gathered)) (sameBool (v .toggle) (s .toggle))) (sym st) ∙ f .1) in
     let a = eqb-true (v .transfer) (s .expected) (k .0) in
     let b = is-empty (s .gathered) (k .1) in
     let c = same-false (v .toggle) (s .toggle) (k .2) g in
-    λ i. record { expected = sym a i; gathered = b i; toggle = c i; since = s .since }
+    let n = eqb-true (v .interface) (s .follows) (f .0) in
+    λ i. record { expected = sym a i; gathered = b i; toggle = c i; since = s .since; follows = sym n i }
 
 -- and takes it as such
 module _ (v : Parsed) (st : v .start ≡ true) (g : v .toggle ≡ false) where
@@ -60,14 +66,12 @@ module _ (v : Parsed) (st : v .start ≡ true) (g : v .toggle ≡ false) where
       ap (λ x. takes x v) (took-began s v st g e) ∙ long-free (ltb 514 (length (v .payload))) (s .since) (v .time) v (v .payload) st
 
   took-react : (s : Session) → took (numberOf (react s v .answer)) ≡ true → react s v ≡ takes (fresh v) v
-  unfolding reactIf proceed
+  unfolding proceed
   took-react s t = go (restarts s v) refl
     where
       go : (b : Bool) → restarts s v ≡ b → react s v ≡ takes (fresh v) v
-      go true e = react-is s v true true e st ∙ begins (s .since) v st g
-      go false e =
-          let q = react-is s v false true e st in
-          q ∙ took-proceed s (over s v) refl (subst (λ o. took (numberOf (o .answer)) ≡ true) q t)
+      go true e = restart-start s v e st g
+      go false e = let q = react-stays s v e in q ∙ took-proceed s (over s v) refl (subst (λ o. took (numberOf (o .answer)) ≡ true) q t)
 
 -- ── the table ──
 
@@ -109,33 +113,33 @@ module _ (ps : Places) (v : Parsed) (st : v .start ≡ true) (g : v .toggle ≡ 
 not-taken : (u : Setup) (r : Reception) (n : ℕ) → check u r ≡ some n → took n ≡ true → ⊥
 not-taken u r n e k =
     let s : Small (some n) = subst Small e (check-small u r) in
-    omega (arith, ltb-true n 2 k)
+    omega (arith, ltb-true n 2 k, two-or-more n s)
 
-pub took-checked : (u : Setup) (ps : Places) (r : Reception) → took (numberOf (step u ps r .answer)) ≡ true → frameCheck u (r .frame) ≡ none
+pub took-checked : (u : Setup) (ps : Places) (r : Reception) → took (numberOf (step u ps r .answer)) ≡ true → frameCheck u (r .arrival) ≡ none
 unfolding step stepChecked
 took-checked u ps r t = go (check u r) refl t
   where
-    go : (o : Option ℕ) → check u r ≡ o → took (numberOf (stepChecked o (isAnonymous (r .frame .id)) ps (parsed u (r .frame)) .answer)) ≡ true → frameCheck u (r .frame) ≡ none
+    go : (o : Option ℕ) → check u r ≡ o → took (numberOf (stepChecked o (isAnonymous (r .arrival .frame .id)) ps (parsed u (r .arrival)) .answer)) ≡ true → frameCheck u (r .arrival) ≡ none
     go none e k = checked u r e
     go (some n) e k = absurd (not-taken u r n e k)
 
-began-stream : (u : Setup) (ps : Places) (r : Reception) → 0 < streamOf (r .frame .id) .source → parsed u (r .frame) .start ≡ true → Sole ps
-    → took (numberOf (step u ps r .answer)) ≡ true → Began (streamOf (r .frame .id)) (step u ps r) (takes (fresh (parsed u (r .frame))) (parsed u (r .frame)))
+began-stream : (u : Setup) (ps : Places) (r : Reception) → 0 < streamOf (r .arrival .frame .id) .source → parsed u (r .arrival) .start ≡ true → Sole ps
+    → took (numberOf (step u ps r .answer)) ≡ true → Began (streamOf (r .arrival .frame .id)) (step u ps r) (takes (fresh (parsed u (r .arrival))) (parsed u (r .arrival)))
 unfolding step stepChecked stepAnonymous parsed
 began-stream u ps r named st sole t =
-    rw (named-not-anonymous (r .frame .id) named) (go (check u r) refl (rw (named-not-anonymous (r .frame .id) named) at t))
+    rw (named-not-anonymous (r .arrival .frame .id) named) (go (check u r) refl (rw (named-not-anonymous (r .arrival .frame .id) named) at t))
   where
     v : Parsed
-    v = parsed u (r .frame)
+    v = parsed u (r .arrival)
 
     go : (o : Option ℕ) → check u r ≡ o → took (numberOf (stepChecked o false ps v .answer)) ≡ true
-        → Began (streamOf (r .frame .id)) (stepChecked o false ps v) (takes (fresh v) v)
+        → Began (streamOf (r .arrival .frame .id)) (stepChecked o false ps v) (takes (fresh v) v)
     go none e k =
-        began-seek ps v st (start-toggle u (r .frame) (checked u r e) st) sole (seek (holds (v .stream)) ps) (seek-spec (holds (v .stream)) ps) k
+        began-seek ps v st (start-toggle u (r .arrival) (checked u r e) st) sole (seek (holds (v .stream)) ps) (seek-spec (holds (v .stream)) ps) k
     go (some n) e k = absurd (not-taken u r n e k)
 
-pub began-by : (u : Setup) (d : Stream) (ps : Places) (r : Reception) → 0 < d .source → ofStream d (r .frame) ≡ true → parsed u (r .frame) .start ≡ true
-    → Sole ps → took (numberOf (step u ps r .answer)) ≡ true → Began d (step u ps r) (takes (fresh (parsed u (r .frame))) (parsed u (r .frame)))
+pub began-by : (u : Setup) (d : Stream) (ps : Places) (r : Reception) → 0 < d .source → ofStream d (r .arrival .frame) ≡ true → parsed u (r .arrival) .start ≡ true
+    → Sole ps → took (numberOf (step u ps r .answer)) ≡ true → Began d (step u ps r) (takes (fresh (parsed u (r .arrival))) (parsed u (r .arrival)))
 began-by u d ps r named e st sole t =
-    subst (λ k. 0 < k .source → Began k (step u ps r) (takes (fresh (parsed u (r .frame))) (parsed u (r .frame))))
-    (of-stream d (r .frame) e) (λ n. began-stream u ps r n st sole t) named
+    subst (λ k. 0 < k .source → Began k (step u ps r) (takes (fresh (parsed u (r .arrival))) (parsed u (r .arrival))))
+    (of-stream d (r .arrival .frame) e) (λ n. began-stream u ps r n st sole t) named

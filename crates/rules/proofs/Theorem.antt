@@ -1,6 +1,6 @@
 -- Condition 3 (RULES 14.1): the theorem.
 use mathlib.Core.Path.{_≡_, refl, sym, ap, ap₂, _∙_, subst}
-use mathlib.Core.Bool.{Bool, true, false}
+use mathlib.Core.Bool.{Bool, true, false, true≢false, not}
 use mathlib.Core.List.{List, [], _∷_}
 use mathlib.Core.Option.{some}
 use mathlib.Mathlib.Data.Bool.Basic.{and-elim-left, and-elim-right}
@@ -13,9 +13,9 @@ use borrow.Author.Tests.{eq-eqb, lt-leb, leb-true, leb-false}
 use Rattle.checksum.specs.Crc16.{checksum}
 use Rattle.rules.specs.Answer.{Answer, taken, handed, refused, full, passed, long, differs}
 use Rattle.rules.specs.Check.{Reception, parsed}
-use Rattle.rules.specs.Condition3.{Past, fromSetup, lent, heard, ofStream, startOf, keep, framesWith, answersTo, Receiver, startFrame, frames, answers, tookStart, front, While, Brings, next, again, Transfer, handouts, Condition3, rulesTable}
-use Rattle.rules.specs.Frame.{Frame, Stream, streamOf, priorityOf, isAnonymous, isStart, tailOf}
-use Rattle.rules.specs.Limits.{oldAge}
+use Rattle.rules.specs.Condition3.{Past, fromSetup, lent, heard, ofStream, startOf, keep, framesWith, answersTo, Receiver, startFrame, frames, answers, tookStart, front, While, Brings, next, again, beside, Transfer, handouts, Condition3, rulesTable}
+use Rattle.rules.specs.Frame.{Arrival, Stream, streamOf, priorityOf, isAnonymous, isStart, tailOf}
+use Rattle.rules.specs.Limits.{switchDelay}
 use Rattle.rules.specs.Reception.{step, after}
 use Rattle.rules.specs.Sent.{withSum, carried, carrying, sent, idOf}
 use Rattle.rules.specs.Session.{Out, closing, takes, fresh}
@@ -51,9 +51,11 @@ past-sole u ps h = apart-sole ps (and-elim-right (placesFit ps) _ (and-elim-righ
 
 -- ── the frames of a payload ──
 
-sender : {id till : ℕ} {ms : List (List ℕ)} {f : Frame} {fs : List Frame} → Brings id till ms (f ∷ fs) → f .id ≡ id
-sender (next t h b) = refl
-sender (again t h b) = refl
+sender : {i id till : ℕ} {ms : List (List ℕ)} {f : Arrival} {fs : List Arrival} → eqb (f .interface) i ≡ true → Brings i id till ms (f ∷ fs)
+    → f .frame .id ≡ id
+sender k (next t h b) = refl
+sender k (again t h b) = refl
+sender k (beside a e h b) = absurd (true≢false (sym k ∙ e))
 
 carried-most : (signature : ℕ) (p : List ℕ) → length p ≤ 512 → length (carried signature p) ≤ 514
 carried-most signature p h = go (leb (length p) 7) refl
@@ -84,7 +86,12 @@ handouts-closings : (u : Setup) (l : List Answer) → handouts (rulesTable u) l 
 handouts-closings u [] = refl
 handouts-closings u (taken ∷ l) = handouts-closings u l
 handouts-closings u (handed p d priority t ∷ l) = ap (λ k. handed p d priority t ∷ k) (handouts-closings u l)
-handouts-closings u (refused n ∷ l) = ap (λ k. keep (eqb n 1) (refused n) k) (handouts-closings u l)
+handouts-closings u (refused n ∷ l) = go (eqb n 1) refl (handouts-closings u l)
+  where
+    go : (b : Bool) → eqb n 1 ≡ b → handouts (rulesTable u) l ≡ handouts (rulesTable u) (closings l)
+        → keep b (refused n) (handouts (rulesTable u) l) ≡ handouts (rulesTable u) (keep (not (not b)) (refused n) (closings l))
+    go true e h = rw e (ap (λ k. refused n ∷ k) h)
+    go false e h = h
 handouts-closings u (full ∷ l) = handouts-closings u l
 handouts-closings u (passed r ∷ l) = handouts-closings u l
 handouts-closings u (long ∷ l) = handouts-closings u l
@@ -96,18 +103,18 @@ handouts-closings u (differs ∷ l) = handouts-closings u l
 pub record Starts (u : Setup) (d : Stream) (x : Receiver (rulesTable u)) : Type 0 where
   pub past : Past u (x .state)
   pub named : 0 < d .source
-  pub start : startOf d (startFrame (rulesTable u) x) ≡ true
+  pub start : startOf d (startFrame (rulesTable u) x .frame) ≡ true
   pub takes : tookStart (rulesTable u) x ≡ true
 
-abbrev pub first : Setup → Frame → Out
+abbrev pub first : Setup → Arrival → Out
 first u f = takes (fresh (parsed u f)) (parsed u f)
 
 module _ (u : Setup) (d : Stream) (x : Receiver (rulesTable u)) (s : Starts u d x) where
-  abbrev f : Frame
-  f = x .start .frame
+  abbrev f : Arrival
+  f = x .start .arrival
 
-  mine : ofStream d f ≡ true
-  mine = and-elim-left (ofStream d f) (isStart (tailOf (f .bytes))) (s .start)
+  mine : ofStream d (f .frame) ≡ true
+  mine = and-elim-left (ofStream d (f .frame)) (isStart (tailOf (f .frame .bytes))) (s .start)
 
   -- it answers as the reference that begins with the start
   pub as-reference : (k : ℕ) → While (rulesTable u) d k x
@@ -115,9 +122,9 @@ module _ (u : Setup) (d : Stream) (x : Receiver (rulesTable u)) (s : Starts u d 
   unfolding answersTo parsed
   as-reference k w =
       let sole = past-sole u (x .state) (s .past) in
-      let b = began-by u d (x .state) (x .start) (s .named) mine (and-elim-right (ofStream d f) _ (s .start)) sole (s .takes) in
+      let b = began-by u d (x .state) (x .start) (s .named) mine (and-elim-right (ofStream d (f .frame)) _ (s .start)) sole (s .takes) in
       let qs = step u (x .state) (x .start) .places in
-      let q = follow u d (s .named) (f .time) qs (first u f .session) (front (rulesTable u) d k x) (w .time) (w .room) (w .table)
+      let q = follow u d (s .named) (f .frame .time) qs (first u f .session) (front (rulesTable u) d k x) (w .time) (w .room) (w .table)
       (sole-step u (x .state) (x .start) sole) (same (b .session)) in
       rw mine
       (ap (λ a. a ∷ take k (answersTo (rulesTable u) (ofStream d) qs (x .list))) (b .answer)
@@ -139,41 +146,41 @@ module _ (u : Setup) (d : Stream) (x : Receiver (rulesTable u)) (s : Starts u d 
   abbrev ok : Accepted u f
   ok = accepted u f (took-checked u (x .state) (x .start) (s .takes))
 
-  stream-is : streamOf (f .id) ≡ d
-  stream-is = of-stream d f mine
+  stream-is : streamOf (f .frame .id) ≡ d
+  stream-is = of-stream d (f .frame) mine
 
-  not-anonymous : isAnonymous (f .id) ≡ false
-  not-anonymous = named-not-anonymous (f .id) (rw stream-is (s .named))
+  not-anonymous : isAnonymous (f .frame .id) ≡ false
+  not-anonymous = named-not-anonymous (f .frame .id) (rw stream-is (s .named))
 
-  -- of the answers to frames that carry some bytes, one alone neither takes nor passes over
+  -- of the answers to frames that carry some bytes, one alone ends the transfer
   pub closes : (t : ℕ) → t < 32 → (all : List ℕ) → length all ≤ 514 → While (rulesTable u) d (length (frames (rulesTable u) d x)) x
-      → Brings (f .id) (f .time + oldAge) (carrying t all) (f ∷ frames (rulesTable u) d x)
-      → closings (answers (rulesTable u) d x) ≡ verdict u (f .id) t all (leb (length all) 7) ∷ []
+      → Brings (f .interface) (f .frame .id) (f .frame .time + switchDelay) (carrying t all) (f ∷ frames (rulesTable u) d x)
+      → closings (answers (rulesTable u) d x) ≡ verdict u (f .frame .id) t all (leb (length all) 7) ∷ []
   closes t small all most w b = ap closings (all-answers w) ∙ closes-once u f ok not-anonymous t small all most (frames (rulesTable u) d x) b
 
   hands-out : (priority t : ℕ) (p : List ℕ) → Transfer u d f (frames (rulesTable u) d x) priority t p
       → While (rulesTable u) d (length (frames (rulesTable u) d x)) x → handouts (rulesTable u) (answers (rulesTable u) d x) ≡ handed p d priority t ∷ []
   unfolding sent
   hands-out priority t p tr w =
-      let i : f .id ≡ idOf d priority = sender (tr .brings) in
-      let e : priorityOf (f .id) ≡ priority = ap priorityOf i ∙ id-priority d priority (subst (λ k. streamFits k ≡ true) stream-is (stream-fits u f ok not-anonymous)) in
+      let i : f .frame .id ≡ idOf d priority = sender (eq-eqb (f .interface) (f .interface) refl) (tr .brings) in
+      let e : priorityOf (f .frame .id) ≡ priority = ap priorityOf i ∙ id-priority d priority (subst (λ k. streamFits k ≡ true) stream-is (stream-fits u f ok not-anonymous)) in
       handouts-closings u (answers (rulesTable u) d x)
       ∙ ap (handouts (rulesTable u))
       (closes t (tr .fields .1) (carried (tr .signature) p) (carried-most (tr .signature) p (tr .size)) w
-      (subst (λ id. Brings id (f .time + oldAge) (carrying t (carried (tr .signature) p)) (f ∷ frames (rulesTable u) d x)) (sym i) (tr .brings))
-      ∙ ap (λ a. a ∷ []) (unaltered u (f .id) t (tr .signature) p (ap (signatureFor u) i ∙ tr .subscribed)))
+      (subst (λ id. Brings (f .interface) id (f .frame .time + switchDelay) (carrying t (carried (tr .signature) p)) (f ∷ frames (rulesTable u) d x)) (sym i) (tr .brings))
+      ∙ ap (λ a. a ∷ []) (unaltered u (f .frame .id) t (tr .signature) p (ap (signatureFor u) i ∙ tr .subscribed)))
       ∙ λ j. handed p (stream-is j) (e j) t ∷ []
 
 pub theorem : Condition3 rulesTable
 theorem u d x y h =
     record {
       alike = λ k v w. as-reference u d x sx k v
-          ∙ ap₂ (λ (f : Frame) (fs : List Frame). first u f .answer ∷ refRun u (first u f .session) (take k fs)) (h .together) (h .same)
+          ∙ ap₂ (λ (f : Arrival) (fs : List Arrival). first u f .answer ∷ refRun u (first u f .session) (take k fs)) (h .together) (h .same)
           ∙ sym (as-reference u d y sy k w);
       delivered = λ priority t p tr v w. (
         hands-out u d x sx priority t p tr v,
         hands-out u d y sy priority t p
-            (subst (λ fs. Transfer u d (y .start .frame) fs priority t p) (h .same)
+            (subst (λ fs. Transfer u d (y .start .arrival) fs priority t p) (h .same)
             (subst (λ f. Transfer u d f (frames (rulesTable u) d x) priority t p) (h .together) tr)) w,
       );
     }
@@ -182,4 +189,4 @@ theorem u d x y h =
     sx = record { past = h .pasts .0; named = h .named; start = h .start; takes = h .take .0 }
 
     sy : Starts u d y
-    sy = record { past = h .pasts .1; named = h .named; start = subst (λ f. startOf d f ≡ true) (h .together) (h .start); takes = h .take .1 }
+    sy = record { past = h .pasts .1; named = h .named; start = subst (λ f. startOf d (f .frame) ≡ true) (h .together) (h .start); takes = h .take .1 }

@@ -9,6 +9,7 @@ pub data Reason : Type 0 where
   wrongToggle : Reason
   wrongTransfer : Reason  -- the transfer ID is not the expected one
   repeatedStart : Reason  -- a start of the transfer that is in hand
+  otherInterface : Reason  -- the session follows another interface
 
 pub data Answer : Type 0 where
   taken : Answer

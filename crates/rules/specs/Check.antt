@@ -1,18 +1,18 @@
--- RULES 4.1: what the rules read of a frame (2.2 to 2.4, 3.6), and the frame checks 2 to 8.
+-- RULES 4.1: what the rules read of a frame (2.2 to 2.4, 2.7, 3.6), and the frame checks: 2, 3, 19 and 4 to 8.
 use mathlib.Core.Bool.{Bool, true, false, not, _&&_, _||_}
 use mathlib.Core.List.{List, [], _∷_, _++_}
 use mathlib.Core.Option.{Option, none, some}
 use Prim.Native.Nat.{ℕ, _^_}
 use lib.Dec.{ltb, leb, eqb}
 use lib.ListN.{length}
-use Rattle.rules.specs.Frame.{Frame, Stream, priorityOf, isServiceStream, unnamed, streamOf, tailOf, payloadOf, isStart, isEnd, toggleOf, transferOf}
-use Rattle.rules.specs.Limits.{frameData, payloadMax}
+use Rattle.rules.specs.Frame.{Frame, Arrival, Stream, priorityOf, isServiceStream, unnamed, streamOf, tailOf, payloadOf, isStart, isEnd, toggleOf, transferOf}
+use Rattle.rules.specs.Limits.{frameData, interfacesMax, payloadMax}
 use Rattle.rules.specs.Setup.{Setup, signatureFor}
 use Rattle.rules.specs.Tests.{pick, isNone}
 
--- a frame, and how many bytes the output buffer has
+-- a frame as it comes, and how many bytes the output buffer has
 pub record Reception : Type 0 where
-  pub frame : Frame
+  pub arrival : Arrival
   pub room : ℕ
 
 -- what RULES 4.3 to 4.8 read of a frame that passes the checks
@@ -26,23 +26,25 @@ pub record Parsed : Type 0 where
   pub transfer : ℕ
   pub payload : List ℕ
   pub time : ℕ
+  pub interface : ℕ
 
 abbrev pub orZero : Option ℕ → ℕ
 orZero none = 0
 orZero (some n) = n
 
-unfoldable pub parsed : Setup → Frame → Parsed
-parsed u f =
+unfoldable pub parsed : Setup → Arrival → Parsed
+parsed u a =
     record {
-      stream = streamOf (f .id);
-      signature = orZero (signatureFor u (f .id));
-      priority = priorityOf (f .id);
-      start = isStart (tailOf (f .bytes));
-      last = isEnd (tailOf (f .bytes));
-      toggle = toggleOf (tailOf (f .bytes));
-      transfer = transferOf (tailOf (f .bytes));
-      payload = payloadOf (f .bytes);
-      time = f .time;
+      stream = streamOf (a .frame .id);
+      signature = orZero (signatureFor u (a .frame .id));
+      priority = priorityOf (a .frame .id);
+      start = isStart (tailOf (a .frame .bytes));
+      last = isEnd (tailOf (a .frame .bytes));
+      toggle = toggleOf (tailOf (a .frame .bytes));
+      transfer = transferOf (tailOf (a .frame .bytes));
+      payload = payloadOf (a .frame .bytes);
+      time = a .frame .time;
+      interface = a .interface;
     }
 
 -- ── the checks (RULES 4.1), each true where it refuses ──
@@ -52,6 +54,9 @@ largeId id = leb (2 ^ 29) id
 
 abbrev pub badLength : ℕ → Bool
 badLength n = eqb n 0 || ltb frameData n
+
+abbrev pub noInterface : ℕ → Bool
+noInterface i = leb interfacesMax i
 
 abbrev pub unnamedService : Stream → Bool
 unnamedService d = isServiceStream d && (eqb (d .source) 0 || eqb (d .destination) 0)
@@ -73,9 +78,12 @@ pub record Test : Type 0 where
   pub refuses : Bool
   pub number : ℕ
 
--- 2 and 3: a frame of n data bytes that cannot be read
-abbrev pub readTests : ℕ → ℕ → List Test
-readTests id n = record { refuses = largeId id; number = 2 } ∷ record { refuses = badLength n; number = 3 } ∷ []
+-- 2 and 3: a frame of n data bytes that cannot be read; 19: one that comes by no interface of ours
+abbrev pub readTests : ℕ → ℕ → ℕ → List Test
+readTests id n i =
+    record { refuses = largeId id; number = 2 } ∷
+    record { refuses = badLength n; number = 3 } ∷
+    record { refuses = noInterface i; number = 19 } ∷ []
 
 -- 4 to 6: its stream and the flags of its tail
 abbrev pub headTests : ℕ → Stream → Bool → Bool → Bool → ℕ → List Test
@@ -84,20 +92,21 @@ headTests own d start last toggle n =
     record { refuses = badTail (unnamed d) start last toggle n; number = 5 } ∷
     record { refuses = forAnother own d; number = 6 } ∷ []
 
--- 2 to 7 look at the setup and the frame alone
-abbrev pub frameTests : Setup → Frame → List Test
-frameTests u f =
-    readTests (f .id) (length (f .bytes))
-    ++ (headTests (u .own) (streamOf (f .id)) (isStart (tailOf (f .bytes))) (isEnd (tailOf (f .bytes))) (toggleOf (tailOf (f .bytes))) (length (f .bytes))
-    ++ (record { refuses = notSubscribed u f; number = 7 } ∷ []))
+-- all but 8 look at the setup and the frame as it comes alone
+abbrev pub frameTests : Setup → Arrival → List Test
+frameTests u a =
+    readTests (a .frame .id) (length (a .frame .bytes)) (a .interface)
+    ++ (headTests (u .own) (streamOf (a .frame .id)) (isStart (tailOf (a .frame .bytes))) (isEnd (tailOf (a .frame .bytes)))
+    (toggleOf (tailOf (a .frame .bytes))) (length (a .frame .bytes))
+    ++ (record { refuses = notSubscribed u (a .frame); number = 7 } ∷ []))
 
 -- the first that refuses answers
 abbrev pub first : List Test → Option ℕ
 first [] = none
 first (t ∷ ts) = pick (t .refuses) (some (t .number)) (first ts)
 
-unfoldable pub frameCheck : Setup → Frame → Option ℕ
-frameCheck u f = first (frameTests u f)
+unfoldable pub frameCheck : Setup → Arrival → Option ℕ
+frameCheck u a = first (frameTests u a)
 
 -- 8 comes last: no room for the longest payload
 abbrev pub roomCheck : Option ℕ → Bool → Option ℕ
@@ -106,4 +115,4 @@ roomCheck none true = some 8
 roomCheck none false = none
 
 unfoldable pub check : Setup → Reception → Option ℕ
-check u r = roomCheck (frameCheck u (r .frame)) (ltb (r .room) payloadMax)
+check u r = roomCheck (frameCheck u (r .arrival)) (ltb (r .room) payloadMax)

@@ -9,10 +9,10 @@ use lib.Dec.{ltb, leb, eqb}
 use lib.ListN.{length, take}
 use Rattle.rules.specs.Answer as rules
 use Rattle.rules.specs.Check.{Reception}
-use Rattle.rules.specs.Frame.{Frame, Stream, sameStream, streamOf, tailOf, isStart}
-use Rattle.rules.specs.Limits.{payloadMax, oldAge}
+use Rattle.rules.specs.Frame.{Frame, Arrival, Stream, sameStream, streamOf, tailOf, isStart}
+use Rattle.rules.specs.Limits.{payloadMax, switchDelay}
 use Rattle.rules.specs.Reception.{step, after}
-use Rattle.rules.specs.Sent.{sent, idOf, frameAt}
+use Rattle.rules.specs.Sent.{sent, idOf, arrivalAt}
 use Rattle.rules.specs.Setup.{Setup, signatureFor}
 use Rattle.rules.specs.Sound.{sound}
 use Rattle.rules.specs.Table.{Places, begun}
@@ -23,7 +23,7 @@ use Rattle.rules.specs.Tests.{pick}
 -- The receivers of one setup. Each call meets the state that the last one left; nothing else writes it.
 pub record Machine : Type 1 where
   pub State : Type 0
-  -- one reception: a frame, and room for what is handed out
+  -- one reception: a frame by an interface, and room for what is handed out
   pub Call : Type 0
   -- what the caller sees of it
   pub Answer : Type 0
@@ -61,13 +61,16 @@ All P [] = Unit {0}
 All P (a ∷ l) = P a × All P l
 
 module _ (M : Machine) where
-  abbrev pub frameOf : M .Call → Frame
-  frameOf c = M .reception c .frame
+  abbrev pub arrivalOf : M .Call → Arrival
+  arrivalOf c = M .reception c .arrival
 
-  -- the frames of a list that pass a test, with ID, data and time
-  unfoldable pub framesWith : (Frame → Bool) → List (M .Call) → List Frame
+  abbrev pub frameOf : M .Call → Frame
+  frameOf c = arrivalOf c .frame
+
+  -- the frames of a list that pass a test, with ID, data, time and interface
+  unfoldable pub framesWith : (Frame → Bool) → List (M .Call) → List Arrival
   framesWith t [] = []
-  framesWith t (c ∷ cs) = keep (t (frameOf c)) (frameOf c) (framesWith t cs)
+  framesWith t (c ∷ cs) = keep (t (frameOf c)) (arrivalOf c) (framesWith t cs)
 
   -- the answers to them
   unfoldable pub answersTo : (Frame → Bool) → M .State → List (M .Call) → List (M .Answer)
@@ -88,11 +91,11 @@ module _ (M : Machine) where
     pub start : M .Call
     pub list : List (M .Call)
 
-  abbrev pub startFrame : Receiver → Frame
-  startFrame x = frameOf (x .start)
+  abbrev pub startFrame : Receiver → Arrival
+  startFrame x = arrivalOf (x .start)
 
   -- the stream's frames after the start
-  abbrev pub frames : Stream → Receiver → List Frame
+  abbrev pub frames : Stream → Receiver → List Arrival
   frames d x = framesWith (ofStream d) (x .list)
 
   -- the answers to the stream's frames, the start's first
@@ -108,12 +111,13 @@ module _ (M : Machine) where
     pub typed : All (M .Typed) (x .start ∷ x .list) × All (M .Typed) (y .start ∷ y .list)
     -- RULES 14.1: the stream has a named source
     pub named : 0 < d .source
-    -- RULES 14.1: both get the same start of it, at the same time
-    pub start : startOf d (startFrame x) ≡ true
+    -- RULES 14.1: both get the same start of it, at the same time and by the same interface
+    pub start : startOf d (startFrame x .frame) ≡ true
     pub together : startFrame x ≡ startFrame y
     -- RULES 14.4: and take it
     pub take : (tookStart x ≡ true) × (tookStart y ≡ true)
-    -- RULES 14.5: both lists bring the same frames of the stream, with their times and in their order, with whatever else between, different for each
+    -- RULES 14.5: both lists bring the same frames of the stream, with their times and interfaces and in their order, with whatever else between,
+    -- different for each
     pub same : frames d x ≡ frames d y
 
   -- ── while (RULES 14.6 to 14.8) ──
@@ -140,7 +144,7 @@ module _ (M : Machine) where
   -- so far the premises hold for one receiver: nothing is asked of what comes later
   pub record While (d : Stream) (k : ℕ) (x : Receiver) : Type 0 where
     -- RULES 14.6: time never runs back from the start on; other streams' frames and refused ones count
-    pub time : forward (startFrame x .time) (front d k x) ≡ true
+    pub time : forward (startFrame x .frame .time) (front d k x) ≡ true
     -- RULES 14.7: output buffers are large enough
     pub room : roomy d (front d k x) ≡ true
     -- RULES 14.8: no start of the stream is refused for a full table
@@ -148,25 +152,29 @@ module _ (M : Machine) where
 
 -- ── a correctly sent transfer (RULES 14.10, 14.11) ──
 
--- RULES 14.11: the frames in order and nothing else, each perhaps repeated before the next, none later than `till`
-pub data Brings (id till : ℕ) : List (List ℕ) → List Frame → Type 0 where
-  done : Brings id till [] []
+-- RULES 14.11: by interface i the frames in order and nothing else, each perhaps repeated before the next; by other interfaces any frames; none later
+-- than `till`
+pub data Brings (i id till : ℕ) : List (List ℕ) → List Arrival → Type 0 where
+  done : Brings i id till [] []
   -- the frame's last copy
-  next : {c : List ℕ} {more : List (List ℕ)} {fs : List Frame} (t : ℕ) → t ≤ till → Brings id till more fs
-      → Brings id till (c ∷ more) (frameAt id c t ∷ fs)
+  next : {c : List ℕ} {more : List (List ℕ)} {fs : List Arrival} (t : ℕ) → t ≤ till → Brings i id till more fs
+      → Brings i id till (c ∷ more) (arrivalAt i id c t ∷ fs)
   -- a copy before that
-  again : {c : List ℕ} {more : List (List ℕ)} {fs : List Frame} (t : ℕ) → t ≤ till → Brings id till (c ∷ more) fs
-      → Brings id till (c ∷ more) (frameAt id c t ∷ fs)
+  again : {c : List ℕ} {more : List (List ℕ)} {fs : List Arrival} (t : ℕ) → t ≤ till → Brings i id till (c ∷ more) fs
+      → Brings i id till (c ∷ more) (arrivalAt i id c t ∷ fs)
+  -- whatever comes by another interface, copies of the transfer among it
+  beside : {l : List (List ℕ)} {fs : List Arrival} (a : Arrival) → eqb (a .interface) i ≡ false → a .frame .time ≤ till → Brings i id till l fs
+      → Brings i id till l (a ∷ fs)
 
 -- the start f and the stream's frames fs after it bring the payload p with a priority and the transfer ID t
-pub record Transfer (u : Setup) (d : Stream) (f : Frame) (fs : List Frame) (priority t : ℕ) (p : List ℕ) : Type 0 where
+pub record Transfer (u : Setup) (d : Stream) (f : Arrival) (fs : List Arrival) (priority t : ℕ) (p : List ℕ) : Type 0 where
   pub size : length p ≤ payloadMax
   -- RULES 14.10: it is sent by the sending rules (7.4), under the signature that the receiver subscribed with
   pub fields : (priority < 32) × (t < 32)
   pub signature : ℕ
   pub subscribed : signatureFor u (idOf d priority) ≡ some signature
-  -- RULES 14.11: within two seconds of the start, repeats too
-  pub brings : Brings (idOf d priority) (f .time + oldAge) (sent signature t p) (f ∷ fs)
+  -- RULES 14.11: by the start's interface, within a second of the start, repeats and all that other interfaces bring too
+  pub brings : Brings (f .interface) (idOf d priority) (f .frame .time + switchDelay) (sent signature t p) (f ∷ fs)
 
 -- ── the claim (RULES 14.1) ──
 

@@ -1,4 +1,5 @@
--- RULES 14.15: a case that meets every premise of condition 3. Two receivers hear a transfer of three frames, each repeated, and nothing else alike.
+-- RULES 14.15: a case that meets every premise of condition 3. Two receivers hear a transfer of three frames, each repeated, with copies by another interface, and
+-- nothing else alike.
 use mathlib.Core.Path.{_≡_}
 use mathlib.Core.Bool.{true, false}
 use mathlib.Core.List.{List, [], _∷_}
@@ -7,9 +8,9 @@ use lib.ListN.{take}
 use Rattle.rules.specs.Answer.{handed}
 use Rattle.rules.specs.Check.{Reception}
 use Rattle.rules.specs.Condition3.{Receiver, frames, answers, Premises, While, Transfer, handouts, rulesTable}
-use Rattle.rules.specs.Frame.{Frame, Stream}
+use Rattle.rules.specs.Frame.{Arrival, Stream}
 use Rattle.rules.specs.Reception.{after}
-use Rattle.rules.specs.Sent.{frameAt}
+use Rattle.rules.specs.Sent.{arrivalAt}
 use Rattle.rules.specs.Setup.{Setup}
 use Rattle.rules.specs.Table.{held, Places, begun}
 
@@ -47,17 +48,25 @@ two = 0x61 ∷ 0x6E ∷ 0x5F ∷ 0x61 ∷ 0x6E ∷ 0x67 ∷ 0x6C ∷ 0x25 ∷ []
 abbrev pub three : List ℕ
 three = 0x65 ∷ 0x45 ∷ []
 
--- a frame of the stream, with priority 16
-abbrev pub frame : List ℕ → ℕ → Frame
-frame bytes time = frameAt 0x103FF22A bytes time
+-- a frame by an interface
+abbrev pub by : ℕ → ℕ → List ℕ → ℕ → Reception
+by i id bytes time = record { arrival = arrivalAt i id bytes time; room = 512 }
+
+-- a frame of the stream, with priority 16, by interface 0
+abbrev pub frame : List ℕ → ℕ → Arrival
+frame bytes time = arrivalAt 0 0x103FF22A bytes time
 
 abbrev pub received : List ℕ → ℕ → Reception
-received bytes time = record { frame = frame bytes time; room = 512 }
+received bytes time = by 0 0x103FF22A bytes time
+
+-- the same by interface 1
+abbrev pub copied : List ℕ → ℕ → Reception
+copied bytes time = by 1 0x103FF22A bytes time
 
 abbrev pub other : ℕ → List ℕ → ℕ → Reception
-other id bytes time = record { frame = frameAt id bytes time; room = 512 }
+other id bytes time = by 0 id bytes time
 
-abbrev pub start : Frame
+abbrev pub start : Arrival
 start = frame one 10000000
 
 -- ── two receivers ──
@@ -65,32 +74,38 @@ start = frame one 10000000
 -- n sessions of such messages from the sources n to 1, with nothing in hand, begun at a time
 unfoldable pub crowd : ℕ → ℕ → Places
 crowd since zero = []
-crowd since (suc n) = held (message (suc n)) (record { expected = 5; gathered = []; toggle = false; since = since }) ∷ crowd since n
+crowd since (suc n) = held (message (suc n)) (record { expected = 5; gathered = []; toggle = false; since = since; follows = 0 }) ∷ crowd since n
 
--- One has heard a whole single frame, its repeat and a bad one. Between the stream's frames it hears a frame of too large an ID, another stream's start,
--- a type with no subscription, an anonymous frame and one with no data.
+-- One has heard a whole single frame, its repeat and a bad one; then the stream's last transfer, and a copy of the start by the other interface, which is
+-- passed over. Between the stream's frames it hears a frame of too large an ID, another stream's start, a type with no subscription, an anonymous
+-- frame and one with no data.
 abbrev pub earlier : List Reception
 earlier =
     other 0x1001552A (1 ∷ 0 ∷ 0 ∷ 0 ∷ 0 ∷ 0 ∷ 0 ∷ 0xC0 ∷ []) 1000000 ∷
     other 0x1001552A (1 ∷ 0 ∷ 0 ∷ 0 ∷ 0 ∷ 0 ∷ 0 ∷ 0xC0 ∷ []) 1001000 ∷
-    other 0x1001552A (1 ∷ 0x81 ∷ []) 3000000 ∷ []
+    other 0x1001552A (1 ∷ 0x81 ∷ []) 3000000 ∷
+    received (1 ∷ 0xC4 ∷ []) 9500000 ∷
+    copied one 9999999 ∷ []
 
 abbrev pub spacious : Receiver (rulesTable setup)
 spacious =
     record {
       state = after setup begun earlier;
-      start = record { frame = start; room = 512 };
+      start = record { arrival = start; room = 512 };
       list =
           other 0x303FF22A two 10000000 ∷
+          copied one 10000000 ∷
           received one 10000001 ∷
-          other 0x103FF22B one 10000500 ∷
+          by 1 0x103FF22B one 10000500 ∷
           received two 10001000 ∷
+          copied three 10001000 ∷
           other 0x1001562A (0xC1 ∷ []) 10001000 ∷
           received two 10002000 ∷
-          received three 11999999 ∷
-          other 0x10000100 (1 ∷ 0xC1 ∷ []) 12000000 ∷
-          received three 12000000 ∷
-          other 0x103FF22B [] 12000000 ∷ [];
+          received three 10999999 ∷
+          other 0x10000100 (1 ∷ 0xC1 ∷ []) 11000000 ∷
+          received three 11000000 ∷
+          copied one 11000000 ∷
+          other 0x103FF22B [] 11000000 ∷ [];
     }
 
 -- The other was lent a table with all places held, a broken transfer of the stream among them. Between it hears a start that is refused for the full table,
@@ -98,17 +113,20 @@ spacious =
 abbrev pub crowded : Receiver (rulesTable setup)
 crowded =
     record {
-      state = held stream (record { expected = 5; gathered = 1 ∷ 2 ∷ 3 ∷ []; toggle = true; since = 7999999 }) ∷ crowd 9500000 31;
-      start = record { frame = start; room = 600 };
+      state = held stream (record { expected = 5; gathered = 1 ∷ 2 ∷ 3 ∷ []; toggle = true; since = 7999999; follows = 1 }) ∷ crowd 8500000 31;
+      start = record { arrival = start; room = 600 };
       list =
+          copied one 10000000 ∷
           received one 10000001 ∷
           received two 10001000 ∷
+          copied three 10001000 ∷
           other 0x103FF22B one 10001500 ∷
           received two 10002000 ∷
-          other 0x103FF22B one 11600000 ∷
-          received three 11999999 ∷
-          other 0x1001552A (0xC0 ∷ []) 11999999 ∷
-          received three 12000000 ∷
+          other 0x103FF22B one 10600000 ∷
+          received three 10999999 ∷
+          other 0x1001552A (0xC0 ∷ []) 10999999 ∷
+          received three 11000000 ∷
+          copied one 11000000 ∷
           other 0x1001552A (0xC1 ∷ []) 1000000 ∷ [];
     }
 
@@ -116,9 +134,9 @@ crowded =
 
 pub record Example : Type 0 where
   pub premises : Premises (rulesTable setup) stream spacious crowded
-  pub whiles : While (rulesTable setup) stream 5 spacious × While (rulesTable setup) stream 5 crowded
+  pub whiles : While (rulesTable setup) stream 8 spacious × While (rulesTable setup) stream 8 crowded
   pub transfer : Transfer setup stream start (frames (rulesTable setup) stream spacious) 16 5 payload
-  pub alike : take 6 (answers (rulesTable setup) stream spacious) ≡ take 6 (answers (rulesTable setup) stream crowded)
+  pub alike : take 9 (answers (rulesTable setup) stream spacious) ≡ take 9 (answers (rulesTable setup) stream crowded)
   pub delivered :
       (handouts (rulesTable setup) (answers (rulesTable setup) stream spacious) ≡ handed payload stream 16 5 ∷ [])
       × (handouts (rulesTable setup) (answers (rulesTable setup) stream crowded) ≡ handed payload stream 16 5 ∷ [])

@@ -1,4 +1,4 @@
--- RULES 2.1 to 2.4: the frame, the fields of its ID, the tail byte, the stream.
+-- RULES 2.1 to 2.4 and 2.7: the frame, the fields of its ID, the tail byte, the stream; how a frame comes.
 use mathlib.Core.Bool.{Bool, true, false, not, _&&_}
 use mathlib.Core.List.{List}
 use Prim.Native.Nat.{ℕ, _-_, _/_, _%_}
@@ -11,6 +11,11 @@ pub record Frame : Type 0 where
   pub id : ℕ
   pub bytes : List ℕ
   pub time : ℕ
+
+-- RULES 2.7: a frame as it comes: what is on the wire, and the number of the interface that it comes by
+pub record Arrival : Type 0 where
+  pub frame : Frame
+  pub interface : ℕ
 
 -- RULES 2.4. The transfer type is 0 for a message, 1 for a request, 2 for a response (1.7).
 pub record Stream : Type 0 where

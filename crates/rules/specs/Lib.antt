@@ -19,3 +19,4 @@ pub mod SendingLaws
 pub mod Example
 pub mod WhyPremises
 pub mod Samples
+pub mod Interfaces

@@ -21,6 +21,14 @@ gatheredMax = 514
 abbrev pub oldAge : ℕ
 oldAge = 2000000
 
+-- interfaces that frames come by, numbered from 0 (RULES 2.7)
+abbrev pub interfacesMax : ℕ
+interfacesMax = 3
+
+-- a session may follow another interface when its age in microseconds is above this (RULES 4.4)
+abbrev pub switchDelay : ℕ
+switchDelay = 1000000
+
 -- entries of a transfer-ID map (RULES 8.1)
 abbrev pub entriesMax : ℕ
 entriesMax = 32

@@ -1,6 +1,7 @@
 -- RULES 4.10: every number that a reception answers, and every value that 1 gives, is in its range, whatever the table was.
 use mathlib.Core.Path.{_≡_}
 use mathlib.Core.List.{List}
+use mathlib.Core.Logic.{_⊎_}
 use Prim.Native.Nat.{ℕ, _≤_, _<_}
 use lib.ListN.{length}
 use Rattle.rules.specs.Answer.{Answer, taken, handed, refused, full, passed, long, differs, numberOf}
@@ -23,7 +24,7 @@ pub record HandedRange (p : List ℕ) (d : Stream) (prio t : ℕ) : Type 0 where
 abbrev pub Ranged : Answer → Type 0
 Ranged taken = Unit {0}
 Ranged (handed p d prio t) = HandedRange p d prio t
-Ranged (refused n) = (2 ≤ n) × (n ≤ 8)
+Ranged (refused n) = ((2 ≤ n) × (n ≤ 8)) ⊎ (n ≡ 19)
 Ranged full = Unit {0}
 Ranged (passed r) = Unit {0}
 Ranged long = Unit {0}

@@ -47,7 +47,7 @@ stepChecked (some n) a ps v = record { answer = refused n; places = ps }
 stepChecked none a ps v = stepAnonymous a ps v
 
 unfoldable pub step : Setup → Places → Reception → Step
-step u ps r = stepChecked (check u r) (isAnonymous (r .frame .id)) ps (parsed u (r .frame))
+step u ps r = stepChecked (check u r) (isAnonymous (r .arrival .frame .id)) ps (parsed u (r .arrival))
 
 -- RULES 4.11: the table after a list, and the answers to all of it
 unfoldable pub after : Setup → Places → List Reception → Places

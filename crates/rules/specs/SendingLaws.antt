@@ -12,10 +12,10 @@ use Rattle.bits.specs.Tabulate.{tabulate}
 use Rattle.rules.specs.Answer.{handed}
 use Rattle.rules.specs.Answer as answer
 use Rattle.rules.specs.Check.{Reception}
-use Rattle.rules.specs.Condition3.{All, Receiver, frames, answers, tookStart, forward, roomy, front, handouts, Past, rulesTable}
+use Rattle.rules.specs.Condition3.{keep, All, Receiver, frames, answers, tookStart, While, handouts, Past, rulesTable}
 use Rattle.rules.specs.Frame as frame
-use Rattle.rules.specs.Frame.{Frame, Stream, priorityOf}
-use Rattle.rules.specs.Limits.{payloadMax, oldAge, frameRecord}
+use Rattle.rules.specs.Frame.{Frame, Arrival, Stream, priorityOf}
+use Rattle.rules.specs.Limits.{payloadMax, interfacesMax, switchDelay, frameRecord}
 use Rattle.rules.specs.Map.{Topic, free, used, Map, blank, sameTopic, sound}
 use Rattle.rules.specs.Reception.{step}
 use Rattle.rules.specs.Sending.{Call, topicOf, streamOf, isResponse, any, notSendable, frameCount, done, numberOf, framesOf, transferOf, anonymousId, recordsOf, sendStep}
@@ -123,15 +123,21 @@ untimed f = frameAt (f .id) (f .bytes) 0
 abbrev pub framesIn : List ℕ → ℕ → List Frame
 framesIn records n = tabulate (frameIn records 0) 0 n
 
--- A receiver of the setup u, with any past, hears n records on the stream d: their frames in order, within two seconds of the first, with whatever else
--- between. Up to the last of them time does not run back, and at each a payload has room.
+-- the frames that come by interface i
+unfoldable pub framesBy : ℕ → List Arrival → List Frame
+framesBy i [] = []
+framesBy i (a ∷ l) = keep (eqb (a .interface) i) (a .frame) (framesBy i l)
+
+-- A receiver of the setup u, with any past, hears n records on the stream d: by the start's interface their frames in order, within a second of the first;
+-- by other interfaces and of other streams whatever comes. Up to the last of them the premises of condition 3 hold: of these, that no start is refused for a
+-- full table says something only of starts by other interfaces.
 pub record Hearing (u : Setup) (d : Stream) (records : List ℕ) (n : ℕ) (x : Receiver (rulesTable u)) : Type 0 where
   pub past : Past u (x .state)
-  pub heard : map untimed (x .start .frame ∷ frames (rulesTable u) d x) ≡ framesIn records n
-  pub soon : All (λ f. f .time ≤ x .start .frame .time + oldAge) (frames (rulesTable u) d x)
-  pub time : forward (rulesTable u) (x .start .frame .time) (front (rulesTable u) d (length (frames (rulesTable u) d x)) x) ≡ true
+  pub interface : x .start .arrival .interface < interfacesMax
+  pub heard : map untimed (framesBy (x .start .arrival .interface) (x .start .arrival ∷ frames (rulesTable u) d x)) ≡ framesIn records n
+  pub soon : All (λ a. a .frame .time ≤ x .start .arrival .frame .time + switchDelay) (frames (rulesTable u) d x)
   pub room : payloadMax ≤ x .start .room
-  pub rooms : roomy (rulesTable u) d (front (rulesTable u) d (length (frames (rulesTable u) d x)) x) ≡ true
+  pub while : While (rulesTable u) d (length (frames (rulesTable u) d x)) x
 
 -- what it answers to the call's records
 pub record Arrives (u : Setup) (c : Call) (m : Map) (x : Receiver (rulesTable u)) : Type 0 where
@@ -141,9 +147,9 @@ pub record Arrives (u : Setup) (c : Call) (m : Map) (x : Receiver (rulesTable u)
   pub once : tookStart (rulesTable u) x ≡ true
       → handouts (rulesTable u) (answers (rulesTable u) (streamOf c) x) ≡ handed (c .payload) (streamOf c) (c .priority) (transferFor c m) ∷ []
 
--- n records heard at one time, with nothing between
+-- n records heard at one time and by interface 0, with nothing between
 abbrev pub inTurn : List ℕ → ℕ → ℕ → ℕ → Reception
-inTurn records time space k = record { frame = frameIn records time k; room = space }
+inTurn records time space k = record { arrival = record { frame = frameIn records time k; interface = 0 }; room = space }
 
 abbrev pub atOnce : (u : Setup) → Places → List ℕ → ℕ → ℕ → ℕ → Receiver (rulesTable u)
 atOnce u ps records n time space =

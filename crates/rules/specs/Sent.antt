@@ -5,7 +5,7 @@ use Prim.Native.Nat.{ℕ, zero, suc, _+_, _*_, _-_, _/_, _%_}
 use lib.Dec.{leb, eqb}
 use lib.ListN.{length, take, drop}
 use Rattle.checksum.specs.Crc16.{checksum}
-use Rattle.rules.specs.Frame.{Frame, Stream}
+use Rattle.rules.specs.Frame.{Frame, Arrival, Stream}
 use Rattle.rules.specs.Limits.{framePayload}
 use Rattle.rules.specs.Tests.{pick}
 
@@ -56,3 +56,7 @@ idOf d priority =
 
 abbrev pub frameAt : ℕ → List ℕ → ℕ → Frame
 frameAt id bytes time = record { id = id; bytes = bytes; time = time }
+
+-- by interface i
+abbrev pub arrivalAt : ℕ → ℕ → List ℕ → ℕ → Arrival
+arrivalAt i id bytes time = record { frame = frameAt id bytes time; interface = i }

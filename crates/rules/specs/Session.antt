@@ -6,17 +6,22 @@ use Prim.Native.Nat.{ℕ, _+_, _*_, _-_, _%_}
 use lib.Dec.{ltb, eqb}
 use lib.ListN.{length, drop}
 use Rattle.checksum.specs.Crc16.{checksum}
-use Rattle.rules.specs.Answer.{Answer, taken, handed, passed, long, differs, Reason, noTransfer, wrongToggle, wrongTransfer, repeatedStart}
+use Rattle.rules.specs.Answer.{Answer, taken, handed, passed, long, differs, Reason, noTransfer, wrongToggle, wrongTransfer, repeatedStart, otherInterface}
 use Rattle.rules.specs.Check.{Parsed}
-use Rattle.rules.specs.Limits.{gatheredMax, oldAge}
+use Rattle.rules.specs.Limits.{gatheredMax, oldAge, switchDelay}
 use Rattle.rules.specs.Tests.{pick, sameBool, isEmpty}
 
--- RULES 4.3: the expected transfer ID, the bytes gathered, the next toggle and the time of the last start taken
+-- RULES 4.3: the expected transfer ID, the bytes gathered, the next toggle, the time of the last start taken and the interface that is followed
 pub record Session : Type 0 where
   pub expected : ℕ
   pub gathered : List ℕ
   pub toggle : Bool
   pub since : ℕ
+  pub follows : ℕ
+
+-- nothing in hand
+abbrev pub waiting : ℕ → ℕ → ℕ → Session
+waiting expected since follows = record { expected = expected; gathered = []; toggle = false; since = since; follows = follows }
 
 -- RULES 4.4: the forward distance from a to b
 abbrev pub distance : ℕ → ℕ → ℕ
@@ -33,14 +38,28 @@ oldSince since t = ltb oldAge (t - since)
 abbrev pub old : ℕ → Session → Bool
 old t s = oldSince (s .since) t
 
+-- RULES 4.4: an age at which a session may follow another interface
+abbrev pub switchAllowed : ℕ → Session → Bool
+switchAllowed t s = ltb switchDelay (t - s .since)
+
 -- ── restart (RULES 4.5) ──
 
-unfoldable pub restarts : Session → Parsed → Bool
-restarts s v = old (v .time) s || (v .start && ltb 1 (distance (v .transfer) (s .expected)))
+-- of a start: by the followed interface, if it is far behind the expected ID; by any, once a switch is allowed, if it is not far ahead of it
+abbrev pub begins : Session → Parsed → Bool
+begins s v =
+    (eqb (v .interface) (s .follows) && ltb 1 (distance (v .transfer) (s .expected)))
+    || (switchAllowed (v .time) s && ltb (distance (s .expected) (v .transfer)) 16)
 
--- nothing in hand, toggle 0, expecting the transfer ID t; the time stays
-abbrev pub restarted : Session → ℕ → Session
-restarted s t = record { expected = t; gathered = []; toggle = false; since = s .since }
+unfoldable pub restarts : Session → Parsed → Bool
+restarts s v = old (v .time) s || (v .start && begins s v)
+
+-- the time stays, and the frame's interface is followed; a frame that is no start has the next ID expected
+unfoldable pub restarted : Session → Parsed → Session
+restarted s v = waiting (pick (v .start) (v .transfer) (next (v .transfer))) (s .since) (v .interface)
+
+-- the session that the rest of the rules reads
+unfoldable pub met : Session → Parsed → Session
+met s v = pick (restarts s v) (restarted s v) s
 
 -- ── passed over (RULES 4.6) ──
 
@@ -58,12 +77,15 @@ overOther false false toggle = some wrongTransfer
 overOther true false false = some wrongToggle
 overOther true false true = none
 
-abbrev pub overIf : Bool → Bool → Bool → Bool → Option Reason
-overIf true expected empty toggle = overStart expected empty toggle
-overIf false expected empty toggle = overOther expected empty toggle
+-- does it come by the followed interface, is it a start
+abbrev pub overIf : Bool → Bool → Bool → Bool → Bool → Option Reason
+overIf false start expected empty toggle = some otherInterface
+overIf true true expected empty toggle = overStart expected empty toggle
+overIf true false expected empty toggle = overOther expected empty toggle
 
 unfoldable pub over : Session → Parsed → Option Reason
-over s v = overIf (v .start) (eqb (v .transfer) (s .expected)) (isEmpty (s .gathered)) (sameBool (v .toggle) (s .toggle))
+over s v =
+    overIf (eqb (v .interface) (s .follows)) (v .start) (eqb (v .transfer) (s .expected)) (isEmpty (s .gathered)) (sameBool (v .toggle) (s .toggle))
 
 -- ── taken (RULES 4.7) ──
 
@@ -78,7 +100,7 @@ sinceOf s v = pick (v .start) (v .time) (s .since)
 
 -- RULES 4.8, after 1, 11 and 12: nothing in hand, toggle 0, the expected ID raised by one
 abbrev pub closed : Session → ℕ → Session
-closed s t = record { expected = next (s .expected); gathered = []; toggle = false; since = t }
+closed s t = waiting (next (s .expected)) t (s .follows)
 
 -- RULES 4.8, case 4: the first two bytes, low byte first, are the checksum of the rest
 abbrev pub sumOk : ℕ → List ℕ → Bool
@@ -94,7 +116,7 @@ closing false false all v = differs
 
 unfoldable pub takeEnd : Bool → Session → Parsed → List ℕ → Out
 takeEnd false s v all =
-    record { answer = taken; session = record { expected = s .expected; gathered = all; toggle = not (s .toggle); since = sinceOf s v } }
+    record { answer = taken; session = record { expected = s .expected; gathered = all; toggle = not (s .toggle); since = sinceOf s v; follows = s .follows } }
 takeEnd true s v all =
     record { answer = closing (v .start) (sumOk (v .signature) all) all v; session = closed s (sinceOf s v) }
 
@@ -115,15 +137,10 @@ proceedIf none s v = takes s v
 unfoldable pub proceed : Session → Parsed → Out
 proceed s v = proceedIf (over s v) s v
 
--- RULES 4.5: a session restarted by a frame that is no start then expects the next ID
-unfoldable pub reactIf : Bool → Bool → Session → Parsed → Out
-reactIf true true s v = proceed (restarted s (v .transfer)) v
-reactIf true false s v = record { answer = passed noTransfer; session = restarted s (next (v .transfer)) }
-reactIf false start s v = proceed s v
-
+-- a frame that is no start and restarts a session finds no transfer in hand (4.6)
 unfoldable pub react : Session → Parsed → Out
-react s v = reactIf (restarts s v) (v .start) s v
+react s v = proceed (met s v) v
 
 -- RULES 4.3: a new session, as one restarted by this frame
 abbrev pub fresh : Parsed → Session
-fresh v = record { expected = v .transfer; gathered = []; toggle = false; since = v .time }
+fresh v = waiting (v .transfer) (v .time) (v .interface)

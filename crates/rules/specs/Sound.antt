@@ -6,7 +6,7 @@ use lib.Dec.{ltb, leb, eqb}
 use lib.ListN.{length}
 use Rattle.rules.specs.Check.{Reception}
 use Rattle.rules.specs.Frame.{Stream}
-use Rattle.rules.specs.Limits.{gatheredMax, sessionsMax}
+use Rattle.rules.specs.Limits.{gatheredMax, interfacesMax, sessionsMax}
 use Rattle.rules.specs.Reception.{step}
 use Rattle.rules.specs.Session.{Session}
 use Rattle.rules.specs.Setup.{Setup}
@@ -26,7 +26,9 @@ unfoldable pub streamFits : Stream → Bool
 streamFits d = (ltb 0 (d .source) && ltb (d .source) 128) && (ltb (d .transferType) 3 && pick (eqb (d .transferType) 0) (messageFits d) (serviceFits d))
 
 unfoldable pub sessionFits : Session → Bool
-sessionFits s = ltb (s .expected) 32 && (leb (length (s .gathered)) gatheredMax && (not (s .toggle) || not (isEmpty (s .gathered))))
+sessionFits s =
+    (ltb (s .expected) 32 && ltb (s .follows) interfacesMax)
+    && (leb (length (s .gathered)) gatheredMax && (not (s .toggle) || not (isEmpty (s .gathered))))
 
 -- RULES 5.5: of an empty place nothing but its emptiness is read
 abbrev pub placeFits : Place → Bool

@@ -9,11 +9,11 @@ use lib.ListN.{length, getD, take, drop, set, replicate}
 use Rattle.rules.specs.Answer.{Answer, handed, numberOf}
 use Rattle.rules.specs.Check.{Reception}
 use Rattle.rules.specs.Condition3.{startOf, answersTo, Receiver, frames, answers, tookStart, Premises, forward, roomy, never, front, While, Brings, Transfer, handouts, rulesTable}
-use Rattle.rules.specs.Example.{setup, stream, payload, one, two, three, frame, received, other, start, crowd}
-use Rattle.rules.specs.Frame.{Frame, Stream}
-use Rattle.rules.specs.Limits.{payloadMax, oldAge}
+use Rattle.rules.specs.Example.{setup, stream, payload, one, two, three, frame, received, copied, other, start, crowd}
+use Rattle.rules.specs.Frame.{Frame, Arrival, Stream}
+use Rattle.rules.specs.Limits.{payloadMax, switchDelay}
 use Rattle.rules.specs.Reception.{step}
-use Rattle.rules.specs.Sent.{frameAt, sent, idOf}
+use Rattle.rules.specs.Sent.{frameAt, arrivalAt, sent, idOf}
 use Rattle.rules.specs.Sound.{sound}
 use Rattle.rules.specs.Table.{empty, held, Places, begun}
 
@@ -21,8 +21,8 @@ abbrev pub Heard : Type 0
 Heard = Receiver (rulesTable setup)
 
 -- with a start, 512 bytes of room for it, a table and a list
-abbrev pub opened : Frame → Places → List Reception → Heard
-opened f ps l = record { state = ps; start = record { frame = f; room = 512 }; list = l }
+abbrev pub opened : Arrival → Places → List Reception → Heard
+opened f ps l = record { state = ps; start = record { arrival = f; room = 512 }; list = l }
 
 abbrev pub receiver : Places → List Reception → Heard
 receiver = opened start
@@ -48,9 +48,9 @@ abbrev pub tests : Stream → Heard → List Bool
 tests d x =
     sound (x .state) ∷
     ltb 0 (d .source) ∷
-    startOf d (x .start .frame) ∷
+    startOf d (x .start .arrival .frame) ∷
     tookStart (rulesTable setup) x ∷
-    forward (rulesTable setup) (x .start .frame .time) (far d x) ∷
+    forward (rulesTable setup) (x .start .arrival .frame .time) (far d x) ∷
     roomy (rulesTable setup) d (far d x) ∷
     never (rulesTable setup) 9 (answersTo (rulesTable setup) (startOf d) (step setup (x .state) (x .start) .places) (far d x)) ∷ []
 
@@ -62,7 +62,11 @@ but n = set all n false
 
 -- what is asked of two
 abbrev pub Together : Heard → Heard → Type 0
-Together x y = x .start .frame ≡ y .start .frame
+Together x y = x .start .arrival ≡ y .start .arrival
+
+-- the stream's frames without their interfaces
+abbrev pub frames' : Heard → List Frame
+frames' x = map (λ a. a .frame) (frames (rulesTable setup) stream x)
 
 abbrev pub Same : Stream → Heard → Heard → Type 0
 Same d x y = frames (rulesTable setup) d x ≡ frames (rulesTable setup) d y
@@ -75,14 +79,15 @@ agreed = 0x0123456789ABCDEF
 pub record Sent (x : Heard) (signature t : ℕ) (p : List ℕ) (found : List Bool) : Type 0 where
   pub premises : tests stream x ≡ all
   pub fits : leb (length p) payloadMax ∷ ltb t 32 ∷ eqb signature agreed ∷ [] ≡ found
-  pub brings : Brings (idOf stream 16) (x .start .frame .time + oldAge) (sent signature t p) (x .start .frame ∷ frames (rulesTable setup) stream x)
+  pub brings : Brings (x .start .arrival .interface) (idOf stream 16) (x .start .arrival .frame .time + switchDelay) (sent signature t p)
+      (x .start .arrival ∷ frames (rulesTable setup) stream x)
 
 -- these tests are all of the premises
 pub record Tests : Type 0 where
   pub premises : (d : Stream) (x y : Heard) → tests d x ≡ all → tests d y ≡ all → Together x y → Same d x y → Premises (rulesTable setup) d x y
   pub whiles : (d : Stream) (x : Heard) → tests d x ≡ all → While (rulesTable setup) d (length (frames (rulesTable setup) d x)) x
   pub transfer : (x : Heard) (signature t : ℕ) (p : List ℕ) → Sent x signature t p (true ∷ true ∷ true ∷ [])
-      → Transfer setup stream (x .start .frame) (frames (rulesTable setup) stream x) 16 t p
+      → Transfer setup stream (x .start .arrival) (frames (rulesTable setup) stream x) 16 t p
 
 -- ── alike (RULES 14.9) ──
 
@@ -92,8 +97,8 @@ steady = receiver (oneFree 10000000) (received two 10100000 ∷ received three 1
 -- a lent table has two entries of the stream: when one has lost its place the other shows
 abbrev pub twins : Places
 twins =
-    held stream (record { expected = 5; gathered = []; toggle = false; since = 0 }) ∷
-    held stream (record { expected = 5; gathered = 1 ∷ 2 ∷ 3 ∷ 4 ∷ 5 ∷ 6 ∷ 7 ∷ []; toggle = true; since = 12000000 }) ∷ crowd 12000000 30
+    held stream (record { expected = 5; gathered = []; toggle = false; since = 0; follows = 0 }) ∷
+    held stream (record { expected = 5; gathered = 1 ∷ 2 ∷ 3 ∷ 4 ∷ 5 ∷ 6 ∷ 7 ∷ []; toggle = true; since = 12000000; follows = 0 }) ∷ crowd 12000000 30
 
 abbrev pub single : Heard
 single = receiver begun (received two 12000002 ∷ [])
@@ -104,7 +109,7 @@ double = receiver twins (other 0x103FF22B one 12000001 ∷ received two 12000002
 -- what both take is no start: each adds it to what it has in hand
 abbrev pub midway : List ℕ → Heard
 midway bytes =
-    opened (frame two 10100000) (held stream (record { expected = 5; gathered = bytes; toggle = true; since = 10000000 }) ∷ crowd 10000000 31)
+    opened (frame two 10100000) (held stream (record { expected = 5; gathered = bytes; toggle = true; since = 10000000; follows = 0 }) ∷ crowd 10000000 31)
     (received three 10200000 ∷ [])
 
 -- what the first frame carries
@@ -127,8 +132,16 @@ later = opened (frame one 9999999) begun (received two 10100000 ∷ received thr
 -- one does not take the start: it has taken it before
 abbrev pub ahead : Heard
 ahead =
-    receiver (held stream (record { expected = 6; gathered = []; toggle = false; since = 9000000 }) ∷ crowd 9000000 31)
+    receiver (held stream (record { expected = 6; gathered = []; toggle = false; since = 9000000; follows = 0 }) ∷ crowd 9000000 31)
     (received two 10100000 ∷ received three 10200000 ∷ [])
+
+-- one gets the second frame by another interface
+abbrev pub crossed : Heard
+crossed = receiver (oneFree 10000000) (copied two 10100000 ∷ received three 10200000 ∷ [])
+
+-- one gets the start by another interface
+abbrev pub elsewhere : Heard
+elsewhere = opened (copied one 10000000 .arrival) (oneFree 10000000) (received two 10100000 ∷ received three 10200000 ∷ [])
 
 -- one does not get the second frame
 abbrev pub lacking : Heard
@@ -140,7 +153,7 @@ back = receiver (oneFree 10000000) (other 0x103FF22B one 12000001 ∷ received t
 
 -- an output buffer is short
 abbrev pub short : Heard
-short = receiver begun (record { frame = frame two 10100000; room = 511 } ∷ received three 10200000 ∷ [])
+short = receiver begun (record { arrival = frame two 10100000; room = 511 } ∷ received three 10200000 ∷ [])
 
 -- the stream's next start meets a full table
 abbrev pub roomLeft : Heard
@@ -156,7 +169,7 @@ abbrev pub unnamed : Stream
 unnamed = record { transferType = 0; type = 1; source = 0; destination = 0 }
 
 abbrev pub twice : Heard
-twice = opened (frameAt 0x10000100 (1 ∷ 0xC0 ∷ []) 10000000) begun (other 0x10000100 (1 ∷ 0xC0 ∷ []) 10000001 ∷ [])
+twice = opened (arrivalAt 0 0x10000100 (1 ∷ 0xC0 ∷ []) 10000000) begun (other 0x10000100 (1 ∷ 0xC0 ∷ []) 10000001 ∷ [])
 
 -- frames of the stream, at one time
 abbrev pub hearing : List (List ℕ) → Heard
@@ -174,9 +187,9 @@ wide = hearing (sent agreed 69 payload)
 abbrev pub strange : Heard
 strange = hearing (sent 7 5 payload)
 
--- the last frame comes later than two seconds after the start
+-- a start by another interface comes later than a second after the start: the session follows it
 abbrev pub tooLate : Heard
-tooLate = receiver begun (received two 10100000 ∷ received three 12000001 ∷ [])
+tooLate = receiver begun (received two 10100000 ∷ copied one 11000001 ∷ received three 11000001 ∷ [])
 
 -- of a transfer of four frames the second is repeated after the third: it is taken as the fourth
 abbrev pub four : List Reception → Heard
@@ -220,8 +233,12 @@ pub record WhyPremises : Type 0 where
       × (numbers stream late ≡ 0 ∷ 0 ∷ 1 ∷ []) × (numbers stream later ≡ 0 ∷ 0 ∷ 10 ∷ [])
   pub same : (tests stream steady ≡ all) × (tests stream lacking ≡ all) × Together steady lacking
       × (numbers stream steady ≡ 0 ∷ 0 ∷ 1 ∷ []) × (numbers stream lacking ≡ 0 ∷ 10 ∷ [])
+  pub interfaces : (tests stream steady ≡ all) × (tests stream crossed ≡ all) × Together steady crossed × (frames' crossed ≡ frames' steady)
+      × (numbers stream crossed ≡ 0 ∷ 10 ∷ 10 ∷ [])
+  pub interface : (tests stream steady ≡ all) × (tests stream elsewhere ≡ all) × (elsewhere .start .arrival .frame ≡ steady .start .arrival .frame)
+      × Same stream steady elsewhere × (numbers stream elsewhere ≡ 0 ∷ 10 ∷ 10 ∷ [])
   -- delivered
-  pub named : (tests unnamed twice ≡ but 1) × Transfer setup unnamed (twice .start .frame) (frames (rulesTable setup) unnamed twice) 16 0 (1 ∷ [])
+  pub named : (tests unnamed twice ≡ but 1) × Transfer setup unnamed (twice .start .arrival) (frames (rulesTable setup) unnamed twice) 16 0 (1 ∷ [])
       × (numbers unnamed twice ≡ 1 ∷ 1 ∷ [])
   pub size : Sent (hearing (sent agreed 5 long)) agreed 5 long (false ∷ true ∷ true ∷ [])
       × (handedOut (hearing (sent agreed 5 long)) ≡ [])
@@ -230,8 +247,8 @@ pub record WhyPremises : Type 0 where
       × (startOf stream (frameAt (idOf stream 32) one 10000000) ≡ false)
   pub subscribed : Sent strange 7 5 payload (true ∷ true ∷ false ∷ []) × (numbers stream strange ≡ 0 ∷ 0 ∷ 12 ∷ [])
   -- in time with a microsecond more
-  pub seconds : (tests stream tooLate ≡ all)
-      × Brings (idOf stream 16) (10000000 + oldAge + 1) (sent agreed 5 payload) (tooLate .start .frame ∷ frames (rulesTable setup) stream tooLate)
-      × (numbers stream tooLate ≡ 0 ∷ 0 ∷ 10 ∷ [])
+  pub second : (tests stream tooLate ≡ all)
+      × Brings 0 (idOf stream 16) (10000000 + switchDelay + 1) (sent agreed 5 payload) (tooLate .start .arrival ∷ frames (rulesTable setup) stream tooLate)
+      × (numbers stream tooLate ≡ 0 ∷ 0 ∷ 0 ∷ 10 ∷ [])
   pub order : Sent inOrder agreed 5 degrees (true ∷ true ∷ true ∷ []) × (tests stream outOfOrder ≡ all)
       × (numbers stream inOrder ≡ 0 ∷ 0 ∷ 10 ∷ 0 ∷ 1 ∷ []) × (numbers stream outOfOrder ≡ 0 ∷ 0 ∷ 0 ∷ 0 ∷ 10 ∷ [])

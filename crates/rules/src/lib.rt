@@ -3,6 +3,7 @@ pub mod limits;
 
 ghost use Rattle.rules.specs.Condition3.{Condition3, rulesTable};
 ghost use Rattle.rules.specs.Example.{Example};
+ghost use Rattle.rules.specs.Interfaces.{Interfaces};
 ghost use Rattle.rules.specs.Range.{RangeLaw, OneLaw};
 ghost use Rattle.rules.specs.Refusal.{RefusalLaw};
 ghost use Rattle.rules.specs.Samples.{Samples};
@@ -69,6 +70,11 @@ pub fn map_lasts()
 // RULES 7.7: what is sent and then received is handed out.
 pub fn sent_is_received()
     ensures { λ _. ⌜ Delivered ⌝ }
+{}
+
+// RULES 15.6: cases of the rule for redundant interfaces.
+pub fn interface_cases()
+    ensures { λ _. ⌜ Interfaces ⌝ }
 {}
 
 // RULES 15.1: the sample values.

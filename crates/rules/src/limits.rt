@@ -10,6 +10,10 @@ pub const PAYLOAD: usize = 512;
 pub const GATHERED: usize = 514;
 // A session is old when its age in microseconds is above this.
 pub const OLD_AGE: u64 = 2_000_000;
+// Interfaces that frames come by, numbered from 0.
+pub const INTERFACES: u8 = 3;
+// A session may follow another interface when its age in microseconds is above this.
+pub const SWITCH_DELAY: u64 = 1_000_000;
 // Entries of a transfer-ID map.
 pub const MAP_ENTRIES: usize = 32;
 // A map's entry may be replaced once it was unused for this many microseconds.

@@ -1,21 +1,22 @@
 -- Each case of the rules, from the tests that lead to it. Throughout, b is what a test of the code gave.
-use mathlib.Core.Path.{_≡_, refl, sym, ap, ap₂, _∙_}
-use mathlib.Core.Bool.{Bool, true, false, _&&_, _||_, Bool·beq, and-false, true≢false, false≢true}
-use mathlib.Core.List.{List, [], _++_}
+use mathlib.Core.Path.{_≡_, refl, sym, ap, _∙_}
+use mathlib.Core.Bool.{Bool, true, false, _&&_, Bool·beq, and-false, true≢false, false≢true}
+use mathlib.Core.List.{List, [], _∷_, _++_}
 use mathlib.Core.Option.{Option, none, some}
 use Prim.Native.Nat.{ℕ, _+_, _-_, _≤_, _<_}
 use native.Mathlib.Omega.{arith}
-use borrow.Author.Tests.{eqb-true, lt-ltb, le-ltb, eq-eqb, ne-eqb}
+use borrow.Author.Tests.{lt-ltb, le-ltb, eq-eqb, ne-eqb}
 use lib.Dec.{ltb, eqb, lit≤}
-use lib.ListN.{length, take, drop, length-append, length-replicate}
+use lib.ListN.{length, take, drop, replicate, length-append, length-replicate}
 use Rattle.rules.specs.Answer.{Reason, taken, handed, passed, long, differs, noTransfer}
 use Rattle.rules.specs.Check.{Parsed}
+use Rattle.rules.specs.Limits.{switchDelay}
 use Rattle.rules.specs.Session as rules
-use Rattle.rules.specs.Session.{oldSince, distance, next, sumOk, over, overIf, closed, closing, takes, takeLong, takeEnd, sinceOf, proceed, proceedIf, react, reactIf, restarts, restarted, fresh}
+use Rattle.rules.specs.Session.{waiting, oldSince, distance, next, sumOk, over, overIf, closed, closing, takes, takeLong, takeEnd, sinceOf, proceed, proceedIf, met, react, restarts, restarted, fresh}
 use Rattle.rules.specs.Tests.{pick, sameBool, isEmpty, isNone}
 use Rattle.answers.specs.Reception.{told, outAfter}
 use Rattle.session.specs.inside.Answer.{HandsOut, Closes}
-use Rattle.session.specs.inside.Session.{sessionOf, InRange, parsedOf, added, bare}
+use Rattle.session.specs.inside.Session.{sessionOf, InRange, parsedOf, added, progressOf, bare}
 use Rattle.answers.specs.declared.Answer.{Answer}
 use Rattle.answers.specs.declared.Answer.the-variants.{Passed, BadChecksum}
 use Rattle.session.specs.declared.Incoming.{Incoming}
@@ -25,25 +26,60 @@ use Rattle.session.proofs.Gathered.{empty-length}
 
 -- ── the tests, on the fields that they read ──
 
-unfoldable pub restartsAt : ℕ → ℕ → Incoming → Bool
-restartsAt expected time h = oldSince time (h .time) || (h .head .start && ltb 1 (distance (h .head .transfer) expected))
-
-unfoldable pub awaitedAt : ℕ → Bool → ℕ → Incoming → Bool
-awaitedAt expected toggle len h =
-    eqb (h .head .transfer) expected && (sameBool (h .head .toggle) toggle && sameBool (h .head .start) (eqb len 0))
-
-module _ (expected time : ℕ) (h : Incoming) (b : Bool) (e : b ≡ oldSince time (h .time)) where
-  pub restarts-old : b ≡ true → true ≡ restartsAt expected time h
-  unfolding restartsAt
+module _ (c : Progress) (h : Incoming) (b : Bool) (e : b ≡ oldSince (c .time) (h .time)) where
+  pub restarts-old : b ≡ true → true ≡ restarts (bare c) (parsedOf h [])
+  unfolding restarts parsedOf
   restarts-old o = rw (← e, o)
 
-  pub restarts-start : b ≡ false → h .head .start ≡ true → ltb 1 (distance (h .head .transfer) expected) ≡ restartsAt expected time h
-  unfolding restartsAt
+  pub restarts-start : b ≡ false → h .head .start ≡ true → rules.begins (bare c) (parsedOf h []) ≡ restarts (bare c) (parsedOf h [])
+  unfolding restarts parsedOf
   restarts-start o k = rw (← e, o, k)
 
-  pub restarts-not : b ≡ false → h .head .start ≡ false → false ≡ restartsAt expected time h
-  unfolding restartsAt
+  pub restarts-not : b ≡ false → h .head .start ≡ false → false ≡ restarts (bare c) (parsedOf h [])
+  unfolding restarts parsedOf
   restarts-not o k = rw (← e, o, k)
+
+-- a is that the frame is behind the expected ID, b that a switch is allowed
+module _ (c : Progress) (h : Incoming) (a : Bool) (d : a ≡ (eqb (h .interface) (c .follows) && ltb 1 (distance (h .head .transfer) (c .expected)))) where
+  pub begins-behind : a ≡ true → true ≡ rules.begins (bare c) (parsedOf h [])
+  unfolding parsedOf
+  begins-behind k = rw (← d, k)
+
+  module _ (k : a ≡ false) (b : Bool) (e : b ≡ ltb switchDelay (h .time - c .time)) where
+    pub begins-switch : b ≡ true → ltb (distance (c .expected) (h .head .transfer)) 16 ≡ rules.begins (bare c) (parsedOf h [])
+    unfolding parsedOf
+    begins-switch o = rw (← d, k, ← e, o)
+
+    pub begins-not : b ≡ false → false ≡ rules.begins (bare c) (parsedOf h [])
+    unfolding parsedOf
+    begins-not o = rw (← d, k, ← e, o)
+
+unfoldable awaitedAt : Progress → Incoming → Bool
+awaitedAt c h =
+    eqb (h .interface) (c .follows)
+    && (eqb (h .head .transfer) (c .expected) && (sameBool (h .head .toggle) (c .toggle) && sameBool (h .head .start) (eqb (c .len) 0)))
+
+none-awaited : (follows start expected empty toggle : Bool)
+    → isNone (overIf follows start expected empty toggle) ≡ (follows && (expected && (toggle && sameBool start empty)))
+none-awaited false start expected empty toggle = refl
+none-awaited true true false empty toggle = refl
+none-awaited true true true false toggle = sym (and-false toggle)
+none-awaited true true true true false = refl
+none-awaited true true true true true = refl
+none-awaited true false false true toggle = refl
+none-awaited true false true true toggle = sym (and-false toggle)
+none-awaited true false false false toggle = refl
+none-awaited true false true false false = refl
+none-awaited true false true false true = refl
+
+-- the test of the code is that of the rules
+over-awaited : (c : Progress) (h : Incoming) → isNone (over (bare c) (parsedOf h [])) ≡ awaitedAt c h
+unfolding over awaitedAt parsedOf
+over-awaited c h =
+    none-awaited (eqb (h .interface) (c .follows)) (h .head .start) (eqb (h .head .transfer) (c .expected)) (isEmpty (replicate (c .len) 0))
+    (sameBool (h .head .toggle) (c .toggle))
+    ∙ ap (λ (b : Bool). eqb (h .interface) (c .follows) && (eqb (h .head .transfer) (c .expected) && (sameBool (h .head .toggle) (c .toggle) && sameBool (h .head .start) b)))
+    (empty-length (replicate (c .len) 0) ∙ ap (λ (n : ℕ). eqb n 0) (length-replicate (c .len) 0))
 
 beq-same : (a b : Bool) → Bool·beq a b ≡ sameBool a b
 beq-same true true = refl
@@ -51,56 +87,69 @@ beq-same true false = refl
 beq-same false true = refl
 beq-same false false = refl
 
-module _ (expected : ℕ) (toggle : Bool) (len : ℕ) (h : Incoming) where
-  pub awaited-rest : h .head .transfer ≡ expected → Bool·beq (h .head .toggle) toggle ≡ true → Bool·beq (h .head .start) (eqb len 0) ≡ awaitedAt expected toggle len h
+module _ (c : Progress) (h : Incoming) where
+  pub awaited-interface : (h .interface ≡ c .follows → ⊥) → false ≡ isNone (over (bare c) (parsedOf h []))
   unfolding awaitedAt
-  awaited-rest t g = rw (eq-eqb (h .head .transfer) expected t, sym (beq-same (h .head .toggle) toggle) ∙ g, beq-same (h .head .start) (eqb len 0))
+  awaited-interface i = rw (over-awaited c h, ne-eqb (h .interface) (c .follows) i)
 
-  pub awaited-toggle : h .head .transfer ≡ expected → Bool·beq (h .head .toggle) toggle ≡ false → false ≡ awaitedAt expected toggle len h
-  unfolding awaitedAt
-  awaited-toggle t g = rw (eq-eqb (h .head .transfer) expected t, sym (beq-same (h .head .toggle) toggle) ∙ g)
+  module _ (i : h .interface ≡ c .follows) where
+    pub awaited-transfer : (h .head .transfer ≡ c .expected → ⊥) → false ≡ isNone (over (bare c) (parsedOf h []))
+    unfolding awaitedAt
+    awaited-transfer t = rw (over-awaited c h, eq-eqb (h .interface) (c .follows) i, ne-eqb (h .head .transfer) (c .expected) t)
 
-  pub awaited-transfer : (h .head .transfer ≡ expected → ⊥) → false ≡ awaitedAt expected toggle len h
-  unfolding awaitedAt
-  awaited-transfer t = rw (ne-eqb (h .head .transfer) expected t)
+    module _ (t : h .head .transfer ≡ c .expected) where
+      pub awaited-toggle : Bool·beq (h .head .toggle) (c .toggle) ≡ false → false ≡ isNone (over (bare c) (parsedOf h []))
+      unfolding awaitedAt
+      awaited-toggle g =
+          rw (
+            over-awaited c h,
+            eq-eqb (h .interface) (c .follows) i,
+            eq-eqb (h .head .transfer) (c .expected) t,
+            sym (beq-same (h .head .toggle) (c .toggle)) ∙ g,
+          )
 
-  -- a start is awaited only with nothing in hand
-  pub awaited-start : (b : Bool) → b ≡ awaitedAt expected toggle len h → b ≡ true → h .head .start ≡ true → len ≡ 0
-  unfolding awaitedAt
-  awaited-start b e w k = go (eqb (h .head .transfer) expected) (sameBool (h .head .toggle) toggle) (h .head .start) (sym e ∙ w) k
-    where
-      go : (e t start : Bool) → (e && (t && sameBool start (eqb len 0))) ≡ true → start ≡ true → len ≡ 0
-      go true true true w k = eqb-true len 0 w
-      go true true false w k = absurd (false≢true k)
-      go true false start w k = absurd (false≢true w)
-      go false t start w k = absurd (false≢true w)
+      pub awaited-rest : Bool·beq (h .head .toggle) (c .toggle) ≡ true → Bool·beq (h .head .start) (eqb (c .len) 0) ≡ isNone (over (bare c) (parsedOf h []))
+      unfolding awaitedAt
+      awaited-rest g =
+          rw (
+            over-awaited c h,
+            eq-eqb (h .interface) (c .follows) i,
+            eq-eqb (h .head .transfer) (c .expected) t,
+            sym (beq-same (h .head .toggle) (c .toggle)) ∙ g,
+            beq-same (h .head .start) (eqb (c .len) 0),
+          )
+
+-- ── of a session with its bytes, and a frame with its payload ──
+
+empty-bare : (g : List ℕ) → isEmpty {A = ℕ} (replicate (length g) 0) ≡ isEmpty g
+empty-bare [] = refl
+empty-bare (b ∷ g) = refl
+
+module _ (s : rules.Session) (h : Incoming) (p : List ℕ) where
+  pub restarts-whole : restarts (bare (progressOf s)) (parsedOf h []) ≡ restarts s (parsedOf h p)
+  unfolding restarts parsedOf
+  restarts-whole = refl
+
+  pub over-whole : over (bare (progressOf s)) (parsedOf h []) ≡ over s (parsedOf h p)
+  unfolding over parsedOf
+  over-whole =
+      ap (λ (b : Bool). overIf (eqb (h .interface) (s .follows)) (h .head .start) (eqb (h .head .transfer) (s .expected)) b (sameBool (h .head .toggle) (s .toggle)))
+      (empty-bare (s .gathered))
 
 -- ── passed over or taken ──
 
-none-awaited : (start expected empty toggle : Bool) → isNone (overIf start expected empty toggle) ≡ (expected && (toggle && sameBool start empty))
-none-awaited true false empty toggle = refl
-none-awaited true true false toggle = sym (and-false toggle)
-none-awaited true true true false = refl
-none-awaited true true true true = refl
-none-awaited false false true toggle = refl
-none-awaited false true true toggle = sym (and-false toggle)
-none-awaited false false false toggle = refl
-none-awaited false true false false = refl
-none-awaited false true false true = refl
-
--- the test of the code is that of the rules
-pub over-awaited : (s : rules.Session) (h : Incoming) (p : List ℕ) → isNone (over s (parsedOf h p)) ≡ awaitedAt (s .expected) (s .toggle) (length (s .gathered)) h
-unfolding over awaitedAt parsedOf
-over-awaited s h p =
-    none-awaited (h .head .start) (eqb (h .head .transfer) (s .expected)) (isEmpty (s .gathered)) (sameBool (h .head .toggle) (s .toggle))
-    ∙ ap (λ (b : Bool). eqb (h .head .transfer) (s .expected) && (sameBool (h .head .toggle) (s .toggle) && sameBool (h .head .start) b)) (empty-length (s .gathered))
-
-pub restarts-bare : (c : Progress) (h : Incoming) → restarts (bare c) (parsedOf h []) ≡ restartsAt (c .expected) (c .time) h
-unfolding restarts restartsAt parsedOf
-restarts-bare c h = refl
-
-pub awaited-bare : (c : Progress) (h : Incoming) → isNone (over (bare c) (parsedOf h [])) ≡ awaitedAt (c .expected) (c .toggle) (c .len) h
-awaited-bare c h = over-awaited (bare c) h [] ∙ ap (λ n. awaitedAt (c .expected) (c .toggle) n h) (length-replicate (c .len) 0)
+-- a start is awaited only with nothing in hand
+pub awaited-start : (s : rules.Session) (h : Incoming) (p : List ℕ) → isNone (over s (parsedOf h p)) ≡ true → h .head .start ≡ true → length (s .gathered) ≡ 0
+unfolding over parsedOf
+awaited-start s h p w k =
+    go (eqb (h .interface) (s .follows)) (eqb (h .head .transfer) (s .expected)) (s .gathered) (sameBool (h .head .toggle) (s .toggle)) (h .head .start) w k
+  where
+    go : (f e : Bool) (g : List ℕ) (t start : Bool) → isNone (overIf f start e (isEmpty g) t) ≡ true → start ≡ true → length g ≡ 0
+    go true true [] t true w k = refl
+    go true true (x ∷ g) t true w k = absurd (false≢true w)
+    go true false g t true w k = absurd (false≢true w)
+    go false e g t true w k = absurd (false≢true w)
+    go f e g t false w k = absurd (false≢true k)
 
 module _ (s : rules.Session) (v : Parsed) where
   proceed-taken : isNone (over s v) ≡ true → proceed s v ≡ takes s v
@@ -180,40 +229,39 @@ module _ (s : rules.Session) (v : Parsed) where
 
 -- ── what a frame does, from the tests of the code ──
 
+-- a start with toggle 0 by its own interface, with nothing in hand, is the frame that is waited for
+begun : (h : Incoming) (p : List ℕ) (since : ℕ) → h .head .start ≡ true → h .head .toggle ≡ false
+    → isNone (over (waiting (h .head .transfer) since (h .interface)) (parsedOf h p)) ≡ true
+unfolding over parsedOf
+begun h p since k t = rw (eq-eqb (h .interface) (h .interface) refl, k, eq-eqb (h .head .transfer) (h .head .transfer) refl, t)
+
 module _ (s : rules.Session) (h : Incoming) (p : List ℕ) where
   abbrev v : Parsed
   v = parsedOf h p
 
-  abbrev restarting : Bool
-  restarting = restartsAt (s .expected) (s .since) h
-
-  abbrev awaited : Bool
-  awaited = awaitedAt (s .expected) (s .toggle) (length (s .gathered)) h
-
-  tested : restarting ≡ restarts s v
-  unfolding restarts restartsAt parsedOf
-  tested = refl
-
   -- a start that restarts the session is then the frame that it waits for: check 5 refused a start with toggle 1
-  pub reacts-anew : restarting ≡ true → h .head .start ≡ true → h .head .toggle ≡ false → react s v ≡ takes (restarted s (h .head .transfer)) v
-  unfolding react reactIf parsedOf awaitedAt
+  pub reacts-anew : restarts s v ≡ true → h .head .start ≡ true → h .head .toggle ≡ false → react s v ≡ takes (waiting (h .head .transfer) (s .since) (h .interface)) v
+  unfolding react met restarted parsedOf
   reacts-anew r k t =
-      let a : awaitedAt (h .head .transfer) false 0 h ≡ true = rw (eq-eqb (h .head .transfer) (h .head .transfer) refl, t, k) in
-      ap₂ (λ (b c : Bool). reactIf b c s v) (sym tested ∙ r) k ∙ proceed-taken (restarted s (h .head .transfer)) v (over-awaited (restarted s (h .head .transfer)) h p ∙ a)
+      rw r
+      (ap (λ (b : Bool). proceed (waiting (pick b (h .head .transfer) (next (h .head .transfer))) (s .since) (h .interface)) v) k
+      ∙ proceed-taken (waiting (h .head .transfer) (s .since) (h .interface)) v (begun h p (s .since) k t))
 
-  pub reacts-skip : restarting ≡ true → h .head .start ≡ false → react s v ≡ record { answer = passed noTransfer; session = restarted s (next (h .head .transfer)) }
-  unfolding react reactIf parsedOf
-  reacts-skip r k = ap₂ (λ (b c : Bool). reactIf b c s v) (sym tested ∙ r) k
+  pub reacts-skip : restarts s v ≡ true → h .head .start ≡ false
+      → react s v ≡ record { answer = passed noTransfer; session = waiting (next (h .head .transfer)) (s .since) (h .interface) }
+  unfolding react met restarted proceed proceedIf over parsedOf
+  reacts-skip r k = rw (r, eq-eqb (h .interface) (h .interface) refl, k)
 
-  module _ (r : restarting ≡ false) where
+  module _ (r : restarts s v ≡ false) where
     on : react s v ≡ proceed s v
-    unfolding react reactIf
-    on = ap (λ (b : Bool). reactIf b (v .start) s v) (sym tested ∙ r)
+    unfolding react met
+    on = rw r
 
-    pub reacts-take : awaited ≡ true → react s v ≡ takes s v
-    reacts-take a = on ∙ proceed-taken s v (over-awaited s h p ∙ a)
+    pub reacts-take : isNone (over s v) ≡ true → react s v ≡ takes s v
+    reacts-take a = on ∙ proceed-taken s v a
 
-    pub reacts-over : awaited ≡ true → 514 < length (s .gathered) + length p → length p ≤ 7 → react s v ≡ record { answer = long; session = restarted s (next (s .expected)) }
+    pub reacts-over : isNone (over s v) ≡ true → 514 < length (s .gathered) + length p → length p ≤ 7
+        → react s v ≡ record { answer = long; session = waiting (next (s .expected)) (s .since) (s .follows) }
     unfolding parsedOf
     reacts-over a g n =
         let e : length (s .gathered ++ p) ≡ length (s .gathered) + length p = length-append (s .gathered) p in
@@ -222,23 +270,21 @@ module _ (s : rules.Session) (h : Incoming) (p : List ℕ) where
       where
         not-start : (b : Bool) → h .head .start ≡ b → h .head .start ≡ false
         not-start false x = x
-        not-start true x = let z : length (s .gathered) ≡ 0 = awaited-start (s .expected) (s .toggle) (length (s .gathered)) h awaited refl a x in absurd (omega arith)
+        not-start true x = let z : length (s .gathered) ≡ 0 = awaited-start s h p a x in absurd (omega arith)
 
-    pub reacts-pass : awaited ≡ false → (told (react s v .answer) ≡ Passed) × ((react s v .session ≡ s) × ((out : List ℕ) → outAfter (react s v .answer) out ≡ out))
-    reacts-pass a = rw on (proceed-passed s v (over-awaited s h p ∙ a))
+    pub reacts-pass : isNone (over s v) ≡ false → (told (react s v .answer) ≡ Passed) × ((react s v .session ≡ s) × ((out : List ℕ) → outAfter (react s v .answer) out ≡ out))
+    reacts-pass a = rw on (proceed-passed s v a)
 
 -- a start begins a new session
 pub begins : (h : Incoming) (p : List ℕ) → h .head .start ≡ true → h .head .toggle ≡ false → proceed (fresh (parsedOf h p)) (parsedOf h p) ≡ takes (fresh (parsedOf h p)) (parsedOf h p)
-unfolding parsedOf awaitedAt
-begins h p k t =
-    let a : awaitedAt (h .head .transfer) false 0 h ≡ true = rw (eq-eqb (h .head .transfer) (h .head .transfer) refl, t, k) in
-    proceed-taken (fresh (parsedOf h p)) (parsedOf h p) (over-awaited (fresh (parsedOf h p)) h p ∙ a)
+unfolding parsedOf
+begins h p k t = proceed-taken (fresh (parsedOf h p)) (parsedOf h p) (begun h p (h .time) k t)
 
 -- ── a frame is taken ──
 
 -- the session after `close`
 abbrev shut : Session → Session
-shut g = record { expected = next (g .expected); toggle = false; time = g .time; len = 0; bytes = g .bytes }
+shut g = record { expected = next (g .expected); toggle = false; time = g .time; follows = g .follows; len = 0; bytes = g .bytes }
 
 pub shut-range : (g : Session) → InRange (shut g)
 shut-range g = record { expected = omega arith; len = lit≤ tt }

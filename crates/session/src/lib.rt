@@ -4,15 +4,17 @@ use answers::Transfer;
 use frame::head::Head;
 use rules::limits::GATHERED;
 use rules::limits::OLD_AGE;
+use rules::limits::SWITCH_DELAY;
 ghost use mathlib.Core.Path.{_≡_};
-ghost use mathlib.Core.Bool.{true, false};
+ghost use mathlib.Core.Bool.{true, false, _&&_};
 ghost use mathlib.Core.List.{[]};
 ghost use Prim.Native.Nat.{_+_, _-_, _≤_, _<_};
+ghost use lib.Dec.{ltb, eqb};
 ghost use lib.ListN.{length, take};
 ghost use Rattle.bits.specs.Part.{span};
 ghost use Rattle.rules.specs.Limits.{payloadMax, gatheredMax};
 ghost use Rattle.rules.specs.Session as rules;
-ghost use Rattle.rules.specs.Session.{next, sumOk};
+ghost use Rattle.rules.specs.Session.{distance, next, sumOk};
 ghost use Rattle.rules.specs.Tests.{pick, isNone};
 ghost use Rattle.session.specs.inside.Session.{sessionOf, parsedOf, freshOf, added, bare};
 ghost use Rattle.session.specs.inside.Answer.{HandsOut, Closes};
@@ -22,15 +24,17 @@ pub struct Session {
     pub expected: u8,
     pub toggle: bool,
     pub time: u64,
+    pub follows: u8,
     pub len: usize,
     pub bytes: [u8; GATHERED],
 }
 
-// What the rules read of a frame, but for its payload: its head, the signature of its type and when it came.
+// What the rules read of a frame, but for its payload: its head, the signature of its type, when it came and by which interface.
 pub struct Incoming {
     pub head: Head,
     pub signature: u64,
     pub time: u64,
+    pub interface: u8,
 }
 
 // A session but for its bytes: what decides on a frame.
@@ -38,30 +42,33 @@ pub struct Progress {
     pub expected: u8,
     pub toggle: bool,
     pub time: u64,
+    pub follows: u8,
     pub len: usize,
 }
 
 impl Session {
-    // Internal. A session that a start with this transfer ID begins.
-    pub fn fresh(transfer: u8, time: u64) -> Self
-        ensures { λ r. ⌜ r ≡ freshOf transfer time ⌝ }
+    // Internal. A session that a start with this transfer ID begins, by this interface.
+    pub fn fresh(transfer: u8, time: u64, interface: u8) -> Self
+        ensures { λ r. ⌜ r ≡ freshOf transfer time interface ⌝ }
     {
         let bytes = [0u8; GATHERED];
         Session {
             expected: transfer,
             toggle: false,
             time: time,
+            follows: interface,
             len: 0,
             bytes: bytes,
         }
     }
 
-    // Internal. Nothing in hand, toggle 0, expecting this transfer ID. The time stays.
-    pub fn restart(mut self, transfer: u8) -> Self
-        ensures { λ r. ⌜ r ≡ record { expected = transfer; toggle = false; time = self .time; len = 0; bytes = self .bytes } ⌝ }
+    // Internal. Nothing in hand, toggle 0, expecting this transfer ID, following this interface. The time stays.
+    pub fn restart(mut self, transfer: u8, interface: u8) -> Self
+        ensures { λ r. ⌜ r ≡ record { expected = transfer; toggle = false; time = self .time; follows = interface; len = 0; bytes = self .bytes } ⌝ }
     {
         self.expected = transfer;
         self.toggle = false;
+        self.follows = interface;
         self.len = 0;
         self
     }
@@ -86,10 +93,11 @@ impl Session {
     // Internal. The transfer is over: nothing in hand, toggle 0, the expected transfer ID raised by one.
     pub fn close(self) -> Self
         requires { ⌜ self .expected < 32 ⌝ }
-        ensures { λ r. ⌜ r ≡ record { expected = next (self .expected); toggle = false; time = self .time; len = 0; bytes = self .bytes } ⌝ }
+        ensures { λ r. ⌜ r ≡ record { expected = next (self .expected); toggle = false; time = self .time; follows = self .follows; len = 0; bytes = self .bytes } ⌝ }
     {
         let next = (self.expected + 1) % 32;
-        self.restart(next)
+        let follows = self.follows;
+        self.restart(next, follows)
     }
 }
 
@@ -103,12 +111,37 @@ fn started(start: bool, time: u64, before: u64) -> u64
     before
 }
 
-// The age is above 2,000,000. An earlier time counts as age 0.
-fn is_old(since: u64, time: u64) -> bool
-    ensures { λ r. ⌜ r ≡ rules.oldSince since time ⌝ }
+// The age is above a limit. An earlier time counts as age 0.
+fn age_above(limit: u64, since: u64, time: u64) -> bool
+    ensures { λ r. ⌜ r ≡ ltb limit (time - since) ⌝ }
 {
     if since < time {
-        return OLD_AGE < time - since;
+        return limit < time - since;
+    }
+    false
+}
+
+// The frame comes by the followed interface, and its transfer ID is neither the expected one nor the one before.
+fn is_behind(c: Progress, f: Incoming) -> bool
+    requires { ⌜ (c .expected < 32) × (f .head .transfer < 32) ⌝ }
+    ensures { λ r. ⌜ r ≡ (eqb (f .interface) (c .follows) && ltb 1 (distance (f .head .transfer) (c .expected))) ⌝ }
+{
+    if f.interface != c.follows {
+        return false;
+    }
+    1 < (c.expected + 32 - f.head.transfer) % 32
+}
+
+// The session restarts at this start.
+fn begins(c: Progress, f: Incoming) -> bool
+    requires { ⌜ (c .expected < 32) × (f .head .transfer < 32) ⌝ }
+    ensures { λ r. ⌜ r ≡ rules.begins (bare c) (parsedOf f []) ⌝ }
+{
+    if is_behind(c, f) {
+        return true;
+    }
+    if age_above(SWITCH_DELAY, c.time, f.time) {
+        return (f.head.transfer + 32 - c.expected) % 32 < 16;
     }
     false
 }
@@ -118,11 +151,11 @@ pub fn restarts(c: Progress, f: Incoming) -> bool
     requires { ⌜ (c .expected < 32) × (f .head .transfer < 32) ⌝ }
     ensures { λ r. ⌜ r ≡ rules.restarts (bare c) (parsedOf f []) ⌝ }
 {
-    if is_old(c.time, f.time) {
+    if age_above(OLD_AGE, c.time, f.time) {
         return true;
     }
     if f.head.start {
-        return 1 < (c.expected + 32 - f.head.transfer) % 32;
+        return begins(c, f);
     }
     false
 }
@@ -131,9 +164,11 @@ pub fn restarts(c: Progress, f: Incoming) -> bool
 pub fn awaited(c: Progress, f: Incoming) -> bool
     ensures { λ r. ⌜ r ≡ isNone (rules.over (bare c) (parsedOf f [])) ⌝ }
 {
-    if f.head.transfer == c.expected {
-        if f.head.toggle == c.toggle {
-            return f.head.start == (c.len == 0);
+    if f.interface == c.follows {
+        if f.head.transfer == c.expected {
+            if f.head.toggle == c.toggle {
+                return f.head.start == (c.len == 0);
+            }
         }
     }
     false

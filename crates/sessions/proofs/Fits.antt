@@ -8,7 +8,7 @@ use borrow.Author.Tests.{lt-ltb, le-ltb, le-leb, lt-leb, eq-eqb, ne-eqb}
 use lib.Dec.{ltb, leb, eqb}
 use Rattle.rules.specs.Limits.{gatheredMax}
 use Rattle.rules.specs.Sound.{streamFits}
-use Rattle.state.specs.Layout.{countAt, expectedAt, toggleAt}
+use Rattle.state.specs.Layout.{countAt, expectedAt, flagsAt}
 use Rattle.frame.specs.Key.{streamOfKey}
 use Rattle.sessions.specs.inside.Sound.{controlFits}
 
@@ -56,7 +56,7 @@ module _ (k : ℕ) (named : k / 128 % 128 ≡ 0 → ⊥) where
 
 -- ── control fields ──
 
-module _ (m : List ℕ) (i n e t : ℕ) (en : n ≡ countAt m i) (ee : e ≡ expectedAt m i) (et : t ≡ toggleAt m i) where
+module _ (m : List ℕ) (i n e t : ℕ) (en : n ≡ countAt m i) (ee : e ≡ expectedAt m i) (et : t ≡ flagsAt m i) where
   pub too-many : gatheredMax < n → false ≡ controlFits m i
   unfolding controlFits
   too-many h = let a : leb (countAt m i) gatheredMax ≡ false = lt-leb (countAt m i) gatheredMax (omega arith) in rw a
@@ -73,20 +73,18 @@ module _ (m : List ℕ) (i n e t : ℕ) (en : n ≡ countAt m i) (ee : e ≡ exp
       transfer : ltb (expectedAt m i) 32 ≡ true
       transfer = lt-ltb (expectedAt m i) 32 (omega arith)
 
-      pub toggle-zero : t ≡ 0 → true ≡ controlFits m i
+      pub no-interface : 3 ≤ t / 2 → false ≡ controlFits m i
       unfolding controlFits
-      toggle-zero z = let a : eqb (toggleAt m i) 0 ≡ true = eq-eqb (toggleAt m i) 0 (sym et ∙ z) in rw (count, transfer, a)
+      no-interface h = let c : ltb (flagsAt m i / 2) 3 ≡ false = le-ltb (flagsAt m i / 2) 3 (rw et at h) in rw (count, transfer, c)
 
-      pub toggle-one : (t ≡ 0 → ⊥) → t ≡ 1 → ltb 0 n ≡ controlFits m i
-      unfolding controlFits
-      toggle-one z o =
-          let a : eqb (toggleAt m i) 0 ≡ false = ne-eqb (toggleAt m i) 0 (λ q. z (et ∙ q)) in
-          let b : eqb (toggleAt m i) 1 ≡ true = eq-eqb (toggleAt m i) 1 (sym et ∙ o) in
-          rw (count, transfer, a, b, en)
+      module _ (ours : t / 2 < 3) where
+        interface : ltb (flagsAt m i / 2) 3 ≡ true
+        interface = lt-ltb (flagsAt m i / 2) 3 (rw et at ours)
 
-      pub toggle-else : (t ≡ 0 → ⊥) → (t ≡ 1 → ⊥) → false ≡ controlFits m i
-      unfolding controlFits
-      toggle-else z o =
-          let a : eqb (toggleAt m i) 0 ≡ false = ne-eqb (toggleAt m i) 0 (λ q. z (et ∙ q)) in
-          let b : eqb (toggleAt m i) 1 ≡ false = ne-eqb (toggleAt m i) 1 (λ q. o (et ∙ q)) in
-          rw (count, transfer, a, b)
+        pub toggle-one : t % 2 ≡ 1 → ltb 0 n ≡ controlFits m i
+        unfolding controlFits
+        toggle-one o = let b : eqb (flagsAt m i % 2) 1 ≡ true = eq-eqb (flagsAt m i % 2) 1 (rw et at o) in rw (count, transfer, interface, b, en)
+
+        pub toggle-zero : (t % 2 ≡ 1 → ⊥) → true ≡ controlFits m i
+        unfolding controlFits
+        toggle-zero z = let b : eqb (flagsAt m i % 2) 1 ≡ false = ne-eqb (flagsAt m i % 2) 1 (rw et at z) in rw (count, transfer, interface, b)

@@ -2,14 +2,14 @@
 use mathlib.Core.Path.{_≡_, refl, sym, ap, ap₂, _∙_}
 use mathlib.Core.Bool.{Bool, true, false, not, _&&_, _||_}
 use mathlib.Core.List.{List, [], _∷_}
-use Prim.Native.Nat.{ℕ, zero, suc, _+_, _*_, _≤_, _<_}
+use Prim.Native.Nat.{ℕ, zero, suc, _+_, _*_, _/_, _%_, _≤_, _<_}
 use native.Mathlib.Nat.{zero-add}
 use native.Mathlib.Omega.{arith}
-use borrow.Author.Tests.{eq-eqb, ne-eqb, eqb-true, eqb-false, leb-true, lt-ltb, le-ltb}
+use borrow.Author.Tests.{eq-eqb, ne-eqb, eqb-true, eqb-false, leb-true, lt-ltb}
 use lib.Dec.{eqb, ltb, leb}
 use lib.ListN.{length}
 use mir.Val.{boolByte}
-use Rattle.rules.specs.Limits.{sessionsMax, gatheredMax}
+use Rattle.rules.specs.Limits.{sessionsMax, gatheredMax, interfacesMax}
 use Rattle.bits.specs.Order.{Octets}
 use Rattle.bits.specs.Part.{span}
 use Rattle.bits.specs.Tabulate.{tabulate, every}
@@ -21,7 +21,7 @@ use Rattle.rules.specs.Sound.{streamFits, sessionFits, placeFits, noneHolds, no
 use Rattle.rules.specs.Table.{empty, held, holds}
 use Rattle.rules.specs.Tests.{isEmpty}
 use Rattle.sessions.specs.inside.Sound.{controlFits, emptyOrFits, keysOf}
-use Rattle.state.specs.Layout.{size, keyAt, countAt, expectedAt, toggleAt, gatheredAt, sessionAt, placeAt, placesOf, bytesAt}
+use Rattle.state.specs.Layout.{size, keyAt, countAt, expectedAt, flagsAt, gatheredAt, sessionAt, placeAt, placesOf, bytesAt}
 use Rattle.frame.specs.Key.{streamOfKey}
 use Rattle.state.specs.Sound.{rawFits}
 use Rattle.state.proofs.Soundness.{fit-every, key-lt, holds-key}
@@ -55,36 +55,31 @@ module _ (m : List ℕ) (bytes : Octets m) (long : size ≤ length m) where
 
   -- ── the control fields ──
 
-  toggles : (n : ℕ) (t : ℕ) → (ltb t 2 && (not (eqb t 1) || not (eqb n 0))) ≡ (eqb t 0 || (eqb t 1 && ltb 0 n))
-  toggles n zero = refl
-  toggles zero (suc zero) = refl
-  toggles (suc n) (suc zero) =
+  some-count : (n : ℕ) → not (eqb n 0) ≡ ltb 0 n
+  some-count zero = refl
+  some-count (suc n) =
       let e : eqb (suc n) 0 ≡ false = ne-eqb (suc n) 0 (λ z. omega arith) in
       let l : ltb 0 (suc n) ≡ true = lt-ltb 0 (suc n) (omega arith) in
       rw (e, l)
-  toggles n (suc (suc t)) =
-      let a : ltb (suc (suc t)) 2 ≡ false = le-ltb (suc (suc t)) 2 (omega arith) in
-      let b : eqb (suc (suc t)) 0 ≡ false = ne-eqb (suc (suc t)) 0 (λ e. omega arith) in
-      let c : eqb (suc (suc t)) 1 ≡ false = ne-eqb (suc (suc t)) 1 (λ e. omega arith) in
-      rw (a, b, c)
 
   empty-count : (xs : List ℕ) → isEmpty xs ≡ eqb (length xs) 0
   empty-count [] = refl
   empty-count (x ∷ xs) = sym (ne-eqb (suc (length xs)) 0 (λ e. omega arith))
 
-  controls : (i : ℕ) → i < sessionsMax → ((leb (countAt m i) gatheredMax && ltb (toggleAt m i) 2) && sessionFits (sessionAt m i)) ≡ controlFits m i
+  controls : (i : ℕ) → i < sessionsMax → (leb (countAt m i) gatheredMax && sessionFits (sessionAt m i)) ≡ controlFits m i
   unfolding sessionFits sessionAt controlFits gatheredAt
   controls i h = go (countAt m i) (span m (bytesAt + i * gatheredMax) (countAt m i)) (λ l. length-span m (bytesAt + i * gatheredMax) (countAt m i) (omega arith)) (leb (countAt m i) gatheredMax) refl
     where
+      t : Bool
+      t = not (eqb (flagsAt m i % 2) 1)
+
       go : (n : ℕ) (g : List ℕ) → (n ≤ gatheredMax → length g ≡ n) → (b : Bool) → leb n gatheredMax ≡ b
-          → ((b && ltb (toggleAt m i) 2) && (ltb (expectedAt m i) 32 && (leb (length g) gatheredMax && (not (eqb (toggleAt m i) 1) || not (isEmpty g)))))
-          ≡ (b && (ltb (expectedAt m i) 32 && (eqb (toggleAt m i) 0 || (eqb (toggleAt m i) 1 && ltb 0 n))))
+          → (b && ((ltb (expectedAt m i) 32 && ltb (flagsAt m i / 2) interfacesMax) && (leb (length g) gatheredMax && (t || not (isEmpty g)))))
+          ≡ (b && (ltb (expectedAt m i) 32 && (ltb (flagsAt m i / 2) interfacesMax && (t || ltb 0 n))))
       go n g q false e = refl
       go n g q true e =
           let c : length g ≡ n = q (leb-true n gatheredMax e) in
-          rw (empty-count g, c, e)
-          (shuffle (ltb (toggleAt m i) 2) (ltb (expectedAt m i) 32) (not (eqb (toggleAt m i) 1) || not (eqb n 0))
-          ∙ ap (λ (b : Bool). ltb (expectedAt m i) 32 && b) (toggles n (toggleAt m i)))
+          rw (empty-count g, c, e, some-count n) (regroup (ltb (expectedAt m i) 32) (ltb (flagsAt m i / 2) interfacesMax) (t || ltb 0 n))
 
   -- ── one place, and all ──
 
@@ -110,12 +105,12 @@ module _ (m : List ℕ) (bytes : Octets m) (long : size ≤ length m) where
   unfolding rawFits emptyOrFits
   fits-here i h = go (eqb (keyAt m i) 0) refl where
     go : (b : Bool) → eqb (keyAt m i) 0 ≡ b
-        → ((b || (leb (countAt m i) gatheredMax && ltb (toggleAt m i) 2)) && placeFits (placeAt m i)) ≡ (b || (streamFits (streamOfKey (keyAt m i)) && controlFits m i))
+        → ((b || leb (countAt m i) gatheredMax) && placeFits (placeAt m i)) ≡ (b || (streamFits (streamOfKey (keyAt m i)) && controlFits m i))
     go true e = rw (empty-place i (eqb-true (keyAt m i) 0 e))
     go false e =
         let s = streamFits (streamOfKey (keyAt m i)) in
         rw (held-place i (eqb-false (keyAt m i) 0 e))
-        (shuffle (leb (countAt m i) gatheredMax && ltb (toggleAt m i) 2) s (sessionFits (sessionAt m i)) ∙ ap (λ b. s && b) (controls i h))
+        (shuffle (leb (countAt m i) gatheredMax) s (sessionFits (sessionAt m i)) ∙ ap (λ b. s && b) (controls i h))
 
   pub whole : (every (emptyOrFits m) 0 sessionsMax && distinct (keysOf m)) ≡ (every (rawFits m) 0 sessionsMax && sound (placesOf m))
   unfolding sound placesOf

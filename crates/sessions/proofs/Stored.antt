@@ -2,7 +2,7 @@
 use mathlib.Core.Path.{_≡_, refl, sym, ap, ap₂, _∙_}
 use mathlib.Core.Bool.{Bool, true, false}
 use mathlib.Core.List.{List, [], _∷_, _++_, append-assoc}
-use Prim.Native.Nat.{ℕ, _+_, _*_, _%_, _≤_, _<_}
+use Prim.Native.Nat.{ℕ, _+_, _*_, _/_, _%_, _≤_, _<_}
 use native.Mathlib.Omega.{arith}
 use lib.Dec.{eqb}
 use lib.ListN.{length, getD, take, drop, length-append}
@@ -18,28 +18,28 @@ use Rattle.rules.specs.Table.{held}
 use Rattle.session.specs.inside.Session.{sessionOf, progressOf, whole}
 use Rattle.session.specs.declared.Progress.{Progress}
 use Rattle.session.specs.declared.Session.{Session}
-use Rattle.state.specs.Layout.{size, timeAt, countAt, expectedAt, toggleAt, gatheredAt, sessionAt, timesAt, streamKeysAt, controlsAt, bytesAt}
+use Rattle.state.specs.Layout.{size, timeAt, countAt, expectedAt, flagsAt, gatheredAt, sessionAt, timesAt, streamKeysAt, controlsAt, bytesAt}
 use Rattle.frame.specs.Key.{keyOf, streamOfKey}
-use Rattle.state.specs.Place.{one, controlOf, withKey, withSession, withPlace}
+use Rattle.state.specs.Place.{one, flagsOf, controlOf, withKey, withSession, withPlace}
 use Rattle.state.proofs.Keys.{key-stream}
 
 -- ── load ──
 
 -- the fields' places
-pub fields : (m : List ℕ) (i : ℕ) → i < sessionsMax → size ≤ length m → (getD m (controlsAt + i * 4 + 2) 0 ≡ expectedAt m i) × (getD m (controlsAt + i * 4 + 3) 0 ≡ toggleAt m i)
-unfolding expectedAt toggleAt
+pub fields : (m : List ℕ) (i : ℕ) → i < sessionsMax → size ≤ length m → (getD m (controlsAt + i * 4 + 2) 0 ≡ expectedAt m i) × (getD m (controlsAt + i * 4 + 3) 0 ≡ flagsAt m i)
+unfolding expectedAt flagsAt
 fields m i h l =
     let two : controlsAt + i * 4 + 2 ≡ controlsAt + 2 + i * 4 = omega arith in
     let three : controlsAt + i * 4 + 3 ≡ controlsAt + 3 + i * 4 = omega arith in
     (ap (λ (k : ℕ). getD m k 0) two ∙ sym (le-one m (controlsAt + 2 + i * 4) (omega arith)), ap (λ (k : ℕ). getD m k 0) three ∙ sym (le-one m (controlsAt + 3 + i * 4) (omega arith)))
 
-pub progressed : (m : List ℕ) (i e t n : ℕ) (g : Bool) → i < sessionsMax → size ≤ length m → countAt m i ≤ gatheredMax
-    → e ≡ expectedAt m i → g ≡ eqb (toggleAt m i) 1 → t ≡ timeAt m i → n ≡ countAt m i
-    → record { expected = e; toggle = g; time = t; len = n } ≡ progressOf (sessionAt m i)
+pub progressed : (m : List ℕ) (i e t n f : ℕ) → i < sessionsMax → size ≤ length m → countAt m i ≤ gatheredMax
+    → e ≡ expectedAt m i → f ≡ flagsAt m i → t ≡ timeAt m i → n ≡ countAt m i
+    → record { expected = e; toggle = eqb (f % 2) 1; time = t; follows = f / 2; len = n } ≡ progressOf (sessionAt m i)
 unfolding sessionAt gatheredAt
-progressed m i e t n g hi hm hc p q r s =
+progressed m i e t n f hi hm hc p q r s =
     let l : n ≡ length (span m (bytesAt + i * gatheredMax) (countAt m i)) = s ∙ sym (length-span m (bytesAt + i * gatheredMax) (countAt m i) (omega arith)) in
-    λ j. record { expected = p j; toggle = q j; time = r j; len = l j }
+    λ j. record { expected = p j; toggle = eqb (q j % 2) 1; time = r j; follows = q j / 2; len = l j }
 
 -- all bytes of the place were copied
 gathered-copied : (m z bs : List ℕ) (i n : ℕ) → i < sessionsMax → size ≤ length m → length z ≡ gatheredMax → n ≡ countAt m i → n ≤ gatheredMax
@@ -56,7 +56,7 @@ unfolding sessionOf sessionAt gatheredAt
 loaded m z bs i c hi hm hc hz e w =
     let n : c .len ≡ countAt m i = ap (λ (x : Progress). x .len) e ∙ length-span m (bytesAt + i * gatheredMax) (countAt m i) (omega arith) in
     let g = gathered-copied m z bs i (c .len) hi hm hz n (omega arith) w in
-    (λ j. record { expected = e j .expected; gathered = g j; toggle = e j .toggle; since = e j .time }, omega arith)
+    (λ j. record { expected = e j .expected; gathered = g j; toggle = e j .toggle; since = e j .time; follows = e j .follows }, omega arith)
 
 -- ── store ──
 
@@ -81,20 +81,20 @@ control m at n e g h he hg =
     ∙ splice-splice m at (leBytes 2 n ++ (e ∷ [])) (omega arith) (g ∷ [])
     ∙ ap (splice m at) (append-assoc (leBytes 2 n) (e ∷ []) (g ∷ []))
 
-byte-one : (b : Bool) → boolByte b ≡ one b
+pub byte-one : (b : Bool) → boolByte b ≡ one b
 byte-one true = refl
 byte-one false = refl
 
-one-lt : (b : Bool) → one b < 256
+one-lt : (b : Bool) → one b < 2
 one-lt true = omega arith
 one-lt false = omega arith
 
 pub stored : (m m₁ m₂ m₃ m₄ m₅ m₆ : List ℕ) (i k : ℕ) (s : Session)
-    → i < sessionsMax → size ≤ length m → k < 4294967296 → s .expected < 256 → s .len ≤ length (s .bytes)
+    → i < sessionsMax → size ≤ length m → k < 4294967296 → (s .expected < 256) × (s .follows < 3) → s .len ≤ length (s .bytes)
     → m₁ ≡ splice m (streamKeysAt + i * 4) (leBytes 4 k)
     → m₂ ≡ splice m₁ (controlsAt + i * 4) (leBytes 2 (s .len))
     → m₃ ≡ splice m₂ (controlsAt + i * 4 + 2) (leBytes 1 (s .expected))
-    → m₄ ≡ splice m₃ (controlsAt + i * 4 + 3) (leBytes 1 (boolByte (s .toggle)))
+    → m₄ ≡ splice m₃ (controlsAt + i * 4 + 3) (leBytes 1 (flagsOf (sessionOf s)))
     → m₅ ≡ splice m₄ (timesAt + i * 8) (leBytes 8 (s .time))
     → m₆ ≡ splice m₅ (bytesAt + i * gatheredMax) (span (s .bytes) 0 (s .len))
     → m₆ ≡ withPlace m i (held (streamOfKey k) (sessionOf s))
@@ -102,10 +102,10 @@ unfolding withPlace withKey withSession controlOf sessionOf
 stored m m₁ m₂ m₃ m₄ m₅ m₆ i k s hi hm hk he hl e₁ e₂ e₃ e₄ e₅ e₆ =
     let l₁ : length m₁ ≡ length m = ap length e₁ ∙ length-splice m (streamKeysAt + i * 4) (leBytes 4 k) (omega (arith, length-leBytes 4 k)) in
     let n : s .len ≡ length (take (s .len) (s .bytes)) = sym (length-take-le (s .len) (s .bytes) hl) in
-    let c : m₄ ≡ splice m₁ (controlsAt + i * 4) (leBytes 2 (s .len) ++ (s .expected ∷ one (s .toggle) ∷ [])) =
-    e₄ ∙ ap₂ (λ (x : List ℕ) (y : ℕ). splice x (controlsAt + i * 4 + 3) (leBytes 1 y)) (e₃ ∙ ap (λ (x : List ℕ). splice x (controlsAt + i * 4 + 2) (leBytes 1 (s .expected))) e₂) (byte-one (s .toggle))
-    ∙ control m₁ (controlsAt + i * 4) (s .len) (s .expected) (one (s .toggle)) (omega arith) he (one-lt (s .toggle)) in
-    let c' : m₄ ≡ splice (splice m (streamKeysAt + i * 4) (leBytes 4 (keyOf (streamOfKey k)))) (controlsAt + i * 4) (leBytes 2 (length (take (s .len) (s .bytes))) ++ (s .expected ∷ one (s .toggle) ∷ [])) =
-    c ∙ ap₂ (λ (x : List ℕ) (y : ℕ). splice x (controlsAt + i * 4) (leBytes 2 y ++ (s .expected ∷ one (s .toggle) ∷ [])))
+    let c : m₄ ≡ splice m₁ (controlsAt + i * 4) (leBytes 2 (s .len) ++ (s .expected ∷ flagsOf (sessionOf s) ∷ [])) =
+    e₄ ∙ ap (λ (x : List ℕ). splice x (controlsAt + i * 4 + 3) (leBytes 1 (flagsOf (sessionOf s)))) (e₃ ∙ ap (λ (x : List ℕ). splice x (controlsAt + i * 4 + 2) (leBytes 1 (s .expected))) e₂)
+    ∙ control m₁ (controlsAt + i * 4) (s .len) (s .expected) (flagsOf (sessionOf s)) (omega arith) (he .0) (omega (arith, one-lt (s .toggle), he .1)) in
+    let c' : m₄ ≡ splice (splice m (streamKeysAt + i * 4) (leBytes 4 (keyOf (streamOfKey k)))) (controlsAt + i * 4) (leBytes 2 (length (take (s .len) (s .bytes))) ++ (s .expected ∷ flagsOf (sessionOf s) ∷ [])) =
+    c ∙ ap₂ (λ (x : List ℕ) (y : ℕ). splice x (controlsAt + i * 4) (leBytes 2 y ++ (s .expected ∷ flagsOf (sessionOf s) ∷ [])))
     (e₁ ∙ ap (λ (x : ℕ). splice m (streamKeysAt + i * 4) (leBytes 4 x)) (sym (key-stream k hk))) n in
     e₆ ∙ ap (λ (x : List ℕ). splice x (bytesAt + i * gatheredMax) (span (s .bytes) 0 (s .len))) (e₅ ∙ ap (λ (x : List ℕ). splice x (timesAt + i * 8) (leBytes 8 (s .time))) c')

@@ -1,6 +1,7 @@
 // The faults of a lent state (RULES 5.4), which answer 20. Every call of the receiver runs this first.
 use keys::MARKS;
 use rules::limits::GATHERED;
+use rules::limits::INTERFACES;
 use rules::limits::SESSIONS;
 use rules::limits::SUBSCRIPTIONS;
 use state::layout::CONTROLS_AT;
@@ -39,7 +40,7 @@ fn stream_fits(k: u32) -> bool
     false
 }
 
-// The bytes in hand, the expected transfer ID and the toggle of place i are in range.
+// The bytes in hand, the expected transfer ID, the followed interface and the toggle of place i are in range.
 fn control_fits(state: &[u8], i: usize) -> bool
     requires { ⌜ (i < sessionsMax) × (size ≤ length (now state)) ⌝ }
     ensures { λ r. ⌜ r ≡ controlFits (now (state .entry)) i ⌝ }
@@ -47,20 +48,20 @@ fn control_fits(state: &[u8], i: usize) -> bool
     let at = CONTROLS_AT + i * 4;
     let n = bits::le::get_at(state, at, 2) as usize;
     let expected = state[at + 2];
-    let toggle = state[at + 3];
+    let flags = state[at + 3];
     if GATHERED < n {
         return false;
     }
     if 31 < expected {
         return false;
     }
-    if toggle == 0 {
-        return true;
+    if INTERFACES <= flags / 2 {
+        return false;
     }
-    if toggle == 1 {
+    if flags % 2 == 1 {
         return 0 < n;
     }
-    false
+    true
 }
 
 // Place i, whose key is k, is empty, or its stream and its control fields are in range.

@@ -2,16 +2,16 @@
 use mathlib.Core.Path.{_≡_, sym, ap, _∙_}
 use mathlib.Core.Bool.{true, false, _&&_}
 use mathlib.Core.List.{List}
-use Prim.Native.Nat.{ℕ, _≤_, _<_}
+use Prim.Native.Nat.{ℕ, _/_, _≤_, _<_}
 use native.Mathlib.Omega.{arith}
 use borrow.Author.Tests.{leb-true, ltb-true, ne-eqb}
 use lib.Dec.{eqb, ltb, leb}
 use lib.ListN.{length}
-use Rattle.rules.specs.Limits.{sessionsMax, gatheredMax}
+use Rattle.rules.specs.Limits.{sessionsMax, gatheredMax, interfacesMax}
 use Rattle.rules.specs.Setup.{acceptable}
 use Rattle.rules.specs.Sound.{streamFits, sessionFits, placeFits, placesFit, apart, sound}
 use Rattle.rules.specs.Table.{held}
-use Rattle.state.specs.Layout.{size, setupOf, keyAt, countAt, expectedAt, toggleAt, sessionAt, placeAt, placesOf}
+use Rattle.state.specs.Layout.{size, setupOf, keyAt, countAt, expectedAt, flagsAt, sessionAt, placeAt, placesOf}
 use Rattle.frame.specs.Key.{streamOfKey}
 use Rattle.bits.specs.Tabulate.{every}
 use Rattle.state.specs.Sound.{rawFits, soundState}
@@ -53,15 +53,21 @@ module _ (m : List ℕ) (fine : soundState m ≡ true) where
     unfolding rawFits
     count-le =
         let z : eqb (keyAt m i) 0 ≡ false = ne-eqb (keyAt m i) 0 some in
-        leb-true (countAt m i) gatheredMax (and-left (leb (countAt m i) gatheredMax) (ltb (toggleAt m i) 2) (rw z at (raw-at i inTable)))
+        leb-true (countAt m i) gatheredMax (rw z at (raw-at i inTable))
 
     pub place-held : placeAt m i ≡ held (streamOfKey (keyAt m i)) (sessionAt m i)
     unfolding placeAt
     place-held = rw (ne-eqb (keyAt m i) 0 some)
 
-    pub expected-lt : expectedAt m i < 32
+    -- the expected transfer ID and the followed interface are in range
+    named : (ltb (expectedAt m i) 32 && ltb (flagsAt m i / 2) interfacesMax) ≡ true
     unfolding sessionFits sessionAt
-    expected-lt =
+    named =
         let p : placeFits (held (streamOfKey (keyAt m i)) (sessionAt m i)) ≡ true = ap placeFits (sym place-held) ∙ place-at i inTable in
-        ltb-true (expectedAt m i) 32
-        (and-left (ltb (expectedAt m i) 32) _ (and-right (streamFits (streamOfKey (keyAt m i))) (sessionFits (sessionAt m i)) p))
+        and-left _ _ (and-right (streamFits (streamOfKey (keyAt m i))) (sessionFits (sessionAt m i)) p)
+
+    pub expected-lt : expectedAt m i < 32
+    expected-lt = ltb-true (expectedAt m i) 32 (and-left _ _ named)
+
+    pub follows-lt : flagsAt m i / 2 < interfacesMax
+    follows-lt = ltb-true (flagsAt m i / 2) interfacesMax (and-right (ltb (expectedAt m i) 32) _ named)

@@ -1,11 +1,11 @@
 -- The table in the bytes: one place written, the others as they were; the whole table written; writing what is there changes nothing.
 use mathlib.Core.Path.{_≡_, refl, sym, ap, ap₂, _∙_}
-use mathlib.Core.Bool.{Bool, true, false, _&&_, _||_}
+use mathlib.Core.Bool.{Bool, true, false, _||_}
 use mathlib.Core.List.{List, [], _∷_, _++_}
-use Prim.Native.Nat.{ℕ, zero, suc, _+_, _*_, _^_, _≤_, _<_}
+use Prim.Native.Nat.{ℕ, zero, suc, _+_, _*_, _/_, _%_, _^_, _≤_, _<_}
 use native.Mathlib.Omega.{arith}
-use borrow.Author.Tests.{eqb-true, ne-eqb, leb-true, le-leb, ltb-true}
-use lib.Dec.{eqb, ltb, leb}
+use borrow.Author.Tests.{eqb-true, ne-eqb, leb-true, le-leb}
+use lib.Dec.{eqb, leb}
 use lib.ListN.{length, take, drop, getD}
 use lib.Seq.{take-add, drop-cons, drop-drop}
 use Rattle.rules.specs.Limits.{sessionsMax, gatheredMax}
@@ -19,14 +19,13 @@ use Rattle.rules.specs.Frame.{Stream}
 use Rattle.rules.specs.Session.{Session}
 use Rattle.rules.specs.Table.{Place, empty, held}
 use Rattle.rules.specs.Tests.{pick}
-use Rattle.state.specs.Layout.{size, keyAt, countAt, expectedAt, toggleAt, timeAt, gatheredAt, sessionAt, placeAt, timesAt, streamKeysAt, controlsAt, bytesAt}
+use Rattle.state.specs.Layout.{size, keyAt, countAt, expectedAt, flagsAt, timeAt, gatheredAt, sessionAt, placeAt, timesAt, streamKeysAt, controlsAt, bytesAt}
 use Rattle.frame.specs.Key.{keyOf, streamOfKey}
-use Rattle.state.specs.Place.{one, controlOf, withKey, withSession, withPlace}
+use Rattle.state.specs.Place.{one, flagsOf, controlOf, withKey, withSession, withPlace}
 use Rattle.state.specs.Sound.{rawFits}
-use Rattle.state.proofs.Bools.{and-left, and-right}
 use Rattle.state.proofs.Keys.{key-stream}
 use Rattle.state.proofs.Soundness.{key-lt}
-use Rattle.state.proofs.View.{Clear, length-withKey, key-clear, length-withSession, session-clear, own-count, own-toggle, session-back}
+use Rattle.state.proofs.View.{Clear, length-withKey, key-clear, length-withSession, session-clear, own-count, session-back}
 
 -- what a place may be written with
 abbrev pub Few : Place → Type 0
@@ -118,13 +117,13 @@ module _ (m : List ℕ) (i : ℕ) (long : size ≤ length m) (inTable : i < sess
     unfolding expectedAt
     same-expected = same-byte 2 (controlsAt + 2 + j * 4) (omega arith) (omega arith)
 
-    same-toggle : toggleAt (withPlace m i p) j ≡ toggleAt m j
-    unfolding toggleAt
-    same-toggle = same-byte 3 (controlsAt + 3 + j * 4) (omega arith) (omega arith)
+    same-flags : flagsAt (withPlace m i p) j ≡ flagsAt m j
+    unfolding flagsAt
+    same-flags = same-byte 3 (controlsAt + 3 + j * 4) (omega arith) (omega arith)
 
     pub same-raw : rawFits (withPlace m i p) j ≡ rawFits m j
     unfolding rawFits
-    same-raw = rw (same-key-at, same-count, same-toggle)
+    same-raw = rw (same-key-at, same-count)
 
     same-session : countAt m j ≤ gatheredMax → sessionAt (withPlace m i p) j ≡ sessionAt m j
     unfolding sessionAt timeAt gatheredAt
@@ -132,18 +131,19 @@ module _ (m : List ℕ) (i : ℕ) (long : size ≤ length m) (inTable : i < sess
         let e = same-expected in
         let g : span (withPlace m i p) (bytesAt + j * gatheredMax) (countAt (withPlace m i p) j) ≡ span m (bytesAt + j * gatheredMax) (countAt m j) =
         ap (span (withPlace m i p) (bytesAt + j * gatheredMax)) same-count ∙ aside p f (bytesAt + j * gatheredMax) (countAt m j) (gathered-aside (countAt m j) h) in
-        let t : eqb (toggleAt (withPlace m i p) j) 1 ≡ eqb (toggleAt m j) 1 = ap (λ (x : ℕ). eqb x 1) same-toggle in
+        let t : eqb (flagsAt (withPlace m i p) j % 2) 1 ≡ eqb (flagsAt m j % 2) 1 = ap (λ (x : ℕ). eqb (x % 2) 1) same-flags in
+        let v : flagsAt (withPlace m i p) j / 2 ≡ flagsAt m j / 2 = ap (λ (x : ℕ). x / 2) same-flags in
         let q : le (span (withPlace m i p) (timesAt + j * 8) 8) ≡ le (span m (timesAt + j * 8) 8) = ap le (aside p f (timesAt + j * 8) 8 time-aside) in
-        λ k. record { expected = e k; gathered = g k; toggle = t k; since = q k }
+        λ k. record { expected = e k; gathered = g k; toggle = t k; since = q k; follows = v k }
 
     pub same-place : rawFits m j ≡ true → placeAt (withPlace m i p) j ≡ placeAt m j
     unfolding placeAt rawFits
     same-place r = go (eqb (keyAt m j) 0) refl r where
-      go : (b : Bool) → eqb (keyAt m j) 0 ≡ b → (b || (leb (countAt m j) gatheredMax && ltb (toggleAt m j) 2)) ≡ true
+      go : (b : Bool) → eqb (keyAt m j) 0 ≡ b → (b || leb (countAt m j) gatheredMax) ≡ true
           → pick (eqb (keyAt (withPlace m i p) j) 0) empty (held (streamOfKey (keyAt (withPlace m i p) j)) (sessionAt (withPlace m i p) j))
           ≡ pick b empty (held (streamOfKey (keyAt m j)) (sessionAt m j))
       go true e h = rw (same-key-at, e)
-      go false e h = rw (same-key-at, e, same-session (leb-true (countAt m j) gatheredMax (and-left (leb (countAt m j) gatheredMax) (ltb (toggleAt m j) 2) h)))
+      go false e h = rw (same-key-at, e, same-session (leb-true (countAt m j) gatheredMax h))
 
   -- ── the place itself ──
 
@@ -170,17 +170,13 @@ module _ (m : List ℕ) (i : ℕ) (long : size ≤ length m) (inTable : i < sess
       let q : sessionAt (withSession (withKey m i (keyOf d)) i s) i ≡ s = session-back i inTable s (w .few) (withKey m i (keyOf d)) (omega arith) (w .since) in
       rw (k, z, q, w .stream)
 
-  one-fits : (b : Bool) → ltb (one b) 2 ≡ true
-  one-fits true = refl
-  one-fits false = refl
-
   pub raw-back : (d : Stream) (s : Session) → Holdable d s → rawFits (withPlace m i (held d s)) i ≡ true
   unfolding rawFits withPlace
   raw-back d s w =
       let n = withKey m i (keyOf d) in
       let l : size ≤ length n = omega (arith, length-withKey i inTable m (keyOf d) long) in
       let k : keyAt (withSession n i s) i ≡ keyOf d = key-back d s w in
-      rw (k, ne-eqb (keyOf d) 0 (w .some), own-count i inTable s (w .few) n l, own-toggle i inTable s (w .few) n l, le-leb (length (s .gathered)) gatheredMax (w .few), one-fits (s .toggle))
+      rw (k, ne-eqb (keyOf d) 0 (w .some), own-count i inTable s (w .few) n l, le-leb (length (s .gathered)) gatheredMax (w .few))
 
   -- an empty place
   key-none : keyAt (withPlace m i empty) i ≡ 0
@@ -219,18 +215,21 @@ module _ (m : List ℕ) (i : ℕ) (long : size ≤ length m) (inTable : i < sess
     one-of (suc zero) h = refl
     one-of (suc (suc t)) h = absurd (omega arith)
 
+    flags-of : (t : ℕ) → one (eqb (t % 2) 1) + 2 * (t / 2) ≡ t
+    flags-of t = omega (arith, one-of (t % 2) (omega arith))
+
     expected-place : (a : ℕ) → controlsAt + 2 + i * 4 ≡ a → expectedAt m i ≡ le (span m a 1)
     unfolding expectedAt
     expected-place a e = ap (λ (x : ℕ). le (span m x 1)) e
 
-    toggle-place : (a : ℕ) → controlsAt + 3 + i * 4 ≡ a → toggleAt m i ≡ le (span m a 1)
-    unfolding toggleAt
-    toggle-place a e = ap (λ (x : ℕ). le (span m x 1)) e
+    flags-place : (a : ℕ) → controlsAt + 3 + i * 4 ≡ a → flagsAt m i ≡ le (span m a 1)
+    unfolding flagsAt
+    flags-place a e = ap (λ (x : ℕ). le (span m x 1)) e
 
-    -- the four control bytes are the count's two, the transfer ID and the toggle
-    control-kept : countAt m i ≤ gatheredMax → toggleAt m i < 2 → controlOf (sessionAt m i) ≡ span m (controlsAt + i * 4) 4
+    -- the four control bytes are the count's two, the transfer ID and the flags
+    control-kept : countAt m i ≤ gatheredMax → controlOf (sessionAt m i) ≡ span m (controlsAt + i * 4) 4
     unfolding controlOf sessionAt gatheredAt countAt
-    control-kept h t =
+    control-kept h =
         let at = controlsAt + i * 4 in
         let c = le (span m at 2) in
         let three : at + 2 + 1 ≡ at + 3 = omega arith in
@@ -238,7 +237,7 @@ module _ (m : List ℕ) (i : ℕ) (long : size ≤ length m) (inTable : i < sess
         let l : length (span m at 2) ≡ 2 = length-span m at 2 (omega arith) in
         let two : leBytes 2 (length (span m (bytesAt + i * gatheredMax) c)) ≡ span m at 2 = ap₂ leBytes (sym l) n ∙ leBytes-le (span m at 2) (octets-span m at 2 bytes) in
         let e : expectedAt m i ∷ [] ≡ span m (at + 2) 1 = one-byte (at + 2) (expectedAt m i) (omega arith) (expected-place (at + 2) (omega arith)) in
-        let g : one (eqb (toggleAt m i) 1) ∷ [] ≡ span m (at + 3) 1 = one-byte (at + 3) (one (eqb (toggleAt m i) 1)) (omega arith) (one-of (toggleAt m i) t ∙ toggle-place (at + 3) (omega arith)) in
+        let g : flagsOf (sessionAt m i) ∷ [] ≡ span m (at + 3) 1 = one-byte (at + 3) (flagsOf (sessionAt m i)) (omega arith) (flags-of (flagsAt m i) ∙ flags-place (at + 3) (omega arith)) in
         sym (cut at 2 2 ∙ ap (λ (x : List ℕ). span m at 2 ++ x) (cut (at + 2) 1 1 ∙ ap (λ (k : ℕ). span m (at + 2) 1 ++ span m k 1) three)
         ∙ sym (ap₂ (λ (x y : List ℕ). x ++ y) two (ap₂ (λ (x y : List ℕ). x ++ y) e g)))
 
@@ -255,12 +254,12 @@ module _ (m : List ℕ) (i : ℕ) (long : size ≤ length m) (inTable : i < sess
     gathered-length : countAt m i ≤ gatheredMax → length (sessionAt m i .gathered) ≡ countAt m i
     gathered-length h = ap length gathered-kept ∙ length-span m (bytesAt + i * gatheredMax) (countAt m i) (omega arith)
 
-    session-kept : countAt m i ≤ gatheredMax → toggleAt m i < 2 → withSession m i (sessionAt m i) ≡ m
+    session-kept : countAt m i ≤ gatheredMax → withSession m i (sessionAt m i) ≡ m
     unfolding withSession
-    session-kept h t =
+    session-kept h =
         let s = sessionAt m i in
-        let l : length (controlOf s) ≡ 4 = ap length (control-kept h t) ∙ length-span m (controlsAt + i * 4) 4 (omega arith) in
-        let a : splice m (controlsAt + i * 4) (controlOf s) ≡ m = splice-same m (controlsAt + i * 4) (controlOf s) 4 l (control-kept h t) in
+        let l : length (controlOf s) ≡ 4 = ap length (control-kept h) ∙ length-span m (controlsAt + i * 4) 4 (omega arith) in
+        let a : splice m (controlsAt + i * 4) (controlOf s) ≡ m = splice-same m (controlsAt + i * 4) (controlOf s) 4 l (control-kept h) in
         let b : splice m (timesAt + i * 8) (leBytes 8 (s .since)) ≡ m = splice-same m (timesAt + i * 8) (leBytes 8 (s .since)) 8 (length-leBytes 8 (s .since)) time-kept in
         let c : splice m (bytesAt + i * gatheredMax) (s .gathered) ≡ m = splice-same m (bytesAt + i * gatheredMax) (s .gathered) (countAt m i) (gathered-length h) gathered-kept in
         ap (λ (x : List ℕ). splice (splice x (timesAt + i * 8) (leBytes 8 (s .since))) (bytesAt + i * gatheredMax) (s .gathered)) a
@@ -269,10 +268,10 @@ module _ (m : List ℕ) (i : ℕ) (long : size ≤ length m) (inTable : i < sess
     pub place-kept : rawFits m i ≡ true → withPlace m i (placeAt m i) ≡ m
     unfolding placeAt rawFits withPlace
     place-kept r = go (eqb (keyAt m i) 0) refl r where
-      go : (b : Bool) → eqb (keyAt m i) 0 ≡ b → (b || (leb (countAt m i) gatheredMax && ltb (toggleAt m i) 2)) ≡ true
+      go : (b : Bool) → eqb (keyAt m i) 0 ≡ b → (b || leb (countAt m i) gatheredMax) ≡ true
           → withPlace m i (pick b empty (held (streamOfKey (keyAt m i)) (sessionAt m i))) ≡ m
       go true e h = key-kept 0 (sym (eqb-true (keyAt m i) 0 e))
       go false e h =
           let k : withKey m i (keyOf (streamOfKey (keyAt m i))) ≡ m = key-kept (keyOf (streamOfKey (keyAt m i))) (key-stream (keyAt m i) (key-lt m bytes long i inTable)) in
           ap (λ (x : List ℕ). withSession x i (sessionAt m i)) k
-          ∙ session-kept (leb-true (countAt m i) gatheredMax (and-left (leb (countAt m i) gatheredMax) (ltb (toggleAt m i) 2) h)) (ltb-true (toggleAt m i) 2 (and-right (leb (countAt m i) gatheredMax) (ltb (toggleAt m i) 2) h))
+          ∙ session-kept (leb-true (countAt m i) gatheredMax h)

@@ -16,7 +16,7 @@ use Rattle.rules.specs.Table.{Place, empty, held, Places}
 use Rattle.bits.specs.Tabulate.{tabulate}
 use Rattle.state.specs.Layout.{size, placeAt, placesOf, timesAt, streamKeysAt, controlsAt, bytesAt}
 use Rattle.frame.specs.Key.{keyOf}
-use Rattle.state.specs.Place.{one, controlOf, withKey, withSession, withPlace, written}
+use Rattle.state.specs.Place.{one, flagsOf, controlOf, withKey, withSession, withPlace, written}
 use Rattle.state.specs.Sound.{rawFits}
 use Rattle.state.proofs.Places.{Few, length-withPlace, same-raw, same-place, place-kept, place-back, Holdable}
 use Rattle.bits.proofs.Tabulate.{tab-same}
@@ -24,9 +24,9 @@ use Rattle.bits.proofs.Tabulate.{tab-same}
 -- a place whose bytes are bytes
 abbrev pub Plain : Place → Type 0
 Plain empty = Unit {0}
-Plain (held d s) = (s .expected < 256) × Octets (s .gathered)
+Plain (held d s) = ((s .expected < 256) × (s .follows < 128)) × Octets (s .gathered)
 
-one-lt : (b : Bool) → one b < 256
+one-lt : (b : Bool) → one b < 2
 one-lt true = omega arith
 one-lt false = omega arith
 
@@ -37,7 +37,7 @@ octets-withPlace m i (held d s) o h =
     let m₁ = splice m (streamKeysAt + i * 4) (leBytes 4 (keyOf d)) in
     let o₁ = octets-splice m (streamKeysAt + i * 4) (leBytes 4 (keyOf d)) o (octets-leBytes 4 (keyOf d)) in
     let n = length (s .gathered) in
-    let c = octets-append (leBytes 2 n) (s .expected ∷ one (s .toggle) ∷ []) (octets-leBytes 2 n) (h .0, (one-lt (s .toggle), tt)) in
+    let c = octets-append (leBytes 2 n) (s .expected ∷ flagsOf s ∷ []) (octets-leBytes 2 n) (h .0 .0, (omega (arith, one-lt (s .toggle)), tt)) in
     octets-splice _ (bytesAt + i * gatheredMax) (s .gathered)
     (octets-splice _ (timesAt + i * 8) (leBytes 8 (s .since)) (octets-splice m₁ (controlsAt + i * 4) (controlOf s) o₁ c) (octets-leBytes 8 (s .since)))
     (h .1)

@@ -2,8 +2,9 @@
 use mathlib.Core.Path.{_≡_, refl, sym, ap, _∙_}
 use mathlib.Core.Bool.{Bool, true, false}
 use mathlib.Core.List.{List, [], _∷_, _++_}
-use Prim.Native.Nat.{ℕ, suc, _+_, _*_, _^_, _≤_, _<_}
+use Prim.Native.Nat.{ℕ, suc, _+_, _*_, _/_, _%_, _^_, _≤_, _<_}
 use native.Mathlib.Omega.{arith}
+use borrow.Author.Tests.{eq-eqb, ne-eqb}
 use lib.Dec.{eqb}
 use lib.ListN.{length, take, drop, length-append}
 use lib.Seq.{drop-drop, drop-at, take-at}
@@ -13,13 +14,13 @@ use Rattle.bits.specs.Part.{span, splice}
 use Rattle.bits.proofs.Little.{length-leBytes, le-leBytes}
 use Rattle.bits.proofs.Splice.{length-splice, span-same, span-apart, span-inside}
 use Rattle.state.specs.Layout.{size, timesAt, streamKeysAt, controlsAt, bytesAt}
-use Rattle.state.specs.Layout.{countAt, expectedAt, toggleAt, timeAt, gatheredAt, sessionAt}
-use Rattle.state.specs.Place.{one, controlOf, withKey, withSession}
+use Rattle.state.specs.Layout.{countAt, expectedAt, flagsAt, timeAt, gatheredAt, sessionAt}
+use Rattle.state.specs.Place.{one, flagsOf, controlOf, withKey, withSession}
 use Rattle.rules.specs.Session.{Session}
 
 length-control : (s : Session) → length (controlOf s) ≡ 4
 unfolding controlOf
-length-control s = length-append (leBytes 2 (length (s .gathered))) (s .expected ∷ one (s .toggle) ∷ []) ∙ omega (arith, length-leBytes 2 (length (s .gathered)))
+length-control s = length-append (leBytes 2 (length (s .gathered))) (s .expected ∷ flagsOf s ∷ []) ∙ omega (arith, length-leBytes 2 (length (s .gathered)))
 
 -- ── a part that a place's fields do not touch ──
 
@@ -96,9 +97,14 @@ module _ (i : ℕ) (inTable : i < sessionsMax) where
         let w = widths m h in
         span-same (second m) (bytesAt + i * gatheredMax) (s .gathered) (omega arith) (length (s .gathered)) refl
 
-    one-back : (b : Bool) → eqb (one b) 1 ≡ b
-    one-back true = refl
-    one-back false = refl
+    -- the toggle and the interface in the flags
+    toggle-back : (b : Bool) (n : ℕ) → eqb ((one b + 2 * n) % 2) 1 ≡ b
+    toggle-back true n = eq-eqb ((1 + 2 * n) % 2) 1 (omega arith)
+    toggle-back false n = ne-eqb ((0 + 2 * n) % 2) 1 (λ z. omega arith)
+
+    follows-back : (b : Bool) (n : ℕ) → (one b + 2 * n) / 2 ≡ n
+    follows-back true n = omega arith
+    follows-back false n = omega arith
 
     module _ (m : List ℕ) (long : size ≤ length m) where
       pub own-count : countAt (withSession m i s) i ≡ length (s .gathered)
@@ -107,19 +113,19 @@ module _ (i : ℕ) (inTable : i < sessionsMax) where
           let z : controlsAt + i * 4 ≡ controlsAt + i * 4 + 0 = omega arith in
           let n = length (s .gathered) in
           ap (λ (k : ℕ). le (span (withSession m i s) k 2)) z ∙ ap le (own-control m 0 2 long (omega arith))
-          ∙ ap le (take-at (leBytes 2 n) (s .expected ∷ one (s .toggle) ∷ []) 2 (length-leBytes 2 n)) ∙ le-leBytes 2 n (omega arith)
+          ∙ ap le (take-at (leBytes 2 n) (s .expected ∷ flagsOf s ∷ []) 2 (length-leBytes 2 n)) ∙ le-leBytes 2 n (omega arith)
 
       own-byte : (b : ℕ) (x : ℕ) → b < 4 → span (controlOf s) b 1 ≡ x ∷ [] → le (span (withSession m i s) (controlsAt + i * 4 + b) 1) ≡ x
       unfolding le
       own-byte b x h e = ap le (own-control m b 1 long (omega arith) ∙ e) ∙ omega arith
 
-      tail-at : (b : ℕ) (x : ℕ) → drop b (s .expected ∷ one (s .toggle) ∷ []) ≡ x ∷ drop (suc b) (s .expected ∷ one (s .toggle) ∷ []) → b < 2
+      tail-at : (b : ℕ) (x : ℕ) → drop b (s .expected ∷ flagsOf s ∷ []) ≡ x ∷ drop (suc b) (s .expected ∷ flagsOf s ∷ []) → b < 2
           → span (controlOf s) (2 + b) 1 ≡ x ∷ []
       unfolding controlOf
       tail-at b x e h =
           let n = length (s .gathered) in
-          ap (take 1) (sym (drop-drop b 2 (leBytes 2 n ++ (s .expected ∷ one (s .toggle) ∷ [])))
-          ∙ ap (drop b) (drop-at (leBytes 2 n) (s .expected ∷ one (s .toggle) ∷ []) 2 (length-leBytes 2 n)) ∙ e)
+          ap (take 1) (sym (drop-drop b 2 (leBytes 2 n ++ (s .expected ∷ flagsOf s ∷ [])))
+          ∙ ap (drop b) (drop-at (leBytes 2 n) (s .expected ∷ flagsOf s ∷ []) 2 (length-leBytes 2 n)) ∙ e)
 
       own-expected : expectedAt (withSession m i s) i ≡ s .expected
       unfolding expectedAt
@@ -127,11 +133,11 @@ module _ (i : ℕ) (inTable : i < sessionsMax) where
           let z : controlsAt + 2 + i * 4 ≡ controlsAt + i * 4 + 2 = omega arith in
           ap (λ (k : ℕ). le (span (withSession m i s) k 1)) z ∙ own-byte 2 (s .expected) (omega arith) (tail-at 0 (s .expected) refl (omega arith))
 
-      pub own-toggle : toggleAt (withSession m i s) i ≡ one (s .toggle)
-      unfolding toggleAt
-      own-toggle =
+      own-flags : flagsAt (withSession m i s) i ≡ flagsOf s
+      unfolding flagsAt
+      own-flags =
           let z : controlsAt + 3 + i * 4 ≡ controlsAt + i * 4 + 3 = omega arith in
-          ap (λ (k : ℕ). le (span (withSession m i s) k 1)) z ∙ own-byte 3 (one (s .toggle)) (omega arith) (tail-at 1 (one (s .toggle)) refl (omega arith))
+          ap (λ (k : ℕ). le (span (withSession m i s) k 1)) z ∙ own-byte 3 (flagsOf s) (omega arith) (tail-at 1 (flagsOf s) refl (omega arith))
 
       pub session-back : s .since < 2 ^ 64 → sessionAt (withSession m i s) i ≡ s
       unfolding sessionAt timeAt gatheredAt
@@ -139,6 +145,7 @@ module _ (i : ℕ) (inTable : i < sessionsMax) where
           let e = own-expected in
           let g : span (withSession m i s) (bytesAt + i * gatheredMax) (countAt (withSession m i s) i) ≡ s .gathered =
           ap (span (withSession m i s) (bytesAt + i * gatheredMax)) own-count ∙ own-gathered m long in
-          let t : eqb (toggleAt (withSession m i s) i) 1 ≡ s .toggle = ap (λ (x : ℕ). eqb x 1) own-toggle ∙ one-back (s .toggle) in
+          let t : eqb (flagsAt (withSession m i s) i % 2) 1 ≡ s .toggle = ap (λ (x : ℕ). eqb (x % 2) 1) own-flags ∙ toggle-back (s .toggle) (s .follows) in
+          let f : flagsAt (withSession m i s) i / 2 ≡ s .follows = ap (λ (x : ℕ). x / 2) own-flags ∙ follows-back (s .toggle) (s .follows) in
           let q : le (span (withSession m i s) (timesAt + i * 8) 8) ≡ s .since = ap le (own-time m long) ∙ le-leBytes 8 (s .since) h in
-          λ j. record { expected = e j; gathered = g j; toggle = t j; since = q j }
+          λ j. record { expected = e j; gathered = g j; toggle = t j; since = q j; follows = f j }

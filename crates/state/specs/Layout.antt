@@ -38,7 +38,7 @@ subscriptionKeysAt = timesAt + sessionsMax * 8
 abbrev pub streamKeysAt : ℕ
 streamKeysAt = subscriptionKeysAt + subscriptionsMax * 4
 
--- of each session the number of bytes in hand (2), the expected transfer ID (1) and the toggle (1)
+-- of each session the number of bytes in hand (2), the expected transfer ID (1), and in one byte the toggle (bit 0) and the followed interface
 abbrev pub controlsAt : ℕ
 controlsAt = streamKeysAt + sessionsMax * 4
 
@@ -62,7 +62,7 @@ subscriptionAt m j =
 unfoldable pub setupOf : List ℕ → Setup
 setupOf m = record { own = getD m ownAt 0; subscriptions = tabulate (subscriptionAt m) 0 (getD m subscriptionCountAt 0) }
 
--- ── the places: times, stream keys, counts of bytes in hand, expected IDs, toggles, gathered bytes ──
+-- ── the places: times, stream keys, counts of bytes in hand, expected IDs, toggles, followed interfaces, gathered bytes ──
 
 unfoldable pub timeAt : List ℕ → ℕ → ℕ
 timeAt m i = le (span m (timesAt + i * 8) 8)
@@ -76,14 +76,16 @@ countAt m i = le (span m (controlsAt + i * 4) 2)
 unfoldable pub expectedAt : List ℕ → ℕ → ℕ
 expectedAt m i = le (span m (controlsAt + 2 + i * 4) 1)
 
-unfoldable pub toggleAt : List ℕ → ℕ → ℕ
-toggleAt m i = le (span m (controlsAt + 3 + i * 4) 1)
+-- the toggle, and twice the followed interface
+unfoldable pub flagsAt : List ℕ → ℕ → ℕ
+flagsAt m i = le (span m (controlsAt + 3 + i * 4) 1)
 
 unfoldable pub gatheredAt : List ℕ → ℕ → List ℕ
 gatheredAt m i = span m (bytesAt + i * gatheredMax) (countAt m i)
 
 unfoldable pub sessionAt : List ℕ → ℕ → Session
-sessionAt m i = record { expected = expectedAt m i; gathered = gatheredAt m i; toggle = eqb (toggleAt m i) 1; since = timeAt m i }
+sessionAt m i =
+    record { expected = expectedAt m i; gathered = gatheredAt m i; toggle = eqb (flagsAt m i % 2) 1; since = timeAt m i; follows = flagsAt m i / 2 }
 
 unfoldable pub placeAt : List ℕ → ℕ → Place
 placeAt m i = pick (eqb (keyAt m i) 0) empty (held (streamOfKey (keyAt m i)) (sessionAt m i))

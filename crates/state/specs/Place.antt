@@ -15,9 +15,13 @@ abbrev pub one : Bool → ℕ
 one true = 1
 one false = 0
 
--- the number of bytes in hand, the expected transfer ID and the toggle
+-- the toggle, and twice the followed interface
+abbrev pub flagsOf : Session → ℕ
+flagsOf s = one (s .toggle) + 2 * s .follows
+
+-- the number of bytes in hand, the expected transfer ID and the flags
 unfoldable pub controlOf : Session → List ℕ
-controlOf s = leBytes 2 (length (s .gathered)) ++ (s .expected ∷ one (s .toggle) ∷ [])
+controlOf s = leBytes 2 (length (s .gathered)) ++ (s .expected ∷ flagsOf s ∷ [])
 
 unfoldable pub withKey : List ℕ → ℕ → ℕ → List ℕ
 withKey m i k = splice m (streamKeysAt + i * 4) (leBytes 4 k)

@@ -2,17 +2,17 @@
 use mathlib.Core.Bool.{Bool, _&&_, _||_}
 use mathlib.Core.List.{List}
 use Prim.Native.Nat.{ℕ}
-use lib.Dec.{ltb, leb, eqb}
+use lib.Dec.{leb, eqb}
 use lib.ListN.{length}
 use Rattle.bits.specs.Tabulate.{every}
 use Rattle.rules.specs.Limits.{sessionsMax, gatheredMax}
 use Rattle.rules.specs.Setup.{acceptable}
 use Rattle.rules.specs.Sound.{sound}
-use Rattle.state.specs.Layout.{size, setupOf, keyAt, countAt, toggleAt, placesOf}
+use Rattle.state.specs.Layout.{size, setupOf, keyAt, countAt, placesOf}
 
--- what the view does not show: a count and a toggle that are out of range
+-- what the view does not show: a count that is out of range
 unfoldable pub rawFits : List ℕ → ℕ → Bool
-rawFits m i = eqb (keyAt m i) 0 || (leb (countAt m i) gatheredMax && ltb (toggleAt m i) 2)
+rawFits m i = eqb (keyAt m i) 0 || leb (countAt m i) gatheredMax
 
 -- long enough, a setup that 13 does not refuse, and a table without a fault
 unfoldable pub soundState : List ℕ → Bool

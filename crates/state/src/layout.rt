@@ -15,7 +15,7 @@ pub const TIMES_AT: usize = SIGNATURES_AT + SUBSCRIPTIONS * 8;
 pub const SUBSCRIPTION_KEYS_AT: usize = TIMES_AT + SESSIONS * 8;
 // Streams of the sessions.
 pub const STREAM_KEYS_AT: usize = SUBSCRIPTION_KEYS_AT + SUBSCRIPTIONS * 4;
-// Of each session the number of bytes in hand (2), the expected transfer ID (1) and the toggle (1).
+// Of each session the number of bytes in hand (2), the expected transfer ID (1), and in one byte the toggle (bit 0) and the followed interface.
 pub const CONTROLS_AT: usize = STREAM_KEYS_AT + SESSIONS * 4;
 // Gathered bytes of the sessions.
 pub const BYTES_AT: usize = CONTROLS_AT + SESSIONS * 4;

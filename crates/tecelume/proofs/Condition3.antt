@@ -22,7 +22,7 @@ worded r = record { word = wordOf (r .answer); payload = r .payload }
 reads : (m : List ℕ) (c : Call) → wordReading (packed (resultOf m c)) ≡ worded (reading (resultOf m c))
 reads m c =
     let r = resultOf m c in
-    ap (λ n. record { word = wordOf (r .answer); payload = take n (r .out) }) (read-back (r .answer) (received-fits m (c .frame) (c .out)) .len)
+    ap (λ n. record { word = wordOf (r .answer); payload = take n (r .out) }) (read-back (r .answer) (received-fits m (c .arrival) (c .out)) .len)
 
 word-view : (u : Setup) → View u (wordBytes u)
 unfolding view

@@ -2,13 +2,14 @@
 use mathlib.Core.Path.{_≡_, refl, sym, subst}
 use mathlib.Core.Bool.{Bool, true, false}
 use mathlib.Core.List.{List}
+use mathlib.Core.Logic.{inl, inr}
 use Prim.Native.Nat.{ℕ, _^_, _<_}
 use native.Mathlib.Omega.{arith}
 use lib.ListN.{length}
 use Rattle.tecelume.specs.Word.{transferWord, wordOf, TransferFits, Fits, ReadBack, WordLaws}
 use Rattle.rules.proofs.Ranges.{ranges}
 use Rattle.rules.specs.Answer as rules
-use Rattle.rules.specs.Frame.{Frame, Stream}
+use Rattle.rules.specs.Frame.{Arrival, Stream}
 use Rattle.rules.specs.Range.{HandedRange, Ranged}
 use Rattle.rules.specs.Reception.{step}
 use Rattle.receiver.specs.Receive.{arriving, receivedIf, received}
@@ -37,13 +38,14 @@ small a e h = record { number = h; transfer = subst TransferFits (sym e) (record
 pub told-fits : (a : rules.Answer) → Ranged a → Fits (told a)
 told-fits rules.taken r = small _ refl (omega arith)
 told-fits (rules.handed p d priority t) r = record { number = omega arith; transfer = in-range p d priority t r }
-told-fits (rules.refused n) r = small _ refl (omega arith)
+told-fits (rules.refused n) (inl r) = small _ refl (omega arith)
+told-fits (rules.refused n) (inr r) = small _ refl (omega arith)
 told-fits rules.full r = small _ refl (omega arith)
 told-fits (rules.passed x) r = small _ refl (omega arith)
 told-fits rules.long r = small _ refl (omega arith)
 told-fits rules.differs r = small _ refl (omega arith)
 
-pub received-fits : (m : List ℕ) (f : Frame) (out : List ℕ) → Fits (received m f out .answer)
+pub received-fits : (m : List ℕ) (f : Arrival) (out : List ℕ) → Fits (received m f out .answer)
 unfolding received receivedIf
 received-fits m f out = go (soundState m)
   where

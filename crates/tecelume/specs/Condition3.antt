@@ -36,5 +36,5 @@ wordBytes u =
       number = λ r. numberIn (r .word);
       shows = wordReadingOf;
       Past = Lent u;
-      Typed = λ c. Typed (c .frame);
+      Typed = λ c. Typed (c .arrival .frame);
     }

@@ -8,9 +8,9 @@ use Rattle.receiver.specs.Receive as receive
 use Rattle.sender.specs.Send as send
 use Rattle.setup.specs.Setup as setup
 
--- 0.1.0
+-- 0.2.0
 abbrev pub version : ℕ
-version = 0 * 2 ^ 16 + (1 * 2 ^ 8 + 0)
+version = 0 * 2 ^ 16 + (2 * 2 ^ 8 + 0)
 
 -- of a setup: the number, and the lent state or map
 pub record Numbered : Type 0 where

@@ -3,7 +3,7 @@
 use mathlib.Core.Path.{_≡_}
 use mathlib.Core.List.{List}
 use Prim.Native.Nat.{ℕ, _+_, _*_, _/_, _%_, _^_, _≤_, _<_}
-use Rattle.rules.specs.Frame.{Frame}
+use Rattle.rules.specs.Frame.{Arrival}
 use Rattle.receiver.specs.Receive.{received}
 use Rattle.answers.specs.Reception.{numberOf, transferIn}
 use Rattle.answers.specs.declared.Answer.{Answer}
@@ -54,7 +54,7 @@ pub record ReadBack (w : ℕ) (a : Answer) : Type 0 where
   pub transfer : w / 2 ^ 55 ≡ transferIn a .transfer
 
 pub record WordLaws : Type 0 where
-  pub fits : (m : List ℕ) (f : Frame) (out : List ℕ) → Fits (received m f out .answer)
+  pub fits : (m : List ℕ) (f : Arrival) (out : List ℕ) → Fits (received m f out .answer)
   pub back : (a : Answer) → Fits a → ReadBack (wordOf a) a
 
 -- ── the result word of a send: the number in bits 0 to 7, the frames in 8 to 14, their transfer ID in 55 to 59 as that of a reception ──

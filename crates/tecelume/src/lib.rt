@@ -8,7 +8,7 @@ ghost use Rattle.tecelume.specs.Entry.{version, numbered, numberedMap, e
 ghost use Rattle.tecelume.specs.Word.{WordLaws};
 ghost use Rattle.id_map.specs.Layout as layout;
 ghost use Rattle.id_map.specs.Setup as setting;
-ghost use Rattle.receiver.specs.Receive.{frameOf, received};
+ghost use Rattle.receiver.specs.Receive.{arrivalOf, received};
 ghost use Rattle.rules.specs.Condition3.{Condition3};
 ghost use Rattle.sender.specs.Send.{sends};
 ghost use Rattle.setup.specs.Setup.{afterSetup};
@@ -20,7 +20,7 @@ ghost use Rattle.types.specs.Types.{signatureOf};
 pub extern "C" fn tecelume_version() -> u32
     ensures { λ r. ⌜ r ≡ version ⌝ }
 {
-    0x000100
+    0x000200
 }
 
 // The bytes of a receiver's state.
@@ -45,12 +45,13 @@ pub extern "C" fn tecelume_receive_word(
     state: &mut [u8],
     id: u32,
     frame: &[u8],
+    interface: u32,
     time: u64,
     out: &mut [u8],
 ) -> u64
-    ensures { λ r. ⌜ entry r (now (state .exit)) (now (out .exit)) ≡ packed (received (now (state .entry)) (frameOf id (now (frame .entry)) time) (now (out .entry))) ⌝ }
+    ensures { λ r. ⌜ entry r (now (state .exit)) (now (out .exit)) ≡ packed (received (now (state .entry)) (arrivalOf id (now (frame .entry)) interface time) (now (out .entry))) ⌝ }
 {
-    word::of_answer(transport::receive(state, id, frame, time, out))
+    word::of_answer(transport::receive(state, id, frame, interface, time, out))
 }
 
 // The bytes of a transfer-ID map.

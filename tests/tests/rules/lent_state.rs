@@ -43,6 +43,7 @@ fn sample() -> Receiver {
         gathered: vec![0xAB; 7],
         toggle: true,
         time: 0x1234,
+        follows: 0,
     });
     receiver.places[31] = Some(Session {
         stream: Stream {
@@ -55,6 +56,7 @@ fn sample() -> Receiver {
         gathered: vec![0xCD; MOST_GATHERED],
         toggle: false,
         time: u64::MAX,
+        follows: 2,
     });
     receiver
 }
@@ -80,7 +82,7 @@ fn layout() {
     let response = ((2 * 65536 + 7) * 128 + 127) * 128 + 5_u32;
     assert_eq!(bytes[1156..1160], response.to_le_bytes());
     assert_eq!(bytes[1164..1168], [7, 0, 30, 1]);
-    assert_eq!(bytes[1284..1288], [2, 2, 31, 0]);
+    assert_eq!(bytes[1284..1288], [2, 2, 31, 4]);
     assert_eq!(bytes[1288 + 514..1288 + 521], [0xAB; 7]);
     assert_eq!(bytes[SIZE - MOST_GATHERED..], [0xCD; MOST_GATHERED]);
 }
@@ -103,7 +105,7 @@ fn faults_of_20() {
     };
     let first_stream = state::STREAM_KEYS + 4;
     let control = state::CONTROLS + 4;
-    let faults: [(usize, &[u8]); 18] = [
+    let faults: [(usize, &[u8]); 20] = [
         (state::OWN, &[128]),
         (state::COUNT, &[65]),
         (state::SUBSCRIPTION_KEYS, &[0, 0, 2, 0]),
@@ -119,8 +121,10 @@ fn faults_of_20() {
         (first_stream, &key(2, 7, 127, 5)),
         (control, &[3, 2]),
         (control + 2, &[32]),
-        (control + 3, &[2]),
+        (control + 3, &[6]),
+        (control + 3, &[7]),
         (control, &[0, 0]),
+        (control, &[0, 0, 30, 5]),
         (control + 3, &[255]),
     ];
     for (index, (at, value)) in faults.into_iter().enumerate() {
@@ -133,7 +137,7 @@ fn faults_of_20() {
 
 #[test]
 fn values_at_the_edge_are_no_fault() {
-    let allowed: [(usize, &[u8]); 7] = [
+    let allowed: [(usize, &[u8]); 11] = [
         (state::OWN, &[127]),
         (state::OWN, &[0]),
         (state::SUBSCRIPTION_KEYS, &[255, 0, 1, 0]),
@@ -141,6 +145,10 @@ fn values_at_the_edge_are_no_fault() {
         (state::SUBSCRIPTION_KEYS + 8, &[255; 4]),
         (state::CONTROLS, &[255; 4]),
         (state::CONTROLS + 4, &[1, 0, 0, 1]),
+        (state::CONTROLS + 4, &[1, 0, 0, 3]),
+        (state::CONTROLS + 4, &[1, 0, 0, 5]),
+        (state::CONTROLS + 4, &[0, 0, 0, 2]),
+        (state::CONTROLS + 4, &[0, 0, 0, 4]),
     ];
     for (index, (at, value)) in allowed.into_iter().enumerate() {
         let mut bytes = sample_bytes();
@@ -187,9 +195,15 @@ fn refused_setup_writes_nothing() {
 }
 
 /// Receives and gives the result word with the offsets of the state bytes that changed.
-fn changes(bytes: &mut [u8], id: u32, data: &[u8], time: u64) -> (u64, Vec<usize>) {
+fn changes(bytes: &mut [u8], id: u32, data: &[u8], interface: u32, time: u64) -> (u64, Vec<usize>) {
     let before = bytes.to_vec();
-    let word = receive(bytes, &Frame { id, data, time }, &mut [0; 512]);
+    let frame = Frame {
+        id,
+        data,
+        interface,
+        time,
+    };
+    let word = receive(bytes, &frame, &mut [0; 512]);
     let changed = (0..bytes.len())
         .filter(|&at| bytes[at] != before[at])
         .collect();
@@ -201,7 +215,7 @@ fn receive_writes_the_fields_that_change() {
     let mut bytes = sample_bytes();
     bytes[state::gathered_at(1) + 7..][..7].fill(0xEE);
     let id = 0x0001_F409;
-    let (word, changed) = changes(&mut bytes, id, &[1, 2, 3, 4, 5, 6, 7, 0x3E], 0x1234);
+    let (word, changed) = changes(&mut bytes, id, &[1, 2, 3, 4, 5, 6, 7, 0x3E], 0, 0x1234);
     assert_eq!(word, 0);
     let control = state::CONTROLS + 4;
     let gathered = state::gathered_at(1) + 7;
@@ -211,23 +225,28 @@ fn receive_writes_the_fields_that_change() {
         .collect();
     assert_eq!(changed, expected);
 
-    let (word, changed) = changes(&mut bytes, id, &[9, 0x5E], 0x1234);
+    let (word, changed) = changes(&mut bytes, id, &[9, 0x5E], 0, 0x1234);
     assert_eq!(word, 12);
     assert_eq!(changed, [control, control + 2]);
 
-    let (word, changed) = changes(&mut bytes, id, &[9, 0x41], 3_000_000);
+    let (word, changed) = changes(&mut bytes, id, &[9, 0x5F], 1, 0x1234);
+    assert_eq!((word, changed), (10, vec![]));
+
+    let (word, changed) = changes(&mut bytes, id, &[9, 0x41], 1, 3_000_000);
     assert_eq!(word, 10);
-    assert_eq!(changed, [control + 2]);
+    assert_eq!(changed, [control + 2, control + 3]);
+    assert_eq!(bytes[control + 3], 2);
 }
 
 #[test]
 fn new_session_leaves_old_bytes_of_its_place() {
     let mut bytes = sample_bytes();
     bytes[state::gathered_at(0)..][..MOST_GATHERED].fill(0x77);
-    let (word, _) = changes(&mut bytes, 0x0001_F40A, &[1, 0xC2], 5);
+    let (word, _) = changes(&mut bytes, 0x0001_F40A, &[1, 0xC2], 2, 5);
     assert_eq!(word & 255, 1);
     let session = read(&bytes).unwrap().places[0].clone().unwrap();
-    assert_eq!((session.expected_id, session.time), (3, 5));
+    let values = (session.expected_id, session.time, session.follows);
+    assert_eq!(values, (3, 5, 2));
     let room = &bytes[state::gathered_at(0)..][..MOST_GATHERED];
     assert_eq!(room, [0x77; MOST_GATHERED]);
 }
@@ -242,6 +261,7 @@ fn result_word_of_a_transfer() {
         let frame = Frame {
             id: 29 << 24 | 7 << 16 | 1 << 15 | 5 << 8 | 128 | 66,
             data: &data,
+            interface: 1,
             time: 0,
         };
         word = receive(&mut bytes, &frame, &mut out);
@@ -256,5 +276,5 @@ fn result_word_of_a_transfer() {
 fn fault_is_answered_before_all_else() {
     let mut bytes = sample_bytes();
     bytes[0] = 128;
-    assert_eq!(changes(&mut bytes, u32::MAX, &[], 0), (20, vec![]));
+    assert_eq!(changes(&mut bytes, u32::MAX, &[], 3, 0), (20, vec![]));
 }

@@ -100,6 +100,15 @@ fn two_seconds_in_a_log() {
     assert_eq!(output(next("3.001").as_bytes()).0[1], "3.001 - 10");
 }
 
+/// A log has one cable: only there does the switch delay show (RULES 4.5).
+#[test]
+fn repeated_start_in_a_log() {
+    let start = "1.000 1001552A 01 02 03 04 05 06 07 80\n";
+    let again = |time: &str| format!("{start}{time} 1001552A 01 02 03 04 05 06 07 80\n");
+    assert_eq!(output(again("2.000").as_bytes()).0[1], "2.000 - 10");
+    assert_eq!(output(again("2.001").as_bytes()).0[1], "2.001 + 0");
+}
+
 #[test]
 fn lines_not_well_formed() {
     let bad: [&[u8]; 24] = [

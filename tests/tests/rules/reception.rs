@@ -5,7 +5,7 @@ use reference::definitions;
 use reference::frame::{forward_distance, priority_of, Stream, TransferType};
 use reference::receive::{Answer, Frame, Receiver, Subscription};
 use reference::send::split;
-use reference::session::TIMEOUT;
+use reference::session::{SWITCH_DELAY, TIMEOUT};
 
 const SIGNATURE: u64 = 0x1122_3344_5566_7788;
 const TYPE: u16 = 500;
@@ -37,12 +37,27 @@ fn receiver() -> Receiver {
 }
 
 fn receive(receiver: &mut Receiver, id: u32, data: &[u8], time: u64) -> Answer {
-    receiver.receive(&Frame { id, data, time }, 512)
+    receive_by(receiver, 0, id, data, time)
+}
+
+fn receive_by(receiver: &mut Receiver, interface: u32, id: u32, data: &[u8], time: u64) -> Answer {
+    let frame = Frame {
+        id,
+        data,
+        interface,
+        time,
+    };
+    receiver.receive(&frame, 512)
 }
 
 /// The number answered to a frame of `STREAM`.
 fn number(receiver: &mut Receiver, data: &[u8], time: u64) -> u32 {
     receive(receiver, STREAM.id(16, 0), data, time).number()
+}
+
+/// The same by an interface.
+fn number_by(receiver: &mut Receiver, interface: u32, data: &[u8], time: u64) -> u32 {
+    receive_by(receiver, interface, STREAM.id(16, 0), data, time).number()
 }
 
 fn from_source(source: u8) -> u32 {
@@ -185,11 +200,24 @@ fn frame_checks_in_order() {
         (service(9, 5), &[0xC0], 512, 1),
     ];
     for (index, (id, data, room, expected)) in cases.into_iter().enumerate() {
-        let mut receiver = fresh.clone();
-        let answer = receiver.receive(&Frame { id, data, time: 0 }, room);
-        assert_eq!(answer.number(), expected, "case {index}");
-        if expected > 1 {
-            assert_eq!(receiver, fresh, "case {index}");
+        for interface in [0, 1, 2, 3, 256, u32::MAX] {
+            let frame = Frame {
+                id,
+                data,
+                interface,
+                time: 0,
+            };
+            let expected = match expected {
+                2 | 3 => expected,
+                _ if interface > 2 => 19,
+                _ => expected,
+            };
+            let mut receiver = fresh.clone();
+            let answer = receiver.receive(&frame, room);
+            assert_eq!(answer.number(), expected, "case {index} by {interface}");
+            if expected > 1 {
+                assert_eq!(receiver, fresh, "case {index} by {interface}");
+            }
         }
     }
 }
@@ -205,8 +233,8 @@ fn unnamed_receiver_hears_no_service() {
 fn anonymous_frames_need_no_session() {
     let mut receiver = receiver();
     let before = receiver.clone();
-    for _ in 0..2 {
-        match receive(&mut receiver, 0x1FFF_FE00, &[8, 9, 0xC3], 0) {
+    for interface in [0, 0, 2, 1] {
+        match receive_by(&mut receiver, interface, 0x1FFF_FE00, &[8, 9, 0xC3], 0) {
             Answer::HandedOut(transfer) => {
                 assert_eq!(transfer.payload, [8, 9]);
                 assert_eq!(transfer.stream.type_id, 2);
@@ -307,6 +335,121 @@ fn old_session_stays_old_until_a_start_is_taken() {
     assert_eq!(session(&receiver, 0), (3, 0, false, 0));
     assert_eq!(number(&mut receiver, &[0xC2], late), 1);
     assert_eq!(session(&receiver, 0), (3, 0, false, late));
+}
+
+/// The interface that the session in a place follows.
+fn follows(receiver: &Receiver, place: usize) -> u8 {
+    receiver.places[place].as_ref().expect("a session").follows
+}
+
+/// A receiver that follows interface 0 in a transfer with ID 4, begun at time 1000.
+fn begun() -> Receiver {
+    let mut receiver = receiver();
+    assert_eq!(
+        number(&mut receiver, &split(&[7; 30], SIGNATURE, 4)[0], 1000),
+        0
+    );
+    receiver
+}
+
+#[test]
+fn copies_by_another_interface_are_passed_over() {
+    let mut receiver = receiver();
+    let frames = split(&[7; 20], SIGNATURE, 4);
+    let mut answers = Vec::new();
+    for data in &frames {
+        for interface in [1, 0, 2] {
+            answers.push(number_by(&mut receiver, interface, data, 50));
+        }
+    }
+    assert_eq!(answers, [0, 10, 10, 0, 10, 10, 0, 10, 10, 1, 10, 10]);
+    assert_eq!(
+        (session(&receiver, 0), follows(&receiver, 0)),
+        ((5, 0, false, 50), 1)
+    );
+}
+
+#[test]
+fn start_by_another_interface_switches_after_the_delay_if_not_far_ahead() {
+    for transfer_id in 0..32 {
+        for (age, allowed) in [(0, false), (SWITCH_DELAY, false), (SWITCH_DELAY + 1, true)] {
+            let mut receiver = begun();
+            let before = receiver.clone();
+            let data = &split(&[8; 20], SIGNATURE, transfer_id)[0];
+            let number = number_by(&mut receiver, 2, data, 1000 + age);
+            if allowed && (4..20).contains(&transfer_id) {
+                assert_eq!(number, 0, "{transfer_id} at {age}");
+                let after = (transfer_id, 7, true, 1000 + age);
+                assert_eq!((session(&receiver, 0), follows(&receiver, 0)), (after, 2));
+            } else {
+                assert_eq!(number, 10, "{transfer_id} at {age}");
+                assert_eq!(receiver, before, "{transfer_id} at {age}");
+            }
+        }
+    }
+}
+
+#[test]
+fn other_frames_by_another_interface_are_passed_over_until_it_is_old() {
+    let next = &split(&[7; 30], SIGNATURE, 4)[1];
+    for age in [0, SWITCH_DELAY, SWITCH_DELAY + 1, TIMEOUT] {
+        let mut receiver = begun();
+        let before = receiver.clone();
+        assert_eq!(number_by(&mut receiver, 1, next, 1000 + age), 10);
+        assert_eq!(receiver, before);
+        assert_eq!(number(&mut receiver, next, 1000 + age), 0);
+    }
+}
+
+#[test]
+fn old_session_follows_the_next_frame() {
+    let late = 1001 + TIMEOUT;
+    let mut receiver = begun();
+    let frames = split(&[7; 30], SIGNATURE, 30);
+    assert_eq!(number_by(&mut receiver, 2, &frames[1], late), 10);
+    assert_eq!(
+        (session(&receiver, 0), follows(&receiver, 0)),
+        ((31, 0, false, 1000), 2)
+    );
+    assert_eq!(number_by(&mut receiver, 1, &frames[0], late), 0);
+    assert_eq!(
+        (session(&receiver, 0), follows(&receiver, 0)),
+        ((30, 7, true, late), 1)
+    );
+}
+
+#[test]
+fn repeated_start_on_one_cable_begins_anew_after_the_delay() {
+    let frames = split(&[7; 30], SIGNATURE, 4);
+    for (age, expected) in [(SWITCH_DELAY, 10), (SWITCH_DELAY + 1, 0)] {
+        let mut receiver = begun();
+        assert_eq!(number(&mut receiver, &frames[1], 2000), 0);
+        assert_eq!(number(&mut receiver, &frames[0], 1000 + age), expected);
+        let after = match expected {
+            0 => (4, 7, true, 1000 + age),
+            _ => (4, 14, false, 1000),
+        };
+        assert_eq!(session(&receiver, 0), after);
+    }
+    let mut receiver = begun();
+    let single = split(&[9; 3], SIGNATURE, 4);
+    let late = 1001 + SWITCH_DELAY;
+    assert_eq!(number(&mut receiver, &single[0], late), 1);
+    assert_eq!(session(&receiver, 0), (5, 0, false, late));
+}
+
+#[test]
+fn start_before_the_expected_one_never_restarts_within_two_seconds() {
+    for age in [0, SWITCH_DELAY + 1, TIMEOUT] {
+        for interface in 0..3 {
+            let mut receiver = begun();
+            let before = receiver.clone();
+            let data = &split(&[8; 20], SIGNATURE, 3)[0];
+            let number = number_by(&mut receiver, interface, data, 1000 + age);
+            assert_eq!(number, 10);
+            assert_eq!(receiver, before);
+        }
+    }
 }
 
 #[test]

@@ -10,12 +10,12 @@ use lib.Seq.{length-take-le}
 use Rattle.bits.specs.Part.{splice}
 use Rattle.bits.proofs.Octets.{octets-all}
 use Rattle.receiver.specs.Receive as receive
-use Rattle.receiver.specs.Receive.{frameOf, arriving, lent}
+use Rattle.receiver.specs.Receive.{arrivalOf, arriving, lent}
 use Rattle.rules.specs.Reception.{step}
 use Rattle.state.specs.Layout.{setupOf, placesOf}
 use Rattle.state.specs.Sound.{soundState}
 use Rattle.log_replay.proofs.Replies.{frameSaid, len-in, head-in, head-few, least, in-range, tested, replied}
-use Rattle.log_replay.specs.Replay.{counted}
+use Rattle.log_replay.specs.Replay.{counted, logged}
 use borrow.Author.Needs.{needs}
 use Rattle.log_replay.proofs.receive.Statement.{statement}
 use Rattle.log_replay.proofs.receive.Tie as tie
@@ -78,7 +78,7 @@ put-answer-requires c κs =
     omega (
       arith,
       r-copy-at .copy-at .kept .0,
-      r-receive .receive-sound .kept .1 .1 .1 .1 .0,
+      r-receive .receive-sound .kept .1 .1 .1 .1 .1 .0,
       head-few (s .args .line .now) (s .args .l) (s .pre .0) (s .pre .1 .0),
       s .pre .1 .1 .1,
     )
@@ -109,13 +109,13 @@ returns c =
     let p = s .pre in
     let l = a .line .now in
     let m = a .state .now in
-    let e : receive.result (r-receive .receive-sound .result) (r-receive .receive-sound .last .0) (r-receive .receive-sound .last .1 .1 .1 .1 .0)
-    ≡ receive.received m (frameSaid (a .l)) (replicate 512 0) =
+    let e : receive.result (r-receive .receive-sound .result) (r-receive .receive-sound .last .0) (r-receive .receive-sound .last .1 .1 .1 .1 .1 .0)
+    ≡ receive.received m (logged (frameSaid (a .l))) (replicate 512 0) =
     r-receive .receive-sound .ensures
-    ∙ ap (λ (n : ℕ). lent m (replicate 512 0) (step (setupOf m) (placesOf m) (arriving (frameOf (a .l .id) (take n (a .l .bytes)) (a .l .time)) (replicate 512 0))))
+    ∙ ap (λ (n : ℕ). lent m (replicate 512 0) (step (setupOf m) (placesOf m) (arriving (arrivalOf (a .l .id) (take n (a .l .bytes)) 0 (a .l .time)) (replicate 512 0))))
     (sub-zero (a .l .len))
-    ∙ sym (tested m (frameSaid (a .l)) (replicate 512 0) (p .1 .1 .0)) in (
-      replied l (a .l) (p .0) (p .1 .0) m (r-receive .receive-sound .last .0) (r-receive .receive-sound .last .1 .1 .1 .1 .0) (a .out .now)
+    ∙ sym (tested m (logged (frameSaid (a .l))) (replicate 512 0) (p .1 .1 .0)) in (
+      replied l (a .l) (p .0) (p .1 .0) m (r-receive .receive-sound .last .0) (r-receive .receive-sound .last .1 .1 .1 .1 .1 .0) (a .out .now)
           (r-copy-at .copy-at .last .0) (r-put-answer .put-answer .last .0) (a .c) (r-counted .counted .result) (r-receive .receive-sound .result) (a .at)
           (r-put-answer .put-answer .result)
           (omega (arith, head-few l (a .l) (p .0) (p .1 .0), p .1 .1 .1))
@@ -125,14 +125,14 @@ returns c =
           (r-counted .counted .ensures ∙ ap (counted (a .c)) (r-is-handed .is-handed .ensures)),
       (
         ap (λ (x : receive.Result). soundState (x .state)) e
-            ∙ r-lasts .state-lasts .ensures m (frameSaid (a .l)) (replicate 512 0) (p .1 .1 .0)
+            ∙ r-lasts .state-lasts .ensures m (logged (frameSaid (a .l))) (replicate 512 0) (p .1 .1 .0)
             (octets-all m (λ i. omega (arith, k .slice-known .given i))) (in-range l (a .l) (p .0) (p .1 .0)) .0,
         omega (
           arith,
           r-put-answer .put-answer .ensures .1,
           head-few l (a .l) (p .0) (p .1 .0),
           least l (a .l) (p .0) (p .1 .0),
-          r-receive .receive-sound .kept .1 .1 .1 .1 .0,
+          r-receive .receive-sound .kept .1 .1 .1 .1 .1 .0,
         ),
       ),
     )

@@ -39,6 +39,7 @@ called m out bs h q a p f = record {
   named = q .named a;
   destination = q .destination;
   payload = subst (λ (x : List ℕ). length x ≤ 7) (sym f) (omega (arith, length-take-le (length bs - 1) bs (omega arith), q .few-bytes));
+  interface = q .interface;
   room = q .room;
 }
 

@@ -1,7 +1,7 @@
 -- `receive` meets its contract: a state at fault answers 20, any other is stepped.
 use mathlib.Core.Path.{sym, ap, _∙_}
 use mathlib.Core.Bool.{Bool}
-use Rattle.receiver.specs.Receive.{frameOf, receivedIf, received}
+use Rattle.receiver.specs.Receive.{arrivalOf, receivedIf, received}
 use borrow.Author.Needs.{needs}
 use Rattle.receiver.proofs.receive.Statement.{statement}
 use Rattle.receiver.proofs.receive.Tie as tie
@@ -25,7 +25,7 @@ returns c =
     let t = r .before .before .before in
     let n = t .before in
     let a = n .before .before .before .before .before .args in
-    r .receive-sound .ensures ∙ ap (λ (b : Bool). receivedIf b (a .state .now) (frameOf (a .id) (a .frame .now) (a .time)) (a .out .now)) (sym (sym (n .is-sound .ensures) ∙ t .if1 .taken))
+    r .receive-sound .ensures ∙ ap (λ (b : Bool). receivedIf b (a .state .now) (arrivalOf (a .id) (a .frame .now) (a .interface) (a .time)) (a .out .now)) (sym (sym (n .is-sound .ensures) ∙ t .if1 .taken))
 
 same-length-3 : tie.Need-same-length-3
 same-length-3 c = search needs
@@ -35,7 +35,7 @@ unfolding received receivedIf
 returns-2 c =
     let n = c .before in
     let a = n .before .before .before .before .before .args in
-    ap (λ (b : Bool). receivedIf b (a .state .now) (frameOf (a .id) (a .frame .now) (a .time)) (a .out .now)) (sym (sym (n .is-sound .ensures) ∙ c .if1 .left))
+    ap (λ (b : Bool). receivedIf b (a .state .now) (arrivalOf (a .id) (a .frame .now) (a .interface) (a .time)) (a .out .now)) (sym (sym (n .is-sound .ensures) ∙ c .if1 .left))
 
 pub receive-spec : {M : Type 1} → statement M
 receive-spec =

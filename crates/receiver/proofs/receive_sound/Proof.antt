@@ -3,7 +3,7 @@ use mathlib.Core.Path.{_≡_, refl, sym, ap, ap₂, subst, _∙_}
 use mathlib.Core.Bool.{Bool, true, false}
 use mathlib.Core.List.{List}
 use mathlib.Core.Option.{some}
-use Prim.Native.Nat.{ℕ, _-_, _≤_, _<_}
+use Prim.Native.Nat.{ℕ, _%_, _≤_, _<_}
 use native.Mathlib.Omega.{arith}
 use lib.Dec.{eqb}
 use lib.ListN.{length, getD}
@@ -14,7 +14,7 @@ use Rattle.frame.specs.inside.Head.{headOf, headTestsOf}
 use Rattle.frame.specs.inside.Head as head
 use Rattle.frame.specs.declared.head.Head.{Head}
 use Rattle.frame.proofs.Heads.{source-is, type-lt, transfer-type-lt, destination-lt}
-use Rattle.receiver.specs.Receive.{result, frameOf, arriving, lent}
+use Rattle.receiver.specs.Receive.{result, arrivalOf, arriving, lent}
 use Rattle.receiver.specs.inside.Called.{Accepted}
 use Rattle.receiver.proofs.Checks.{Readable, readable, HeadPasses, head-passes, under, not-asked, read-refuses, head-refuses, not-subscribed, no-room, accepted, heads, parsed-is, step-refused, step-accepted}
 use Rattle.receiver.proofs.Lent.{untouched}
@@ -36,7 +36,7 @@ use Rattle.receiver.proofs.receive_sound.Statement.{statement}
 use Rattle.receiver.proofs.receive_sound.Tie as tie
 
 -- a frame that is refused leaves everything as it was
-refusing : (m out : List ℕ) → soundState m ≡ true → Octets m → (f : rules.Frame) (n : ℕ) → check (setupOf m) (arriving f out) ≡ some n
+refusing : (m out : List ℕ) → soundState m ≡ true → Octets m → (f : rules.Arrival) (n : ℕ) → check (setupOf m) (arriving f out) ≡ some n
     → result (Refused n) m out ≡ lent m out (step (setupOf m) (placesOf m) (arriving f out))
 refusing m out fine b f n e =
     untouched m fine b out (record { answer = refused n; places = placesOf m }) (Refused n) refl refl out refl
@@ -61,14 +61,14 @@ kind-small t k e = go (eqb t 0) e where
 octets : (b : tie.After-slice-known) → Octets (b .before .args .state .now)
 octets b = octets-all (b .before .args .state .now) (λ i. omega (arith, b .slice-known .given i))
 
-read-ok : (e : tie.Else1) → let s = e .before .before .before .before .before in Readable (s .args .id) (length (s .args .frame .now))
+read-ok : (e : tie.Else1) → let s = e .before .before .before .before .before in Readable (s .args .id) (length (s .args .frame .now)) (s .args .interface)
 read-ok e =
     let a = e .before .before .before .before .before .args in
-    readable (a .id) (length (a .frame .now)) (e .before .unreadable .result) (e .before .unreadable .ensures) (e .if1 .left)
+    readable (a .id) (length (a .frame .now)) (a .interface) (e .before .unreadable .result) (e .before .unreadable .ensures) (e .if1 .left)
 
 -- the number of the checks 4 to 6
 heads-number : (r : tie.After-refusal) → let a = r .before .before .before .before .before .before .before .before .before .args in
-    r .refusal .result ≡ orZero (heads (setupOf (a .state .now)) (a .id) (a .time) (a .frame .now) (a .out .now))
+    r .refusal .result ≡ orZero (heads (setupOf (a .state .now)) (a .id) (a .interface) (a .time) (a .frame .now) (a .out .now))
 unfolding setupOf headOf
 heads-number r =
     let d = r .before .before in
@@ -89,11 +89,12 @@ unfolding headOf
 type-fits id tail = type-lt id
 
 -- what the frame is, from the checks that it passed
-accepts : (s : tie.Start) (h : Head) (g : ℕ) → let a = s .args in h ≡ headOf (a .id) (tailOf (a .frame .now)) → Readable (a .id) (length (a .frame .now))
-    → (r : ℕ) → r ≡ orZero (heads (setupOf (a .state .now)) (a .id) (a .time) (a .frame .now) (a .out .now)) → r ≤ 0 → 512 ≤ length (a .out .now)
-    → Accepted (a .state .now) (record { head = h; signature = g; time = a .time }) (a .frame .now) (a .out .now)
+accepts : (s : tie.Start) (h : Head) (g i : ℕ) → let a = s .args in h ≡ headOf (a .id) (tailOf (a .frame .now)) → Readable (a .id) (length (a .frame .now)) (a .interface)
+    → (r : ℕ) → r ≡ orZero (heads (setupOf (a .state .now)) (a .id) (a .interface) (a .time) (a .frame .now) (a .out .now)) → r ≤ 0 → 512 ≤ length (a .out .now)
+    → i ≡ a .interface
+    → Accepted (a .state .now) (record { head = h; signature = g; time = a .time; interface = i }) (a .frame .now) (a .out .now)
 unfolding headOf
-accepts s h g e k r f z room =
+accepts s h g i e k r f z room by =
     let a = s .args in
     let bs = a .frame .now in
     let q = head-passes (setupOf (a .state .now) .own) (rules.streamOf (a .id)) (isStart (tailOf bs)) (isEnd (tailOf bs)) (toggleOf (tailOf bs)) (length bs) r f z in
@@ -108,6 +109,7 @@ accepts s h g e k r f z room =
       destination = subst (λ (x : Head). x .destination < 128) (sym e) (destination-lt (a .id));
       some-bytes = k .some-bytes;
       few-bytes = k .few-bytes;
+      interface = omega (arith, k .interface);
       room = room;
     }
 
@@ -118,8 +120,8 @@ returns : tie.Need-returns
 returns c =
     let b = c .before .before .before .before in
     let a = b .before .args in
-    refusing (a .state .now) (a .out .now) (b .before .pre) (octets b) (frameOf (a .id) (a .frame .now) (a .time)) (c .before .unreadable .result)
-    (read-refuses (setupOf (a .state .now)) (a .id) (a .time) (a .frame .now) (a .out .now) (c .before .unreadable .result) (c .before .unreadable .ensures) (c .if1 .taken))
+    refusing (a .state .now) (a .out .now) (b .before .pre) (octets b) (arrivalOf (a .id) (a .frame .now) (a .interface) (a .time)) (c .before .unreadable .result)
+    (read-refuses (setupOf (a .state .now)) (a .id) (a .interface) (a .time) (a .frame .now) (a .out .now) (c .before .unreadable .result) (c .before .unreadable .ensures) (c .if1 .taken))
 
 sub-read : tie.Need-sub-read
 sub-read c = omega (arith, read-ok c .some-bytes)
@@ -142,8 +144,8 @@ returns-2 c =
     let e = r .before .before .before .before in
     let b = e .before .before .before .before in
     let a = b .before .args in
-    refusing (a .state .now) (a .out .now) (b .before .pre) (octets b) (frameOf (a .id) (a .frame .now) (a .time)) (r .refusal .result)
-    (head-refuses (setupOf (a .state .now)) (a .id) (a .time) (a .frame .now) (a .out .now) (e .before .unreadable .result) (e .before .unreadable .ensures) (e .if1 .left)
+    refusing (a .state .now) (a .out .now) (b .before .pre) (octets b) (arrivalOf (a .id) (a .frame .now) (a .interface) (a .time)) (r .refusal .result)
+    (head-refuses (setupOf (a .state .now)) (a .id) (a .interface) (a .time) (a .frame .now) (a .out .now) (e .before .unreadable .result) (e .before .unreadable .ensures) (e .if1 .left)
     (r .refusal .result) (heads-number r) (c .if2 .taken))
 
 kind-requires : tie.Need-kind-requires
@@ -183,9 +185,12 @@ returns-3 c =
     let b = e .before .before .before .before in
     let a = b .before .args in
     let u = setupOf (a .state .now) in
-    refusing (a .state .now) (a .out .now) (b .before .pre) (octets b) (frameOf (a .id) (a .frame .now) (a .time)) 8
-    (no-room u (a .id) (a .time) (a .frame .now) (a .out .now) (e .before .unreadable .result) (e .before .unreadable .ensures) (e .if1 .left)
+    refusing (a .state .now) (a .out .now) (b .before .pre) (octets b) (arrivalOf (a .id) (a .frame .now) (a .interface) (a .time)) 8
+    (no-room u (a .id) (a .interface) (a .time) (a .frame .now) (a .out .now) (e .before .unreadable .result) (e .before .unreadable .ensures) (e .if1 .left)
     (r .refusal .result) (heads-number r) (i .if2 .left) _ (under (signatureFor u (a .id)) _ (found n ∙ g .signature .given .1)) (c .if3 .taken))
+
+cast-t28 : tie.Need-cast-t28
+cast-t28 c = search needs
 
 accept-requires : tie.Need-accept-requires
 accept-requires c κs =
@@ -196,7 +201,7 @@ accept-requires c κs =
     let d = r .before .before in
     let e = d .before .before in
     let s = e .before .before .before .before .before in
-    accepts s (d .read .result) _ (d .read .ensures) (read-ok e) (r .refusal .result) (heads-number r) (i .if2 .left) (l .if3 .left)
+    accepts s (d .read .result) _ _ (d .read .ensures) (read-ok e) (r .refusal .result) (heads-number r) (i .if2 .left) (l .if3 .left) (omega (arith, read-ok e .interface))
 
 same-length-2 : tie.Need-same-length-2
 same-length-2 c = search needs
@@ -210,8 +215,8 @@ returns-4 c =
     let b = e .before .before .before .before in
     let a = b .before .args in
     let u = setupOf (a .state .now) in
-    refusing (a .state .now) (a .out .now) (b .before .pre) (octets b) (frameOf (a .id) (a .frame .now) (a .time)) 7
-    (not-subscribed u (a .id) (a .time) (a .frame .now) (a .out .now) (e .before .unreadable .result) (e .before .unreadable .ensures) (e .if1 .left)
+    refusing (a .state .now) (a .out .now) (b .before .pre) (octets b) (arrivalOf (a .id) (a .frame .now) (a .interface) (a .time)) 7
+    (not-subscribed u (a .id) (a .interface) (a .time) (a .frame .now) (a .out .now) (e .before .unreadable .result) (e .before .unreadable .ensures) (e .if1 .left)
     (r .refusal .result) (heads-number r) (i .if2 .left) (not-asked (signatureFor u (a .id)) (found n ∙ c .enum-told .given .1)))
 
 same-length-3 : tie.Need-same-length-3
@@ -237,11 +242,14 @@ returns-5 c =
     let bs = a .frame .now in
     let u = setupOf m in
     let q = under (signatureFor u (a .id)) _ (found n ∙ g .signature .given .1) in
+    let small : a .interface % 256 ≡ a .interface = omega (arith, read-ok e .interface) in
     p .accept .ensures
-    ∙ ap (λ (h : Head). lent m out (stepAnonymous (rules.unnamed (head.streamOf h)) (placesOf m) (parsedOf (record { head = h; signature = g .signature .given .0 .0; time = a .time }) (payloadOf bs)))) (d .read .ensures)
-    ∙ ap (λ (v : Parsed). lent m out (stepAnonymous (isAnonymous (a .id)) (placesOf m) v)) (parsed-is u (a .id) (a .time) (g .signature .given .0 .0) bs q)
-    ∙ ap (lent m out) (sym (step-accepted u (placesOf m) (arriving (frameOf (a .id) bs (a .time)) out)
-    (accepted u (a .id) (a .time) bs out (e .before .unreadable .result) (e .before .unreadable .ensures) (e .if1 .left) (r .refusal .result) (heads-number r) (i .if2 .left) _ q (l .if3 .left))))
+    ∙ ap (λ (h : Head). lent m out (stepAnonymous (rules.unnamed (head.streamOf h)) (placesOf m) (parsedOf (record { head = h; signature = g .signature .given .0 .0; time = a .time; interface = a .interface % 256 }) (payloadOf bs)))) (d .read .ensures)
+    ∙ ap (λ (v : Parsed). lent m out (stepAnonymous (isAnonymous (a .id)) (placesOf m) v))
+    (ap (λ (i : ℕ). parsedOf (record { head = headOf (a .id) (tailOf bs); signature = g .signature .given .0 .0; time = a .time; interface = i }) (payloadOf bs)) small
+    ∙ parsed-is u (a .id) (a .interface) (a .time) (g .signature .given .0 .0) bs q)
+    ∙ ap (lent m out) (sym (step-accepted u (placesOf m) (arriving (arrivalOf (a .id) bs (a .interface) (a .time)) out)
+    (accepted u (a .id) (a .interface) (a .time) bs out (e .before .unreadable .result) (e .before .unreadable .ensures) (e .if1 .left) (r .refusal .result) (heads-number r) (i .if2 .left) _ q (l .if3 .left))))
 
 pub receive-sound-spec : {M : Type 1} → statement M
 receive-sound-spec =
@@ -262,6 +270,7 @@ receive-sound-spec =
     enum-known-signature
     same-length
     returns-3
+    cast-t28
     accept-requires
     same-length-2
     returns-4

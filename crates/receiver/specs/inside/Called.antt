@@ -5,7 +5,7 @@ use mathlib.Core.List.{List}
 use Prim.Native.Nat.{ℕ, _≤_, _<_}
 use lib.ListN.{length}
 use Rattle.rules.specs.Frame.{unnamed}
-use Rattle.rules.specs.Limits.{payloadMax, frameData, framePayload}
+use Rattle.rules.specs.Limits.{payloadMax, frameData, framePayload, interfacesMax}
 use Rattle.session.specs.inside.Session.{streamOf}
 use Rattle.session.specs.declared.Incoming.{Incoming}
 use Rattle.state.specs.Sound.{soundState}
@@ -22,6 +22,7 @@ pub record Accepted (m : List ℕ) (h : Incoming) (bs out : List ℕ) : Type 0 w
   pub destination : h .head .destination < 128
   pub some-bytes : 0 < length bs
   pub few-bytes : length bs ≤ frameData
+  pub interface : h .interface < interfacesMax
   pub room : payloadMax ≤ length out
 
 -- the same of a frame with a named source and its payload
@@ -35,4 +36,5 @@ pub record Called (m : List ℕ) (h : Incoming) (p out : List ℕ) : Type 0 wher
   pub named : h .head .source ≡ 0 → ⊥
   pub destination : h .head .destination < 128
   pub payload : length p ≤ framePayload
+  pub interface : h .interface < interfacesMax
   pub room : payloadMax ≤ length out

@@ -16,7 +16,7 @@ use Rattle.session.specs.declared.Session.{Session}
 
 -- the bytes gathered are the first `len` of the array
 unfoldable pub sessionOf : Session → rules.Session
-sessionOf s = record { expected = s .expected; gathered = take (s .len) (s .bytes); toggle = s .toggle; since = s .time }
+sessionOf s = record { expected = s .expected; gathered = take (s .len) (s .bytes); toggle = s .toggle; since = s .time; follows = s .follows }
 
 -- RULES 5.4: what a session of the receiver always keeps
 pub record InRange (s : Session) : Type 0 where
@@ -39,25 +39,26 @@ parsedOf h p =
       transfer = h .head .transfer;
       payload = p;
       time = h .time;
+      interface = h .interface;
     }
 
 -- RULES 4.7: a frame's bytes added and the toggle turned, and the time set by a start
 abbrev pub added : rules.Session → Bool → ℕ → List ℕ → rules.Session
 added s start time p =
-    record { expected = s .expected; gathered = s .gathered ++ p; toggle = not (s .toggle); since = pick start time (s .since) }
+    record { expected = s .expected; gathered = s .gathered ++ p; toggle = not (s .toggle); since = pick start time (s .since); follows = s .follows }
 
 -- a fresh session holds zero bytes, none of them gathered
-abbrev pub freshOf : ℕ → ℕ → Session
-freshOf transfer time = record { expected = transfer; toggle = false; time = time; len = 0; bytes = replicate gatheredMax 0 }
+abbrev pub freshOf : ℕ → ℕ → ℕ → Session
+freshOf transfer time interface = record { expected = transfer; toggle = false; time = time; follows = interface; len = 0; bytes = replicate gatheredMax 0 }
 
 -- what decides on a frame, of a session of the rules
 abbrev pub progressOf : rules.Session → Progress
-progressOf s = record { expected = s .expected; toggle = s .toggle; time = s .since; len = length (s .gathered) }
+progressOf s = record { expected = s .expected; toggle = s .toggle; time = s .since; follows = s .follows; len = length (s .gathered) }
 
 -- a session of the rules from what decides on a frame: of the bytes only their number counts there
 abbrev pub bare : Progress → rules.Session
-bare c = record { expected = c .expected; gathered = replicate (c .len) 0; toggle = c .toggle; since = c .time }
+bare c = record { expected = c .expected; gathered = replicate (c .len) 0; toggle = c .toggle; since = c .time; follows = c .follows }
 
 -- the session with these bytes
 abbrev pub whole : Progress → List ℕ → Session
-whole c bytes = record { expected = c .expected; toggle = c .toggle; time = c .time; len = c .len; bytes = bytes }
+whole c bytes = record { expected = c .expected; toggle = c .toggle; time = c .time; follows = c .follows; len = c .len; bytes = bytes }

@@ -52,6 +52,7 @@ pub struct Arrival<'a> {
     pub state: &'a mut Lent,
     pub id: u32,
     pub data: &'a mut Lent,
+    pub interface: u32,
     pub time: u64,
     pub out: &'a mut Lent,
 }
@@ -119,6 +120,7 @@ pub fn receive(call: &mut Arrival) -> u64 {
     let frame = Frame {
         id: call.id,
         data: call.data.content(),
+        interface: call.interface,
         time: call.time,
     };
     entry::receive(call.state.content_mut(), &frame, call.out.content_mut())

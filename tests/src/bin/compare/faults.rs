@@ -11,7 +11,7 @@ type Fault = (&'static str, fn(&mut Random, &mut [u8]));
 
 pub const TOO_SHORT: &str = "20: shorter than its layout";
 
-pub const FAULTS: [Fault; 16] = [
+pub const FAULTS: [Fault; 17] = [
     ("20: own ID over 127", |random, state| {
         state[OWN] = random.between(128, 255) as u8;
     }),
@@ -75,15 +75,17 @@ pub const FAULTS: [Fault; 16] = [
         let place = settle(random, state);
         state[CONTROLS + 4 * place + 2] = random.between(32, 255) as u8;
     }),
-    ("20: toggle over 1", |random, state| {
-        let place = settle(random, state);
-        state[CONTROLS + 4 * place..][..2].copy_from_slice(&[7, 0]);
-        state[CONTROLS + 4 * place + 3] = random.between(2, 255) as u8;
+    ("20: followed interface 3", |random, state| {
+        put_flags(random, state, 7, 3);
+    }),
+    ("20: followed interface over 3", |random, state| {
+        let follows = random.between(4, 127) as u8;
+        put_flags(random, state, 7, follows);
     }),
     ("20: toggle 1 with nothing in hand", |random, state| {
-        let place = settle(random, state);
-        state[CONTROLS + 4 * place..][..2].fill(0);
-        state[CONTROLS + 4 * place + 3] = 1;
+        let follows = random.below(3) as u8;
+        let place = put_flags(random, state, 0, follows);
+        state[CONTROLS + 4 * place + 3] |= 1;
     }),
 ];
 
@@ -102,6 +104,14 @@ fn put_subscription(random: &mut Random, state: &mut [u8], key: u32) -> usize {
 fn put_stream(random: &mut Random, state: &mut [u8], key: u32) {
     let place = settle(random, state);
     put_u32(state, STREAM_KEYS + 4 * place, key);
+}
+
+/// Gives a session so many bytes in hand, any toggle and a followed interface; gives its place.
+fn put_flags(random: &mut Random, state: &mut [u8], in_hand: u8, follows: u8) -> usize {
+    let place = settle(random, state);
+    state[CONTROLS + 4 * place..][..2].copy_from_slice(&[in_hand, 0]);
+    state[CONTROLS + 4 * place + 3] = follows << 1 | random.below(2) as u8;
+    place
 }
 
 fn service(random: &mut Random, type_id: u32, source: u32, destination: u32) -> u32 {

@@ -3,8 +3,10 @@
 //! Without `--self`, `--mutant`, `--mutants` or `--codec` the other side is the archive, which the
 //! feature `link` links.
 
+mod cables;
 mod entry_points;
 mod faults;
+mod interface_mutants;
 mod lent;
 #[cfg(feature = "link")]
 mod linked;

@@ -5,12 +5,13 @@ use crate::entry_points::{
     frames_in, receive, send, Arrival, Departure, EntryPoints, Receive, Reception, Send, Sending,
     Serialization, REFERENCE,
 };
+use crate::interface_mutants;
 use reference::bits::Refusal;
 use reference::codec::Decode;
 use reference::frame::{Stream, Tail};
 use reference::map::Map;
 use reference::messages::{self, Message, MessageType};
-use reference::receive::Receiver;
+use reference::receive::{Receiver, INTERFACES};
 use reference::session::{Session, MOST_GATHERED};
 use reference::state;
 
@@ -30,7 +31,8 @@ pub struct Mutant {
 }
 
 pub fn all() -> Vec<Mutant> {
-    vec![
+    let interfaces = interface_mutants::ALL.map(|(name, receive)| receiving(name, receive));
+    let others = [
         receiving("repeated-start-is-new", repeated_start_is_new),
         receiving("passed-over-turns-toggle", passed_over_turns_toggle),
         receiving("age-from-last-frame", age_from_last_frame),
@@ -57,7 +59,8 @@ pub fn all() -> Vec<Mutant> {
             Part::Requests,
             first_letter_is_length,
         ),
-    ]
+    ];
+    others.into_iter().chain(interfaces).collect()
 }
 
 fn receiving(name: &'static str, receive: Receive) -> Mutant {
@@ -114,7 +117,7 @@ fn edit(call: &mut Arrival, change: impl FnOnce(&mut Receiver)) {
 }
 
 /// Changes the session of the frame's stream, if there is one.
-fn edit_session(call: &mut Arrival, change: impl FnOnce(&mut Session)) {
+pub fn edit_session(call: &mut Arrival, change: impl FnOnce(&mut Session)) {
     let stream = Stream::of_id(call.id);
     edit(call, |receiver| {
         let place = receiver.place_of(&stream);
@@ -124,9 +127,22 @@ fn edit_session(call: &mut Arrival, change: impl FnOnce(&mut Session)) {
     });
 }
 
+/// Receives after a change of the session, which a refusal undoes.
+pub fn receive_changed(call: &mut Arrival, change: impl FnOnce(&mut Session)) -> u64 {
+    let before = call.state.content().to_vec();
+    edit_session(call, change);
+    let word = receive(call);
+    if word & 255 > 1 {
+        call.state.content_mut().copy_from_slice(&before);
+    }
+    word
+}
+
 /// Makes a session for the frame's stream in a place, unless it has one.
 fn take_place(call: &mut Arrival, place: impl FnOnce(&Receiver) -> Option<usize>) {
-    let session = Session::new(Stream::of_id(call.id), tail(call).transfer_id, call.time);
+    let (stream, tail) = (Stream::of_id(call.id), tail(call));
+    let interface = (call.interface % u32::from(INTERFACES)) as u8;
+    let session = Session::new(stream, tail.transfer_id, interface, call.time);
     edit(call, |receiver| {
         if let (Some(place), None) = (place(receiver), receiver.place_of(&session.stream)) {
             receiver.places[place] = Some(session);
@@ -134,7 +150,7 @@ fn take_place(call: &mut Arrival, place: impl FnOnce(&Receiver) -> Option<usize>
     });
 }
 
-fn tail(call: &Arrival) -> Tail {
+pub fn tail(call: &Arrival) -> Tail {
     Tail::of_byte(call.data.content().last().copied().unwrap_or(0))
 }
 
@@ -143,17 +159,11 @@ fn repeated_start_is_new(call: &mut Arrival) -> u64 {
     if !tail.start {
         return receive(call);
     }
-    let before = call.state.content().to_vec();
-    edit_session(call, |session| {
+    receive_changed(call, |session| {
         session.gathered.clear();
         session.toggle = false;
         session.expected_id = tail.transfer_id;
-    });
-    let word = receive(call);
-    if word & 255 > 1 {
-        call.state.content_mut().copy_from_slice(&before);
-    }
-    word
+    })
 }
 
 fn passed_over_turns_toggle(call: &mut Arrival) -> u64 {

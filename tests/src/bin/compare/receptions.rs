@@ -15,7 +15,7 @@ use reference::receive::{Frame, Receiver};
 use reference::session::MOST_GATHERED;
 use reference::state::{self, GATHERED, SIZE};
 
-const NUMBERS: [u32; 14] = [0, 1, 2, 3, 4, 5, 6, 7, 8, 9, 10, 11, 12, 20];
+const NUMBERS: [u32; 15] = [0, 1, 2, 3, 4, 5, 6, 7, 8, 9, 10, 11, 12, 19, 20];
 const STILL_VALID: &str = "bytes altered, no fault";
 const ALTERED: &str = "20: bytes altered";
 const AS_NULL: &str = "20: NULL";
@@ -215,6 +215,7 @@ impl Buffers {
             state: &mut state.actual,
             id: call.id,
             data: &mut self.data.actual,
+            interface: call.interface,
             time: call.time,
             out: &mut self.out.actual,
         });
@@ -233,6 +234,7 @@ fn frame(call: &Call) -> Frame<'_> {
     Frame {
         id: call.id,
         data: &call.data,
+        interface: call.interface,
         time: call.time,
     }
 }

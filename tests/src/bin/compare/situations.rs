@@ -1,11 +1,11 @@
 //! Names for what a frame met in the receiver, so that the counts show which rules were driven.
 
 use crate::traffic::Call;
-use reference::frame::{Stream, Tail, ID_END, TRANSFER_IDS};
+use reference::frame::{forward_distance, Stream, Tail, ID_END, TRANSFER_IDS};
 use reference::receive::{Answer, Receiver, LONGEST_PAYLOAD};
-use reference::session::{Session, TIMEOUT};
+use reference::session::{Piece, Restart, Session, FAR_AHEAD, SWITCH_DELAY, TIMEOUT};
 
-pub const CASES: [&str; 41] = [
+pub const CASES: [&str; 57] = [
     "0: new session in an empty place",
     "0: new session in an old one's place",
     "0: old session restarted by a start",
@@ -14,6 +14,7 @@ pub const CASES: [&str; 41] = [
     "0: start out of order, nothing in hand",
     "0: later frame",
     "1: anonymous",
+    "1: anonymous, not by interface 0",
     "1: single frame, new session in an empty place",
     "1: single frame, new session in an old one's place",
     "1: single frame, session there",
@@ -35,6 +36,7 @@ pub const CASES: [&str; 41] = [
     "9: all sessions younger",
     "10: no session, no start",
     "10: old session, no start",
+    "10: another interface",
     "10: toggle differs",
     "10: transfer ID differs",
     "10: start with bytes in hand",
@@ -42,6 +44,20 @@ pub const CASES: [&str; 41] = [
     "11: at an end",
     "11: before an end",
     "12: checksum differs",
+    "19: interface 3",
+    "19: interface over 3",
+    "19: service with source or destination 0",
+    "restart: old",
+    "restart: out of order by the followed interface",
+    "restart: after the delay, by the followed interface",
+    "switch: old",
+    "switch: after the delay",
+    "switch: age 1,000,001",
+    "switch: 15 ahead",
+    "no switch: age exactly 1,000,000",
+    "no switch: 16 ahead",
+    "no switch: 17 ahead",
+    "no switch: one behind, after the delay",
     "new session in the place of one of age 2,000,001",
     "age exactly 2,000,000",
     "age 2,000,001",
@@ -55,6 +71,7 @@ pub struct Found {
     tail: Tail,
     payload: usize,
     room: usize,
+    interface: u32,
     named: bool,
     session: Option<Seen>,
     empty_place: bool,
@@ -67,20 +84,31 @@ struct Seen {
     in_hand: usize,
     toggle: bool,
     expected_id: u8,
+    follows: u32,
+    restart: Option<Restart>,
 }
 
 impl Found {
     pub fn new(receiver: &Receiver, call: &Call) -> Found {
         let stream = Stream::of_id(call.id % ID_END);
+        let tail = Tail::of_byte(call.data.last().copied().unwrap_or(0));
+        let piece = Piece {
+            tail,
+            payload: &[],
+            interface: call.interface as u8,
+            time: call.time,
+            signature: 0,
+        };
         let place = receiver.place_of(&stream);
         let session = place.and_then(|place| receiver.places[place].as_ref());
         Found {
             stream,
-            tail: Tail::of_byte(call.data.last().copied().unwrap_or(0)),
+            tail,
             payload: call.data.len().saturating_sub(1),
             room: call.room,
+            interface: call.interface,
             named: receiver.own != 0,
-            session: session.map(|session| Seen::new(session, call.time)),
+            session: session.map(|session| Seen::new(session, &piece)),
             empty_place: receiver.places.iter().any(Option::is_none),
             oldest: oldest_age(receiver, call.time),
         }
@@ -94,8 +122,17 @@ impl Found {
                 cases.push("1: transfer ID 31, 0 expected next");
             }
         }
+        if let (true, Some(seen)) = (matches!(answer.number(), 0 | 1 | 10..=12), &self.session) {
+            cases.push(self.restart_case(seen));
+            cases.extend(self.switch_cases(seen));
+        }
         if matches!(answer.number(), 0 | 1 | 10..=12) {
             cases.push(self.age_case(answer));
+        }
+        let service = self.stream.transfer_type.is_service();
+        let unnamed = self.stream.source == 0 || self.stream.destination == 0;
+        if *answer == Answer::NoInterface && service && unnamed {
+            cases.push("19: service with source or destination 0");
         }
         cases.retain(|case| !case.is_empty());
         cases
@@ -118,6 +155,8 @@ impl Found {
             Answer::PayloadTooLong if self.tail.end => "11: at an end",
             Answer::PayloadTooLong => "11: before an end",
             Answer::ChecksumDiffers => "12: checksum differs",
+            Answer::NoInterface if self.interface == 3 => "19: interface 3",
+            Answer::NoInterface => "19: interface over 3",
             _ => "",
         }
     }
@@ -138,7 +177,8 @@ impl Found {
 
     fn handed_out(&self, length: usize) -> &'static str {
         match &self.session {
-            _ if self.stream.is_anonymous() => "1: anonymous",
+            _ if self.stream.is_anonymous() && self.interface == 0 => "1: anonymous",
+            _ if self.stream.is_anonymous() => "1: anonymous, not by interface 0",
             _ if !self.tail.start && length == LONGEST_PAYLOAD => "1: several frames, 512 bytes",
             _ if !self.tail.start && length == 0 => "1: several frames, no payload",
             _ if !self.tail.start => "1: several frames",
@@ -164,11 +204,53 @@ impl Found {
         match &self.session {
             None => "10: no session, no start",
             Some(seen) if seen.is_old() => "10: old session, no start",
+            Some(seen) if seen.follows != self.interface => "10: another interface",
             Some(seen) if seen.toggle != self.tail.toggle => "10: toggle differs",
             Some(seen) if seen.expected_id != self.tail.transfer_id => "10: transfer ID differs",
             Some(_) if self.tail.start => "10: start with bytes in hand",
             Some(_) => "10: no start with nothing in hand",
         }
+    }
+
+    /// The term of the restart rule that applies.
+    fn restart_case(&self, seen: &Seen) -> &'static str {
+        match (seen.restart, seen.follows == self.interface) {
+            (Some(Restart::Old), true) => "restart: old",
+            (Some(Restart::Old), false) => "switch: old",
+            (Some(Restart::OutOfOrder), _) => "restart: out of order by the followed interface",
+            (Some(Restart::AfterDelay), true) => {
+                "restart: after the delay, by the followed interface"
+            }
+            (Some(Restart::AfterDelay), false) => "switch: after the delay",
+            (None, _) => "",
+        }
+    }
+
+    /// The edges of a start by another interface that finds a session not old.
+    fn switch_cases(&self, seen: &Seen) -> [&'static str; 2] {
+        const BEHIND: u8 = TRANSFER_IDS - 1;
+        const CLOSE: u8 = FAR_AHEAD - 1;
+        const FARTHER: u8 = FAR_AHEAD + 1;
+        let age = seen.age.unwrap_or(0);
+        let ahead = forward_distance(seen.expected_id, self.tail.transfer_id);
+        if seen.follows == self.interface || !self.tail.start || seen.is_old() {
+            return ["", ""];
+        }
+        [
+            match age {
+                SWITCH_DELAY if ahead < FAR_AHEAD => "no switch: age exactly 1,000,000",
+                age if age == SWITCH_DELAY + 1 && ahead < FAR_AHEAD => "switch: age 1,000,001",
+                _ => "",
+            },
+            match ahead {
+                _ if age <= SWITCH_DELAY => "",
+                CLOSE => "switch: 15 ahead",
+                FAR_AHEAD => "no switch: 16 ahead",
+                FARTHER => "no switch: 17 ahead",
+                BEHIND => "no switch: one behind, after the delay",
+                _ => "",
+            },
+        ]
     }
 
     fn age_case(&self, answer: &Answer) -> &'static str {
@@ -193,12 +275,14 @@ fn oldest_age(receiver: &Receiver, time: u64) -> u64 {
 }
 
 impl Seen {
-    fn new(session: &Session, time: u64) -> Seen {
+    fn new(session: &Session, piece: &Piece) -> Seen {
         Seen {
-            age: time.checked_sub(session.time),
+            age: piece.time.checked_sub(session.time),
             in_hand: session.gathered.len(),
             toggle: session.toggle,
             expected_id: session.expected_id,
+            follows: session.follows.into(),
+            restart: session.restart(piece),
         }
     }
 

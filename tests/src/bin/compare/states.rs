@@ -3,8 +3,8 @@
 use crate::random::Random;
 use reference::crc::transfer_checksum;
 use reference::frame::{Stream, TransferType};
-use reference::receive::{Receiver, Subscription, MOST_SUBSCRIPTIONS, PLACES};
-use reference::session::{Session, MOST_GATHERED, TIMEOUT};
+use reference::receive::{Receiver, Subscription, INTERFACES, MOST_SUBSCRIPTIONS, PLACES};
+use reference::session::{Session, MOST_GATHERED, SWITCH_DELAY, TIMEOUT};
 
 /// A receiver as C may lend it: sessions of any kind, whatever the setup.
 pub fn receiver(random: &mut Random, clock: u64) -> Receiver {
@@ -124,7 +124,13 @@ fn session(random: &mut Random, receiver: &Receiver, clock: u64) -> Session {
         gathered: random.bytes(count as usize),
         toggle: count > 0 && random.coin(),
         time: time_near(random, clock),
+        follows: interface(random),
     }
+}
+
+/// One of the interfaces that there are.
+pub fn interface(random: &mut Random) -> u8 {
+    random.below(u64::from(INTERFACES)) as u8
 }
 
 pub fn transfer_id(random: &mut Random) -> u8 {
@@ -134,14 +140,15 @@ pub fn transfer_id(random: &mut Random) -> u8 {
     }
 }
 
-/// A time that a frame at `clock` may find in a session: recent, at the edge, old, or later.
+/// A time that a frame at `clock` may find in a session: recent, at an edge, old, or later.
 pub fn time_near(random: &mut Random, clock: u64) -> u64 {
-    match random.below(12) {
+    match random.below(14) {
         0 => random.next(),
         1 => random.pick(&[0, u64::MAX]),
         2 => clock.saturating_add(random.below(TIMEOUT)),
         3..=5 => clock.saturating_sub(TIMEOUT + random.below(3)),
         6 => clock.saturating_sub(random.below(3 * TIMEOUT)),
+        7 | 8 => clock.saturating_sub(SWITCH_DELAY - 1 + random.below(3)),
         _ => clock.saturating_sub(random.below(TIMEOUT)),
     }
 }

@@ -1,13 +1,14 @@
-//! Bus traffic at random: nodes that talk over a poor link, frames aimed at a session, and frames
-//! of any shape.
+//! Bus traffic at random: nodes that talk over a poor link by one cable or two, frames aimed at a
+//! session, and frames of any shape.
 
+use crate::cables::{any_interface, other_interface, Cables, Carried};
 use crate::random::Random;
 use crate::states;
 use reference::crc::transfer_checksum;
 use reference::frame::{next_transfer_id, Stream, Tail, ID_END};
 use reference::receive::{Receiver, LONGEST_PAYLOAD};
 use reference::send::split;
-use reference::session::{Session, MOST_GATHERED, TIMEOUT};
+use reference::session::{Session, FAR_AHEAD, MOST_GATHERED, SWITCH_DELAY, TIMEOUT};
 
 pub const MOST_DATA: usize = 20;
 pub const MOST_ROOM: usize = 600;
@@ -17,6 +18,7 @@ pub const MOST_ROOM: usize = 600;
 pub struct Call {
     pub id: u32,
     pub data: Vec<u8>,
+    pub interface: u32,
     pub time: u64,
     pub room: usize,
     pub null: bool,
@@ -34,6 +36,7 @@ enum Mood {
 
 pub struct Traffic {
     talkers: Vec<Talker>,
+    cables: Cables,
     clock: u64,
     pace: u64,
     mood: Mood,
@@ -41,7 +44,7 @@ pub struct Traffic {
 
 impl Traffic {
     pub fn new(random: &mut Random, receiver: &Receiver, clock: u64) -> Traffic {
-        let mood = match random.below(32) {
+        let mood = match random.below(56) {
             0 => Mood::Calm,
             1 | 2 => Mood::Mixed,
             _ => Mood::Aimed,
@@ -54,6 +57,7 @@ impl Traffic {
         let count = random.pick(counts);
         Traffic {
             talkers: (0..count).map(|_| Talker::new(random, receiver)).collect(),
+            cables: Cables::new(random),
             clock,
             pace: random.pick(paces),
             mood,
@@ -70,40 +74,72 @@ impl Traffic {
     }
 
     pub fn next(&mut self, random: &mut Random, receiver: &Receiver) -> Call {
-        self.clock = self.clock.saturating_add(random.below(self.pace));
-        let session = notable(random, receiver);
         let disturbed = self.mood != Mood::Calm || random.once_in(100);
+        let clock = self.clock.saturating_add(random.below(self.pace));
+        if let Some(copy) = self.cables.come_by(clock) {
+            return self.carried(random, copy, disturbed);
+        }
+        self.clock = clock;
+        let session = notable(random, receiver);
         let share = match self.mood {
             Mood::Calm if !disturbed => 0,
             Mood::Aimed => random.between(45, 90),
             _ => random.below(100),
         };
-        let ((id, data), near) = match (share, session) {
+        let ((id, data), interface, near) = match (share, session) {
             (0..=49, _) => {
+                let near = session.filter(|_| disturbed && random.once_in(16));
+                let time = self.time(random, near.map(|session| (session, TIMEOUT)), disturbed);
                 let talker = random.index(self.talkers.len());
-                let one = self.talkers[talker].speak(random, receiver);
-                (one, disturbed && random.once_in(16))
+                let frame = self.talkers[talker].speak(random, receiver);
+                let carried = self.cables.carry(random, frame, time);
+                return self.carried(random, carried, disturbed);
             }
-            (50..=84, Some(session)) => (aimed(random, receiver, session), random.once_in(5)),
-            _ => (wild(random, receiver), random.once_in(4)),
+            (50..=84, Some(session)) => {
+                let age = random.pick(&[SWITCH_DELAY, TIMEOUT]);
+                (
+                    aimed(random, receiver, session),
+                    aimed_interface(random, session),
+                    random.once_in(4).then_some((session, age)),
+                )
+            }
+            _ => (
+                wild(random, receiver),
+                any_interface(random),
+                session
+                    .filter(|_| random.once_in(3))
+                    .map(|one| (one, TIMEOUT)),
+            ),
         };
         Call {
             id,
             data,
-            time: self.time(random, session.filter(|_| near), disturbed),
-            room: if disturbed {
-                room(random)
-            } else {
-                LONGEST_PAYLOAD
-            },
+            interface,
+            time: self.time(random, near, disturbed),
+            room: room(random, disturbed),
             null: random.coin(),
         }
     }
 
-    /// The frame's time: the clock's, or one near the edge of a session's age. The clock may leap.
-    fn time(&mut self, random: &mut Random, near: Option<&Session>, disturbed: bool) -> u64 {
-        if let Some(session) = near {
-            let edge = session.time.saturating_add(TIMEOUT - 1 + random.below(3));
+    /// A frame that came by a cable, perhaps later than the clock shows.
+    fn carried(&mut self, random: &mut Random, frame: Carried, disturbed: bool) -> Call {
+        if frame.time.saturating_sub(self.clock) <= 2 * TIMEOUT {
+            self.clock = self.clock.max(frame.time);
+        }
+        Call {
+            id: frame.id,
+            data: frame.data,
+            interface: frame.interface.into(),
+            time: frame.time,
+            room: room(random, disturbed),
+            null: random.coin(),
+        }
+    }
+
+    /// The frame's time: the clock's, or one at which a session is near an age. The clock may leap.
+    fn time(&mut self, random: &mut Random, near: Option<(&Session, u64)>, disturbed: bool) -> u64 {
+        if let Some((session, age)) = near {
+            let edge = session.time.saturating_add(age - 1 + random.below(3));
             if edge > self.clock && edge - self.clock < 4 * TIMEOUT && random.coin() {
                 self.clock = edge;
             }
@@ -134,8 +170,9 @@ fn notable<'a>(random: &mut Random, receiver: &'a Receiver) -> Option<&'a Sessio
     }
 }
 
-fn room(random: &mut Random) -> usize {
+fn room(random: &mut Random, disturbed: bool) -> usize {
     match random.below(64) {
+        _ if !disturbed => LONGEST_PAYLOAD,
         0 => 0,
         1 => LONGEST_PAYLOAD - 1,
         2..=4 => random.index(MOST_ROOM + 1),
@@ -242,6 +279,15 @@ fn aimed(random: &mut Random, receiver: &Receiver, session: &Session) -> (u32, V
     (session.stream.id(random.below(32) as u8, 0), data)
 }
 
+/// Most often the interface that the session follows.
+fn aimed_interface(random: &mut Random, session: &Session) -> u32 {
+    match random.below(16) {
+        0 => any_interface(random),
+        1..=4 => other_interface(random, session.follows).into(),
+        _ => session.follows.into(),
+    }
+}
+
 /// How many payload bytes: seven before an end, at an end any number or what fills the session.
 fn aimed_count(random: &mut Random, tail: Tail, session: &Session) -> usize {
     let left = MOST_GATHERED - session.gathered.len();
@@ -268,9 +314,10 @@ fn aimed_tail(random: &mut Random, session: &Session) -> Tail {
         } else {
             random.coin()
         },
-        transfer_id: match random.below(8) {
+        transfer_id: match random.below(13) {
             0 | 1 => (session.expected_id + 32 - random.between(1, 3) as u8) % 32,
             2 => random.below(32) as u8,
+            3..=5 => (session.expected_id + FAR_AHEAD - 1 + random.below(3) as u8) % 32,
             _ => session.expected_id,
         },
     }

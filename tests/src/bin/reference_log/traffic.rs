@@ -10,6 +10,8 @@ use std::fmt::Write;
 
 /// More streams than the receiver has places.
 const TALKERS: usize = 48;
+/// The largest time of a log, in milliseconds.
+const LAST: u64 = 999_999_999_999;
 
 pub fn log(random: &mut Random, lines: u64) -> Vec<u8> {
     let mut talkers: Vec<Talker> = (0..TALKERS).map(|_| Talker::new(random)).collect();
@@ -22,9 +24,15 @@ pub fn log(random: &mut Random, lines: u64) -> Vec<u8> {
         }
         // with few talkers the link is better, so that long transfers come to their end
         let trouble = if talking <= 4 { 600 } else { 30 };
+        let talker = &mut talkers[random.index(talking)];
+        // about a second later, the start again: on one cable this alone shows the switch delay
+        if random.once_in(1000) {
+            talker.next = 0;
+            clock = (clock + 990 + random.below(20)).min(LAST);
+        }
         let (id, data) = match random.below(16) {
             0 => wild(random),
-            _ => talkers[random.index(talking)].speak(random, trouble),
+            _ => talker.speak(random, trouble),
         };
         let line = text(clock, id, &data);
         match random.below(trouble) {
@@ -42,7 +50,7 @@ fn tick(random: &mut Random, clock: u64) -> u64 {
         1 => clock.saturating_sub(random.below(4_000)),
         2 => random.below(1_000_000_000_000),
         3 => random.below(100_000),
-        _ => (clock + random.below(2)).min(999_999_999_999),
+        _ => (clock + random.below(2)).min(LAST),
     }
 }
 

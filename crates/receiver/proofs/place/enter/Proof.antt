@@ -12,7 +12,7 @@ use Rattle.session.specs.declared.Session as coded
 use Rattle.session.proofs.Rules.{shut-range, takes-on, takes-last}
 use Rattle.frame.specs.Key.{streamOfKey}
 use Rattle.state.proofs.Faultless.{long}
-use Rattle.receiver.proofs.Enter.{in-hand, expected-of}
+use Rattle.receiver.proofs.Enter.{in-hand, expected-of, follows-of}
 use Rattle.receiver.proofs.Lent.{head-key, few-of, stored}
 use borrow.Author.Needs.{needs}
 use Rattle.receiver.proofs.place.enter.Statement.{statement}
@@ -36,6 +36,10 @@ added-to : (c : tie.After-take) → sessionOf (c .take .result) ≡ added (enter
 added-to c =
     let a = c .before .before .before .before .before .before .args in
     c .take .ensures .0 ∙ ap (λ (x : Session). added x (a .f .head .start) (a .f .time) (a .p .now)) (c .before .session-for .ensures .0)
+
+-- `take` follows the same interface
+follows-is : (c : tie.After-take) → c .take .result .follows ≡ entered (c .before .before .before .before .before .before .args .way) (c .before .before .before .before .before .before .args .state .now) (c .before .before .before .before .before .before .args .i) (c .before .before .before .before .before .before .args .f) .follows
+follows-is c = follows-of (c .take .result) _ (added-to c)
 
 session-for-requires : tie.Need-session-for-requires
 session-for-requires c κs =
@@ -65,7 +69,10 @@ store-requires : tie.Need-store-requires
 store-requires c κs =
     let l = c .before .before .before .before in
     let s = l .before .before .before .before .before .before .before .before .before .before .before .before .before .before .before in
-    ((s .pre .1 .0, long (s .args .state .now) (s .pre .0 .sound)), rw (l .close .ensures) (omega arith, (omega arith, omega arith)))
+    let t = l .before .before .before .before .before .before .before .before .before in (
+      (s .pre .1 .0, long (s .args .state .now) (s .pre .0 .sound)),
+      rw (l .close .ensures) ((omega arith, omega (arith, follows-is t, s .pre .1 .1 .1 .follows)), (omega arith, omega arith)),
+    )
 
 same-length : tie.Need-same-length
 same-length c = search needs
@@ -105,7 +112,7 @@ store-requires-2 c κs =
     let n = s .pre .1 .1 .1 in
     let l : t .take .result .len ≤ 514 = omega (arith, t .take .ensures .1 .0, length-of y, n .few) in
     let b = array-after t in
-    ((s .pre .1 .0, long (s .args .state .now) (s .pre .0 .sound)), (omega (arith, t .take .ensures .1 .1, expected-is y, n .expected), (l, omega arith)))
+    ((s .pre .1 .0, long (s .args .state .now) (s .pre .0 .sound)), ((omega (arith, t .take .ensures .1 .1, expected-is y, n .expected), omega (arith, follows-is t, n .follows)), (l, omega arith)))
 
 same-length-3 : tie.Need-same-length-3
 same-length-3 c = search needs

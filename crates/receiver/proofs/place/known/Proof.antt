@@ -7,7 +7,7 @@ use native.Mathlib.Omega.{arith}
 use lib.ListN.{length}
 use Rattle.bits.proofs.Octets.{octets-all}
 use Rattle.rules.specs.Reception.{store}
-use Rattle.rules.specs.Session.{Out, next, restarted, react}
+use Rattle.rules.specs.Session.{Out, waiting, next, react}
 use Rattle.rules.specs.Table.{held}
 use Rattle.receiver.specs.Receive.{lent}
 use Rattle.answers.specs.Reception.{told, outAfter}
@@ -18,7 +18,7 @@ use Rattle.state.specs.Layout.{keyAt, sessionAt, placesOf}
 use Rattle.frame.specs.Key.{streamOfKey}
 use Rattle.state.specs.Place.{withPlace}
 use Rattle.state.specs.Sound.{soundState}
-use Rattle.state.proofs.Faultless.{long, count-le, expected-lt}
+use Rattle.state.proofs.Faultless.{long, count-le, expected-lt, follows-lt}
 use Rattle.receiver.proofs.Enter.{held-key, held-few, restarts-at, awaited-at}
 use Rattle.receiver.proofs.Lent.{head-key, stored, kept}
 use borrow.Author.Needs.{needs}
@@ -28,6 +28,10 @@ use Rattle.receiver.proofs.place.known.Tie as tie
 expected-at : (m : List ℕ) → soundState m ≡ true → (i : ℕ) → i < 32 → (keyAt m i ≡ 0 → ⊥) → sessionAt m i .expected < 32
 unfolding sessionAt
 expected-at m fine i h z = expected-lt m fine i h z
+
+follows-at : (m : List ℕ) → soundState m ≡ true → (i : ℕ) → i < 32 → (keyAt m i ≡ 0 → ⊥) → sessionAt m i .follows < 3
+unfolding sessionAt
+follows-at m fine i h z = follows-lt m fine i h z
 
 -- the expected transfer ID is one
 expects : (g : tie.After-progress) → g .progress .result .expected < 32
@@ -71,6 +75,7 @@ enter-requires c κs =
           record {
             stored = λ n. count-le m (q .sound) (a .i) (s .pre .1 .0) z;
             expected = q .transfer;
+            follows = q .interface;
             few = omega (arith, q .payload);
             first = λ k. refl;
           },
@@ -97,7 +102,7 @@ returns c =
     let q = s .pre .0 in
     let z = held-key (a .f) m (a .i) (a .k) (q .named) (s .pre .1 .1 .0) (s .pre .1 .1 .1) in
     let t = sessionAt m (a .i) in
-    let y = restarts-at t (g .progress .result) (g .progress .ensures) (a .f) (r .restarts .result) (r .restarts .ensures) true (k .before .if1 .taken) in
+    let y = restarts-at t (g .progress .result) (g .progress .ensures) (a .f) (a .p .now) (r .restarts .result) (r .restarts .ensures) true (k .before .if1 .taken) in
     n .enter .ensures ∙ ap (λ (x : Out). lent m (a .out .now) (store (placesOf m) (a .i) (streamOf (a .f)) x)) (sym (reacts-anew t (a .f) (a .p .now) y (k .if2 .taken) (q .start (k .if2 .taken))))
 
 add-reset : tie.Need-add-reset
@@ -113,7 +118,7 @@ reset-requires c κs =
     let q = s .pre .0 in
     let z = held-key (a .f) m (a .i) (a .k) (q .named) (s .pre .1 .1 .0) (s .pre .1 .1 .1) in
     let t = sessionAt m (a .i) in
-    ((s .pre .1 .0, long m (q .sound)), (count-le m (q .sound) (a .i) (s .pre .1 .0) z, omega arith))
+    ((s .pre .1 .0, long m (q .sound)), (count-le m (q .sound) (a .i) (s .pre .1 .0) z, (omega arith, q .interface)))
 
 same-length-3 : tie.Need-same-length-3
 same-length-3 c = search needs
@@ -131,11 +136,11 @@ returns-2 c =
     let q = s .pre .0 in
     let z = held-key (a .f) m (a .i) (a .k) (q .named) (s .pre .1 .1 .0) (s .pre .1 .1 .1) in
     let t = sessionAt m (a .i) in
-    let y = restarts-at t (g .progress .result) (g .progress .ensures) (a .f) (r .restarts .result) (r .restarts .ensures) true (k .before .if1 .taken) in
+    let y = restarts-at t (g .progress .result) (g .progress .ensures) (a .f) (a .p .now) (r .restarts .result) (r .restarts .ensures) true (k .before .if1 .taken) in
     let o = react t (parsedOf (a .f) (a .p .now)) in
     let x = reacts-skip t (a .f) (a .p .now) y (k .if2 .left) in
     let e = ap streamOfKey (s .pre .1 .1 .0) ∙ head-key (streamOf (a .f)) (q .transferType) (q .type) (q .source) (q .destination) in
-    stored m (q .sound) (octets-all m (λ i. omega (arith, b .slice-known .given i))) (a .i) (s .pre .1 .0) (a .out .now) (streamOf (a .f)) o (rw x (omega arith)) (a .k) (restarted t (next (a .f .head .transfer))) _
+    stored m (q .sound) (octets-all m (λ i. omega (arith, b .slice-known .given i))) (a .i) (s .pre .1 .0) (a .out .now) (streamOf (a .f)) o (rw x (omega arith)) (a .k) (waiting (next (a .f .head .transfer)) (t .since) (a .f .interface)) _
     (n .reset .last .0) _ (octets-all (n .reset .last .0) (λ i. omega (arith, c .slice-known5 .given i))) e (sym (ap (λ (u : Out). u .session) x)) (n .reset .ensures)
     (sym (ap (λ (u : Out). told (u .answer)) x)) (sym (ap (λ (u : Out). outAfter (u .answer) (a .out .now)) x))
 
@@ -166,8 +171,16 @@ reset-requires-2 c κs =
     let m = a .state .now in
     let q = s .pre .0 in
     let z = held-key (a .f) m (a .i) (a .k) (q .named) (s .pre .1 .1 .0) (s .pre .1 .1 .1) in
-    let t = sessionAt m (a .i) in
-    ((s .pre .1 .0, long m (q .sound)), (count-le m (q .sound) (a .i) (s .pre .1 .0) z, omega arith))
+    let t = sessionAt m (a .i) in (
+      (s .pre .1 .0, long m (q .sound)),
+      (
+        count-le m (q .sound) (a .i) (s .pre .1 .0) z,
+        (
+          omega arith,
+          omega (arith, ap (λ (x : Progress). x .follows) (g .progress .ensures), follows-at m (q .sound) (a .i) (s .pre .1 .0) z),
+        ),
+      ),
+    )
 
 same-length-4 : tie.Need-same-length-4
 same-length-4 c = search needs
@@ -187,14 +200,14 @@ returns-3 c =
     let z = held-key (a .f) m (a .i) (a .k) (q .named) (s .pre .1 .1 .0) (s .pre .1 .1 .1) in
     let t = sessionAt m (a .i) in
     let p = g .progress .result in
-    let y = restarts-at t p (g .progress .ensures) (a .f) (r .restarts .result) (r .restarts .ensures) false (w .before .if1 .left) in
-    let i = awaited-at t p (g .progress .ensures) (a .f) (w .awaited .result) (w .awaited .ensures) true (k .before .before .if3 .taken) in
+    let y = restarts-at t p (g .progress .ensures) (a .f) (a .p .now) (r .restarts .result) (r .restarts .ensures) false (w .before .if1 .left) in
+    let i = awaited-at t p (g .progress .ensures) (a .f) (a .p .now) (w .awaited .result) (w .awaited .ensures) true (k .before .before .if3 .taken) in
     let o = react t (parsedOf (a .f) (a .p .now)) in
     let x = reacts-over t (a .f) (a .p .now) y i (omega (arith, ap (λ (u : Progress). u .len) (g .progress .ensures), k .if4 .taken)) (q .payload) in
     let e = ap streamOfKey (s .pre .1 .1 .0) ∙ head-key (streamOf (a .f)) (q .transferType) (q .type) (q .source) (q .destination) in
-    stored m (q .sound) (octets-all m (λ i. omega (arith, b .slice-known .given i))) (a .i) (s .pre .1 .0) (a .out .now) (streamOf (a .f)) o (rw x (omega arith)) (a .k) (restarted t (next (t .expected))) _
+    stored m (q .sound) (octets-all m (λ i. omega (arith, b .slice-known .given i))) (a .i) (s .pre .1 .0) (a .out .now) (streamOf (a .f)) o (rw x (omega arith)) (a .k) (waiting (next (t .expected)) (t .since) (t .follows)) _
     (n .reset2 .last .0) _ (octets-all (n .reset2 .last .0) (λ i. omega (arith, c .slice-known6 .given i))) e (sym (ap (λ (u : Out). u .session) x))
-    (n .reset2 .ensures ∙ ap (λ (u : Progress). withPlace m (a .i) (held (streamOfKey (a .k)) (restarted t (next (u .expected))))) (g .progress .ensures))
+    (n .reset2 .ensures ∙ ap (λ (u : Progress). withPlace m (a .i) (held (streamOfKey (a .k)) (waiting (next (u .expected)) (t .since) (u .follows)))) (g .progress .ensures))
     (sym (ap (λ (u : Out). told (u .answer)) x)) (sym (ap (λ (u : Out). outAfter (u .answer) (a .out .now)) x))
 
 enter-requires-2 : tie.Need-enter-requires-2
@@ -211,7 +224,7 @@ enter-requires-2 c κs =
     let z = held-key (a .f) m (a .i) (a .k) (q .named) (s .pre .1 .1 .0) (s .pre .1 .1 .1) in
     let t = sessionAt m (a .i) in
     let p = g .progress .result in
-    let i = awaited-at t p (g .progress .ensures) (a .f) (w .awaited .result) (w .awaited .ensures) true (k .before .before .if3 .taken) in (
+    let i = awaited-at t p (g .progress .ensures) (a .f) (a .p .now) (w .awaited .result) (w .awaited .ensures) true (k .before .before .if3 .taken) in (
       q,
       (
         s .pre .1 .0,
@@ -220,8 +233,9 @@ enter-requires-2 c κs =
           record {
             stored = λ n. count-le m (q .sound) (a .i) (s .pre .1 .0) z;
             expected = expected-at m (q .sound) (a .i) (s .pre .1 .0) z;
+            follows = follows-at m (q .sound) (a .i) (s .pre .1 .0) z;
             few = omega (arith, ap (λ (u : Progress). u .len) (g .progress .ensures), k .if4 .left);
-            first = awaited-start (t .expected) (t .toggle) (length (t .gathered)) (a .f) _ refl i;
+            first = awaited-start t (a .f) (a .p .now) i;
           },
         ),
       ),
@@ -248,8 +262,8 @@ returns-4 c =
     let z = held-key (a .f) m (a .i) (a .k) (q .named) (s .pre .1 .1 .0) (s .pre .1 .1 .1) in
     let t = sessionAt m (a .i) in
     let p = g .progress .result in
-    let y = restarts-at t p (g .progress .ensures) (a .f) (r .restarts .result) (r .restarts .ensures) false (w .before .if1 .left) in
-    let i = awaited-at t p (g .progress .ensures) (a .f) (w .awaited .result) (w .awaited .ensures) true (k .before .before .if3 .taken) in
+    let y = restarts-at t p (g .progress .ensures) (a .f) (a .p .now) (r .restarts .result) (r .restarts .ensures) false (w .before .if1 .left) in
+    let i = awaited-at t p (g .progress .ensures) (a .f) (a .p .now) (w .awaited .result) (w .awaited .ensures) true (k .before .before .if3 .taken) in
     n .enter2 .ensures ∙ ap (λ (x : Out). lent m (a .out .now) (store (placesOf m) (a .i) (streamOf (a .f)) x)) (sym (reacts-take t (a .f) (a .p .now) y i))
 
 same-length-7 : tie.Need-same-length-7
@@ -268,8 +282,8 @@ returns-5 c =
     let z = held-key (a .f) m (a .i) (a .k) (q .named) (s .pre .1 .1 .0) (s .pre .1 .1 .1) in
     let t = sessionAt m (a .i) in
     let p = g .progress .result in
-    let y = restarts-at t p (g .progress .ensures) (a .f) (r .restarts .result) (r .restarts .ensures) false (w .before .if1 .left) in
-    let i = awaited-at t p (g .progress .ensures) (a .f) (w .awaited .result) (w .awaited .ensures) false (c .if3 .left) in
+    let y = restarts-at t p (g .progress .ensures) (a .f) (a .p .now) (r .restarts .result) (r .restarts .ensures) false (w .before .if1 .left) in
+    let i = awaited-at t p (g .progress .ensures) (a .f) (a .p .now) (w .awaited .result) (w .awaited .ensures) false (c .if3 .left) in
     let o = react t (parsedOf (a .f) (a .p .now)) in
     let x = reacts-pass t (a .f) (a .p .now) y i in
     let e = ap streamOfKey (s .pre .1 .1 .1 ∙ s .pre .1 .1 .0) ∙ head-key (streamOf (a .f)) (q .transferType) (q .type) (q .source) (q .destination) in

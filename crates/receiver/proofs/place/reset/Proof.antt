@@ -1,7 +1,7 @@
 -- `place::reset` meets its contract: the session is restarted and written back.
 use mathlib.Core.Path.{ap, _∙_}
 use native.Mathlib.Omega.{arith}
-use Rattle.rules.specs.Session.{Session, restarted}
+use Rattle.rules.specs.Session.{Session, waiting}
 use Rattle.rules.specs.Table.{held}
 use Rattle.session.specs.inside.Session.{sessionOf}
 use Rattle.frame.specs.Key.{streamOfKey}
@@ -19,7 +19,7 @@ restart-requires c κs = search needs
 store-requires : tie.Need-store-requires
 store-requires c κs =
     let r = c .before .before .before .before in
-    ((omega arith, omega arith), rw (r .restart .ensures) (omega arith, (omega arith, omega arith)))
+    ((omega arith, omega arith), rw (r .restart .ensures) ((omega arith, omega arith), (omega arith, omega arith)))
 
 same-length : tie.Need-same-length
 same-length c = search needs
@@ -31,7 +31,7 @@ returns c =
     let r = w .before .before .before .before .before in
     let l = r .before in
     let a = l .before .before .before .args in
-    w .store .ensures ∙ ap (λ (x : Session). withPlace (a .state .now) (a .i) (held (streamOfKey (a .k)) x)) (ap sessionOf (r .restart .ensures) ∙ ap (λ (x : Session). restarted x (a .expected)) (l .load .ensures .0))
+    w .store .ensures ∙ ap (λ (x : Session). withPlace (a .state .now) (a .i) (held (streamOfKey (a .k)) x)) (ap sessionOf (r .restart .ensures) ∙ ap (λ (x : Session). waiting (a .expected) (x .since) (a .interface)) (l .load .ensures .0))
 
 pub reset-spec : {M : Type 1} → statement M
 reset-spec = tie.close (tie.spec load-requires restart-requires store-requires same-length returns)

@@ -28,7 +28,7 @@ at-place m out p h e = ap (λ (x : Option ℕ). lent m out (stepNew x (placesOf 
 -- a new session has room for the frame
 new : (s : tie.Start) (i : ℕ) → Enters New (s .args .state .now) i (s .args .f) (s .args .p .now)
 unfolding parsedOf
-new s i = record { stored = λ n. absurd (n refl); expected = s .pre .0 .transfer; few = omega (arith, s .pre .0 .payload); first = λ k. refl }
+new s i = record { stored = λ n. absurd (n refl); expected = s .pre .0 .transfer; follows = s .pre .0 .interface; few = omega (arith, s .pre .0 .payload); first = λ k. refl }
 
 begun : (s : tie.Start) (i : ℕ)
     → lent (s .args .state .now) (s .args .out .now) (store (placesOf (s .args .state .now)) i (streamOf (s .args .f)) (takes (fresh (parsedOf (s .args .f) (s .args .p .now))) (parsedOf (s .args .f) (s .args .p .now))))

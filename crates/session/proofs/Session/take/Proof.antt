@@ -17,12 +17,12 @@ use Rattle.session.proofs.Session.take.Tie as tie
 
 -- s with n bytes in hand, in the array b
 abbrev holding : Session → ℕ → List ℕ → Session
-holding s n b = record { expected = s .expected; toggle = s .toggle; time = s .time; len = n; bytes = b }
+holding s n b = record { expected = s .expected; toggle = s .toggle; time = s .time; follows = s .follows; len = n; bytes = b }
 
 -- the session after the loop, and what `take` makes of it
 taken : (s q : Session) (p : List ℕ) (start : Bool) (time since n : ℕ) → s .len ≤ length (s .bytes) → n ≡ length p → since ≡ pick start time (q .time)
     → q ≡ holding s (s .len) (paste (s .bytes) (s .len) p n)
-    → (sessionOf (record { expected = q .expected; toggle = not (q .toggle); time = since; len = s .len + n; bytes = q .bytes }) ≡ added (sessionOf s) start time p)
+    → (sessionOf (record { expected = q .expected; toggle = not (q .toggle); time = since; follows = q .follows; len = s .len + n; bytes = q .bytes }) ≡ added (sessionOf s) start time p)
     × ((s .len + n ≡ s .len + length p) × (q .expected ≡ s .expected))
 unfolding sessionOf
 taken s q p start time since n h e t w =

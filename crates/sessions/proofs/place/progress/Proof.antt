@@ -1,8 +1,5 @@
 -- `place::progress` meets its contract: the fields are where the layout says.
-use mathlib.Core.Path.{ap}
-use Prim.Native.Nat.{ℕ}
 use native.Mathlib.Omega.{arith}
-use lib.Dec.{eqb}
 use Rattle.state.specs.Layout.{countAt}
 use Rattle.sessions.proofs.Stored.{fields, progressed}
 use borrow.Author.Needs.{needs}
@@ -21,17 +18,17 @@ get-at-requires c κs = search needs
 time-requires : tie.Need-time-requires
 time-requires c κs = search needs
 
-add-t6 : tie.Need-add-t6
-add-t6 c = search needs
+add-flags : tie.Need-add-flags
+add-flags c = search needs
 
-shared-slice-read-t9 : tie.Need-shared-slice-read-t9
-shared-slice-read-t9 c = search needs
+shared-slice-read-flags : tie.Need-shared-slice-read-flags
+shared-slice-read-flags c = search needs
 
-add-t10 : tie.Need-add-t10
-add-t10 c = search needs
+add-t7 : tie.Need-add-t7
+add-t7 c = search needs
 
-shared-slice-read-t12 : tie.Need-shared-slice-read-t12
-shared-slice-read-t12 c = search needs
+shared-slice-read-t10 : tie.Need-shared-slice-read-t10
+shared-slice-read-t10 c = search needs
 
 returns : tie.Need-returns
 unfolding countAt
@@ -41,7 +38,7 @@ returns c =
     let a = g .before .before .args in
     let m = a .state .now in
     let f = fields m (a .i) (omega arith) (omega arith) in
-    progressed m (a .i) _ _ _ _ (omega arith) (omega arith) (omega arith) (f .0) (ap (λ (x : ℕ). eqb x 1) (f .1)) (t .time .ensures) (g .get-at .ensures)
+    progressed m (a .i) _ _ _ _ (omega arith) (omega arith) (omega arith) (f .0) (f .1) (t .time .ensures) (g .get-at .ensures)
 
 pub progress-spec : {M : Type 1} → statement M
 progress-spec =
@@ -51,8 +48,8 @@ progress-spec =
     add-at
     get-at-requires
     time-requires
-    add-t6
-    shared-slice-read-t9
-    add-t10
-    shared-slice-read-t12
+    add-flags
+    shared-slice-read-flags
+    add-t7
+    shared-slice-read-t10
     returns)

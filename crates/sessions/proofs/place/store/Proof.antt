@@ -1,6 +1,11 @@
 -- `place::store` meets its contract: its six stores, one after the other, are the place.
+use mathlib.Core.Path.{ap, _∙_}
+use Prim.Native.Nat.{ℕ, _+_, _*_}
 use native.Mathlib.Omega.{arith}
-use Rattle.session.specs.inside.Session.{whole}
+use Rattle.bits.specs.Little.{leBytes}
+use Rattle.bits.specs.Part.{splice}
+use Rattle.session.specs.inside.Session.{sessionOf, whole}
+use Rattle.state.specs.Layout.{controlsAt}
 use Rattle.sessions.proofs.Stored.{stored}
 use borrow.Author.Needs.{needs}
 use Rattle.sessions.proofs.place.store.Statement.{statement}
@@ -36,8 +41,8 @@ put-at-requires-3 c κs = search needs
 add-put-at-3 : tie.Need-add-put-at-3
 add-put-at-3 c = search needs
 
-cast-put-at-2 : tie.Need-cast-put-at-2
-cast-put-at-2 c = search needs
+flags-requires : tie.Need-flags-requires
+flags-requires c κs = search needs
 
 put-at-requires-4 : tie.Need-put-at-requires-4
 put-at-requires-4 c κs = search needs
@@ -66,6 +71,7 @@ same-length : tie.Need-same-length
 same-length c = search needs
 
 returns : tie.Need-returns
+unfolding sessionOf
 returns c =
     let cs = c .before .before in
     let p5 = cs .before .before .before .before in
@@ -76,8 +82,8 @@ returns c =
     let start = p1 .before .before .before .before in
     let a = start .args in
     stored (a .state .now) (p1 .put-at .last .0) (p2 .put-at2 .last .0) (p3 .put-at3 .last .0) (p4 .put-at4 .last .0) (p5 .put-at5 .last .0) (cs .copy-span .last .0)
-    (a .i) (a .k) (whole (a .c) (a .bytes .now)) (omega arith) (omega arith) (omega arith) (omega arith) (omega arith)
-    (p1 .put-at .ensures) (p2 .put-at2 .ensures) (p3 .put-at3 .ensures) (p4 .put-at4 .ensures) (p5 .put-at5 .ensures) (cs .copy-span .ensures)
+    (a .i) (a .k) (whole (a .c) (a .bytes .now)) (omega arith) (omega arith) (omega arith) (omega arith, omega arith) (omega arith)
+    (p1 .put-at .ensures) (p2 .put-at2 .ensures) (p3 .put-at3 .ensures) (p4 .put-at4 .ensures ∙ ap (λ (n : ℕ). splice (p3 .put-at3 .last .0) (controlsAt + a .i * 4 + 3) (leBytes 1 n)) (p4 .before .flags .ensures)) (p5 .put-at5 .ensures) (cs .copy-span .ensures)
 
 pub store-spec : {M : Type 1} → statement M
 store-spec =
@@ -93,7 +99,7 @@ store-spec =
     cast-put-at
     put-at-requires-3
     add-put-at-3
-    cast-put-at-2
+    flags-requires
     put-at-requires-4
     mul-put-at-2
     add-put-at-4

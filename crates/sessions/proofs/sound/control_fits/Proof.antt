@@ -2,7 +2,7 @@
 use native.Mathlib.Omega.{arith}
 use Rattle.state.specs.Layout.{countAt}
 use Rattle.sessions.proofs.Stored.{fields}
-use Rattle.sessions.proofs.Fits.{too-many, no-transfer, toggle-zero, toggle-one, toggle-else}
+use Rattle.sessions.proofs.Fits.{too-many, no-transfer, no-interface, toggle-one, toggle-zero}
 use borrow.Author.Needs.{needs}
 use Rattle.sessions.proofs.sound.control_fits.Statement.{statement}
 use Rattle.sessions.proofs.sound.control_fits.Tie as tie
@@ -22,11 +22,11 @@ add-expected c = search needs
 shared-slice-read-expected : tie.Need-shared-slice-read-expected
 shared-slice-read-expected c = search needs
 
-add-toggle : tie.Need-add-toggle
-add-toggle c = search needs
+add-flags : tie.Need-add-flags
+add-flags c = search needs
 
-shared-slice-read-toggle : tie.Need-shared-slice-read-toggle
-shared-slice-read-toggle c = search needs
+shared-slice-read-flags : tie.Need-shared-slice-read-flags
+shared-slice-read-flags c = search needs
 
 returns : tie.Need-returns
 unfolding countAt
@@ -53,7 +53,7 @@ returns-3 c =
     let a = g .before .before .args in
     let m = a .state .now in
     let f = fields m (a .i) (omega arith) (omega arith) in
-    toggle-zero m (a .i) (g .get-at .result) _ _ (g .get-at .ensures) (f .0) (f .1) (c .before .before .if1 .left) (c .before .if2 .left) (c .if3 .taken)
+    no-interface m (a .i) (g .get-at .result) _ _ (g .get-at .ensures) (f .0) (f .1) (c .before .before .if1 .left) (c .before .if2 .left) (c .if3 .taken)
 
 returns-4 : tie.Need-returns-4
 unfolding countAt
@@ -71,7 +71,7 @@ returns-5 c =
     let a = g .before .before .args in
     let m = a .state .now in
     let f = fields m (a .i) (omega arith) (omega arith) in
-    toggle-else m (a .i) (g .get-at .result) _ _ (g .get-at .ensures) (f .0) (f .1) (c .before .before .before .if1 .left) (c .before .before .if2 .left) (c .before .if3 .left) (c .if4 .left)
+    toggle-zero m (a .i) (g .get-at .result) _ _ (g .get-at .ensures) (f .0) (f .1) (c .before .before .before .if1 .left) (c .before .before .if2 .left) (c .before .if3 .left) (c .if4 .left)
 
 pub control-fits-spec : {M : Type 1} → statement M
 control-fits-spec =
@@ -82,8 +82,8 @@ control-fits-spec =
     get-at-requires
     add-expected
     shared-slice-read-expected
-    add-toggle
-    shared-slice-read-toggle
+    add-flags
+    shared-slice-read-flags
     returns
     returns-2
     returns-3
