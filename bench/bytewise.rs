@@ -144,6 +144,111 @@ impl<'a> Info<'a> {
     }
 }
 
+/// A binary16 as an f32; the machine multiplies for a subnormal one.
+fn widen(half: u16) -> f32 {
+    let (sign, code) = (u32::from(half & 0x8000) << 16, u32::from(half & 0x7FFF));
+    let bits = match code {
+        0..0x400 => (code as f32 * f32::from_bits(0x3380_0000)).to_bits(),
+        0x400..0x7C00 => (code << 13) + (112 << 23),
+        0x7C00 => 0x7F80_0000,
+        _ => return f32::NAN,
+    };
+    f32::from_bits(sign | bits)
+}
+
+/// An f32 as its nearest binary16; the machine rounds a subnormal one by an addition.
+fn narrow(float: f32) -> u16 {
+    let bits = float.to_bits();
+    let (sign, code) = ((bits >> 16) as u16 & 0x8000, bits & 0x7FFF_FFFF);
+    let half = match code {
+        0..0x3880_0000 => (f32::from_bits(code) + 0.5).to_bits() - 0x3F00_0000,
+        0x3880_0000..0x477F_F000 => (code + 0xFFF + (code >> 13 & 1)) / 8192 - (112 << 10),
+        0x477F_F000..0x7F80_0000 => 0x7BFF,
+        0x7F80_0000 => 0x7C00,
+        _ => return 0x7E00,
+    };
+    sign | half as u16
+}
+
+struct Battery<'a> {
+    floats: [f32; 7],
+    flags: u16,
+    health: u8,
+    charge: u8,
+    deviation: u8,
+    id: u8,
+    model: u32,
+    name: &'a [u8],
+}
+
+impl<'a> Battery<'a> {
+    fn read(b: &'a [u8]) -> Result<Battery<'a>, u64> {
+        let name = b.get(23..).ok_or(15u64)?;
+        if name.len() > 31 {
+            return Err(16);
+        }
+        let half = |at: usize| widen(u16::from_le_bytes([b[at], b[at + 1]]));
+        Ok(Battery {
+            floats: [
+                half(0),
+                half(2),
+                half(4),
+                half(6),
+                half(8),
+                half(10),
+                half(12),
+            ],
+            flags: u16::from(b[14]) | u16::from(b[15] >> 5) << 8,
+            health: b[15] << 2 & 0x7C | b[16] >> 6,
+            charge: b[16] << 1 & 0x7E | b[17] >> 7,
+            deviation: b[17] & 0x7F,
+            id: b[18],
+            model: u32::from_le_bytes(*part(b, 19)),
+            name,
+        })
+    }
+
+    fn of(floats: &[f32; 7], v: &[u64; 6], name: &'a [u8]) -> Option<Battery<'a>> {
+        if v[0] > 2047 || v[1] > 127 || v[2] > 127 || v[3] > 127 || name.len() > 31 {
+            return None;
+        }
+        Some(Battery {
+            floats: *floats,
+            flags: v[0] as u16,
+            health: v[1] as u8,
+            charge: v[2] as u8,
+            deviation: v[3] as u8,
+            id: v[4].try_into().ok()?,
+            model: v[5].try_into().ok()?,
+            name,
+        })
+    }
+
+    fn write(&self, out: &mut [u8]) -> Result<u64, u64> {
+        let length = 23 + self.name.len();
+        let out = out.get_mut(..length).ok_or(8u64)?;
+        for (place, float) in out.chunks_exact_mut(2).zip(self.floats) {
+            place.copy_from_slice(&narrow(float).to_le_bytes());
+        }
+        out[14] = self.flags as u8;
+        out[15] = (self.flags >> 8 << 5) as u8 | self.health >> 2;
+        out[16] = self.health << 6 | self.charge >> 1;
+        out[17] = self.charge << 7 | self.deviation;
+        out[18] = self.id;
+        out[19..23].copy_from_slice(&self.model.to_le_bytes());
+        out[23..].copy_from_slice(self.name);
+        Ok(length as u64)
+    }
+
+    fn number(&self) -> u64 {
+        let [health, charge, deviation, id] =
+            [self.health, self.charge, self.deviation, self.id].map(u64::from);
+        let state =
+            u64::from(self.flags) ^ health << 11 ^ charge << 18 ^ deviation << 25 ^ id << 32;
+        state ^ u64::from(self.model) << 28 ^ 23 ^ (self.name.len() as u64) << 5
+    }
+}
+
 fn word(result: Result<u64, u64>) -> u64 {
     result.unwrap_or_else(|refusal| u64::MAX - refusal)
 }
@@ -199,4 +304,30 @@ pub unsafe extern "C" fn info_encode(
     );
     let info = Info::of(v, unique_id, certificate, name).ok_or(17);
     word(info.and_then(|info| info.write(std::slice::from_raw_parts_mut(out, room))))
+}
+
+#[inline(never)]
+pub unsafe extern "C" fn battery_decode(
+    payload: *const u8,
+    length: usize,
+    floats: &mut [f32; 7],
+) -> u64 {
+    let battery = Battery::read(bytes(payload, length));
+    word(battery.map(|battery| {
+        *floats = battery.floats;
+        battery.number()
+    }))
+}
+
+#[inline(never)]
+pub unsafe extern "C" fn battery_encode(
+    floats: &[f32; 7],
+    v: &[u64; 6],
+    name: *const u8,
+    name_length: usize,
+    out: *mut u8,
+    room: usize,
+) -> u64 {
+    let battery = Battery::of(floats, v, bytes(name, name_length)).ok_or(17);
+    word(battery.and_then(|battery| battery.write(std::slice::from_raw_parts_mut(out, room))))
 }

@@ -23,7 +23,20 @@ type EncodeInfo = unsafe extern "C" fn(
     usize,
 ) -> u64;
 
+type DecodeBattery = unsafe extern "C" fn(*const u8, usize, &mut [f32; 7]) -> u64;
+type EncodeBattery =
+    unsafe extern "C" fn(&[f32; 7], &[u64; 6], *const u8, usize, *mut u8, usize) -> u64;
+
 extern "C" {
+    fn bench_battery_decode(payload: *const u8, length: usize, floats: &mut [f32; 7]) -> u64;
+    fn bench_battery_encode(
+        floats: &[f32; 7],
+        v: &[u64; 6],
+        name: *const u8,
+        name_length: usize,
+        out: *mut u8,
+        room: usize,
+    ) -> u64;
     fn bench_status_decode(payload: *const u8, length: usize) -> u64;
     fn bench_status_encode(v: &[u64; 5], out: *mut u8, room: usize) -> u64;
     fn bench_info_decode(payload: *const u8, length: usize) -> u64;
@@ -53,6 +66,13 @@ struct Info {
     name: Vec<u8>,
 }
 
+/// What a pack's state is made of.
+struct Battery {
+    floats: [f32; 7],
+    numbers: [u64; 6],
+    name: Vec<u8>,
+}
+
 /// Repeatable numbers: a linear congruential generator's high half.
 struct Numbers(u64);
 
@@ -73,6 +93,17 @@ impl Numbers {
         [self.bits(32), self.bits(2), self.bits(3), 0, self.bits(16)]
     }
 
+    /// A pack's state as packs send it: floats of everyday size, a name of up to 31 bytes.
+    fn battery(&mut self) -> Battery {
+        let mut float = |end: u64| self.below(end * 1000) as f32 / 1000.0;
+        let floats = [330.0, 50.0, 90.0, 2000.0, 300.0, 300.0, 5.0].map(|end| float(end as u64));
+        Battery {
+            floats,
+            numbers: [11, 7, 7, 7, 8, 32].map(|bits| self.bits(bits)),
+            name: b"org.example.pack-of-six_cells-7"[..16 + self.below(16) as usize].to_vec(),
+        }
+    }
+
     /// A response as nodes send it: with a certificate or without, and a name like org.example.node.
     fn info(&mut self, certificate: usize) -> Info {
         let mut numbers = [0; 12];
@@ -88,6 +119,24 @@ impl Numbers {
             name: b"org.example.flight-controller_7"[..16 + numbers[0] as usize % 15].to_vec(),
         }
     }
+}
+
+fn encode_battery(call: EncodeBattery, battery: &Battery, out: &mut [u8]) -> u64 {
+    let (n, room) = (&battery.name, out.len());
+    unsafe {
+        call(
+            &battery.floats,
+            &battery.numbers,
+            n.as_ptr(),
+            n.len(),
+            out.as_mut_ptr(),
+            room,
+        )
+    }
+}
+
+fn decode_battery(call: DecodeBattery, payload: &[u8], floats: &mut [f32; 7]) -> u64 {
+    unsafe { call(payload.as_ptr(), payload.len(), floats) }
 }
 
 fn encode_info(call: EncodeInfo, info: &Info, out: &mut [u8]) -> u64 {
@@ -161,6 +210,64 @@ fn check(statuses: &[[u64; 5]], infos: &[Info]) {
     }
 }
 
+/// Everyday floats, and those at the edges, on both sides.
+fn check_batteries(batteries: &[Battery]) {
+    let edges = [
+        0x0000_0000,
+        0x8000_0000,
+        0x3300_0000,
+        0x3300_0001,
+        0x387F_E000,
+        0x3F80_1000,
+        0x3F80_3000,
+        0x477F_EFFF,
+        0x477F_F000,
+        0x7F7F_FFFF,
+        0x7F80_0000,
+        0xFF80_0000,
+        0x7FC0_0000,
+        0xB380_0000,
+    ];
+    for (at, battery) in batteries.iter().enumerate() {
+        let mut floats = battery.floats;
+        for (place, float) in floats.iter_mut().enumerate().skip(at % 4) {
+            *float = f32::from_bits(edges[(at + place) % edges.len()]);
+        }
+        for place in 0..7 {
+            let mut strange = Battery {
+                floats,
+                numbers: battery.numbers,
+                name: battery.name.clone(),
+            };
+            match strange.numbers.get_mut(place) {
+                Some(number) => *number += 1 << 32,
+                None => (),
+            }
+            for room in [0, 22, 23, 40, ROOM] {
+                let by = |call| {
+                    let strange = &strange;
+                    move |out: &mut [u8]| encode_battery(call, strange, out)
+                };
+                same_writings(by(bench_battery_encode), by(bytewise::battery_encode), room);
+            }
+        }
+        let mut out = [0; ROOM];
+        let strange = Battery {
+            floats,
+            numbers: battery.numbers,
+            name: battery.name.clone(),
+        };
+        let length = encode_battery(bench_battery_encode, &strange, &mut out) as usize;
+        for end in (0..=length).chain([55]) {
+            let (mut first, mut second) = ([1.0; 7], [1.0; 7]);
+            let ours = decode_battery(bench_battery_decode, &out[..end], &mut first);
+            let plain = decode_battery(bytewise::battery_decode, &out[..end], &mut second);
+            assert_eq!(ours, plain);
+            assert_eq!(first.map(f32::to_bits), second.map(f32::to_bits));
+        }
+    }
+}
+
 /// The best of the rounds of each, in ns per call; they take turns.
 fn measure(mut ours: impl FnMut(usize) -> u64, mut plain: impl FnMut(usize) -> u64) -> (f64, f64) {
     let mut best = (f64::MAX, f64::MAX);
@@ -217,6 +324,34 @@ fn status_rows(statuses: &[[u64; 5]]) {
     row("NodeStatus, encode", 1.5, writing);
 }
 
+fn battery_rows(batteries: &[Battery]) {
+    let mut payloads = Vec::new();
+    for battery in batteries {
+        let mut payload = vec![0; ROOM];
+        let length = encode_battery(bytewise::battery_encode, battery, &mut payload) as usize;
+        payload.truncate(length);
+        payloads.push(payload);
+    }
+    let reading = |call: DecodeBattery| {
+        let (payloads, mut floats) = (&payloads, [0.0; 7]);
+        move |message: usize| {
+            let number = decode_battery(call, &payloads[message], &mut floats);
+            number ^ u64::from(floats[message % 7].to_bits())
+        }
+    };
+    let figures = measure(
+        reading(bench_battery_decode),
+        reading(bytewise::battery_decode),
+    );
+    row("BatteryInfo, decode", 1.5, figures);
+    let (mut out, mut other) = ([0; ROOM], [0; ROOM]);
+    let figures = measure(
+        |message| encode_battery(bench_battery_encode, &batteries[message], &mut out),
+        |message| encode_battery(bytewise::battery_encode, &batteries[message], &mut other),
+    );
+    row("BatteryInfo, encode", 1.5, figures);
+}
+
 fn info_rows(what: &str, infos: &[Info]) {
     let mut payloads = Vec::new();
     for info in infos {
@@ -252,8 +387,10 @@ fn main() {
     let statuses: Vec<_> = (0..MESSAGES).map(|_| numbers.status()).collect();
     let plain: Vec<_> = (0..MESSAGES).map(|_| numbers.info(0)).collect();
     let signed: Vec<_> = (0..MESSAGES).map(|_| numbers.info(255)).collect();
+    let batteries: Vec<_> = (0..MESSAGES).map(|_| numbers.battery()).collect();
     check(&statuses, &plain);
     check(&statuses, &signed);
+    check_batteries(&batteries);
     println!(
         "{:<46}{:>8}{:>8}{:>8}{:>8}",
         "messages, ns per call", "proved", "plain", "ratio", "at most"
@@ -261,4 +398,5 @@ fn main() {
     status_rows(&statuses);
     info_rows("no certificate", &plain);
     info_rows("255 bytes", &signed);
+    battery_rows(&batteries);
 }

@@ -179,8 +179,8 @@ enum tecelume_kind {
     TECELUME_KIND_SERVICE = 1  /* requests and responses share one subscription */
 };
 
-/* The signature of a standard type: messages 341 (NodeStatus), 1 (Allocation), 16370 (KeyValue) and 16383 (LogMessage), service 1
- * (GetNodeInfo). 0 for any other kind or type ID.
+/* The signature of a standard type: messages 341 (NodeStatus), 1 (Allocation), 16370 (KeyValue), 16383 (LogMessage) and 1092
+ * (BatteryInfo), service 1 (GetNodeInfo). 0 for any other kind or type ID.
  *
  * Check for 0. Setup and send accept every signature, 0 too. Single frames then come through, but transfers of several frames fail with 12:
  * here, if a sender has the right signature, and at every receiver that has it. For a type of your own take the signature from the tool

@@ -70,7 +70,7 @@ impl<'a> Reader<'a> {
         Ok(u64::from(bit))
     }
 
-    /// So many bytes as a part of the payload. Every list of the five types starts at a byte.
+    /// So many bytes as a part of the payload. Every list of every type starts at a byte.
     pub fn bytes(&mut self, count: usize) -> Result<&'a [u8], Refusal> {
         assert_eq!(self.position % 8, 0, "a list inside a byte");
         let rest = &self.payload[self.position / 8..];

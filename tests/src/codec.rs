@@ -2,8 +2,8 @@
 
 use crate::bits::Refusal;
 use crate::messages::{
-    Allocation, HardwareVersion, KeyValue, LogMessage, Message, MessageType, NodeInfo, NodeStatus,
-    SoftwareVersion,
+    Allocation, BatteryInfo, HardwareVersion, KeyValue, LogMessage, Message, MessageType, NodeInfo,
+    NodeStatus, SoftwareVersion,
 };
 use crate::receive::LONGEST_PAYLOAD;
 use std::collections::BTreeMap;
@@ -16,6 +16,17 @@ pub type Encode = fn(&Message, &mut [u8]) -> Result<usize, Refusal>;
 pub const LONGEST_LINE: usize = 8192;
 /// The length of the output buffer, whatever a line asks for.
 const MOST_ROOM: usize = LONGEST_PAYLOAD;
+
+/// The floats of a BatteryInfo in order.
+pub const FLOATS: [&str; 7] = [
+    "temperature",
+    "voltage",
+    "current",
+    "average_power_10sec",
+    "remaining_capacity_wh",
+    "full_charge_capacity_wh",
+    "hours_to_full_charge",
+];
 
 /// What a field is given as, or comes out as. A number outside of 64 bits is none.
 #[derive(Clone, Debug, PartialEq, Eq)]
@@ -73,6 +84,7 @@ pub fn type_name(message_type: MessageType) -> &'static str {
         MessageType::LogMessage => "LogMessage",
         MessageType::NodeInfoRequest => "GetNodeInfo.Request",
         MessageType::NodeInfoResponse => "GetNodeInfo.Response",
+        MessageType::BatteryInfo => "BatteryInfo",
     }
 }
 
@@ -152,6 +164,21 @@ pub fn fields(message: &Message) -> Fields {
                 list("name", one.name),
             ]);
             all
+        }
+        Message::BatteryInfo(one) => {
+            let floats = FLOATS.iter().zip(one.floats);
+            let floats = floats.map(|(name, bits)| number(name, bits.into()));
+            floats
+                .chain([
+                    number("status_flags", one.status_flags),
+                    number("state_of_health_pct", one.health),
+                    number("state_of_charge_pct", one.charge),
+                    number("state_of_charge_pct_stdev", one.charge_deviation),
+                    number("battery_id", one.battery_id),
+                    number("model_instance_id", one.model_instance_id),
+                    list("model_name", one.model_name),
+                ])
+                .collect()
         }
     }
 }
@@ -238,7 +265,26 @@ impl Given {
                 },
                 name: self.list("name"),
             }),
+            MessageType::BatteryInfo => Message::BatteryInfo(BatteryInfo {
+                floats: self.floats()?,
+                status_flags: self.number("status_flags")?,
+                health: self.number("state_of_health_pct")?,
+                charge: self.number("state_of_charge_pct")?,
+                charge_deviation: self.number("state_of_charge_pct_stdev")?,
+                battery_id: self.number("battery_id")?,
+                model_instance_id: self.number("model_instance_id")?,
+                model_name: self.list("model_name"),
+            }),
         })
+    }
+
+    /// Each float is given as its 32 bits.
+    fn floats(&self) -> Option<[u32; 7]> {
+        let mut floats = [0; 7];
+        for (float, name) in floats.iter_mut().zip(FLOATS) {
+            *float = self.number(name)?.try_into().ok()?;
+        }
+        Some(floats)
     }
 
     /// Sub-mode takes any number.

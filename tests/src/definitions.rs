@@ -1,4 +1,4 @@
-//! The five types' IDs and their signatures, worked out from the normalized definitions
+//! The types' IDs and their signatures, worked out from the normalized definitions
 //! (RULES 11).
 
 use crate::crc::{extend, hash};
@@ -8,8 +8,9 @@ pub const ALLOCATION: u16 = 1;
 pub const KEY_VALUE: u16 = 16370;
 pub const LOG_MESSAGE: u16 = 16383;
 pub const GET_NODE_INFO: u16 = 1;
+pub const BATTERY_INFO: u16 = 1092;
 
-/// The signature of one of the five types, of kind 0 (message) or 1 (service); 0 of any other.
+/// The signature of one of the types, of kind 0 (message) or 1 (service); 0 of any other.
 pub fn signature(kind: u32, type_id: u32) -> u64 {
     let Ok(type_id) = u16::try_from(type_id) else {
         return 0;
@@ -20,6 +21,7 @@ pub fn signature(kind: u32, type_id: u32) -> u64 {
         (0, KEY_VALUE) => key_value(),
         (0, LOG_MESSAGE) => log_message(),
         (1, GET_NODE_INFO) => get_node_info(),
+        (0, BATTERY_INFO) => battery_info(),
         _ => 0,
     }
 }
@@ -74,6 +76,26 @@ pub fn get_node_info() -> u64 {
     [node_status(), software_version(), hardware_version()]
         .into_iter()
         .fold(own, extend)
+}
+
+pub fn battery_info() -> u64 {
+    hash(
+        b"uavcan.equipment.power.BatteryInfo\n\
+        saturated float16 temperature\n\
+        saturated float16 voltage\n\
+        saturated float16 current\n\
+        saturated float16 average_power_10sec\n\
+        saturated float16 remaining_capacity_wh\n\
+        saturated float16 full_charge_capacity_wh\n\
+        saturated float16 hours_to_full_charge\n\
+        saturated uint11 status_flags\n\
+        saturated uint7 state_of_health_pct\n\
+        saturated uint7 state_of_charge_pct\n\
+        saturated uint7 state_of_charge_pct_stdev\n\
+        saturated uint8 battery_id\n\
+        saturated uint32 model_instance_id\n\
+        saturated uint8[<=31] model_name",
+    )
 }
 
 fn log_level() -> u64 {

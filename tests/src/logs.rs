@@ -26,7 +26,7 @@ pub fn run(input: &[u8]) -> Vec<u8> {
     output.into_bytes()
 }
 
-/// Own ID 1, subscribed to the five types.
+/// Own ID 1, subscribed to every type.
 fn receiver() -> Receiver {
     let one = |service, type_id, signature| Subscription {
         service,
@@ -39,8 +39,9 @@ fn receiver() -> Receiver {
         one(false, types::KEY_VALUE, types::key_value()),
         one(false, types::LOG_MESSAGE, types::log_message()),
         one(true, types::GET_NODE_INFO, types::get_node_info()),
+        one(false, types::BATTERY_INFO, types::battery_info()),
     ];
-    Receiver::setup(1, subscriptions).expect("five types that differ")
+    Receiver::setup(1, subscriptions).expect("types that differ")
 }
 
 fn text(answer: &Answer) -> String {

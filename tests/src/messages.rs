@@ -1,7 +1,8 @@
-//! The five message types, both ways (RULES 9 and 10).
+//! The message types, both ways (RULES 9 and 10).
 //!
 //! Numbers are held wider than their fields, so that a caller's number may be too large.
 
+use crate::binary16::{narrow, widen};
 use crate::bits::{Reader, Refusal, Writer};
 
 #[derive(Clone, Debug, PartialEq, Eq)]
@@ -60,6 +61,20 @@ pub struct NodeInfo<'a> {
 }
 
 #[derive(Clone, Debug, PartialEq, Eq)]
+pub struct BatteryInfo<'a> {
+    /// Temperature, voltage, current, average power, remaining and full capacity, hours to full
+    /// charge: each as the bits of a binary32.
+    pub floats: [u32; 7],
+    pub status_flags: u64,
+    pub health: u64,
+    pub charge: u64,
+    pub charge_deviation: u64,
+    pub battery_id: u64,
+    pub model_instance_id: u64,
+    pub model_name: &'a [u8],
+}
+
+#[derive(Clone, Debug, PartialEq, Eq)]
 pub enum Message<'a> {
     NodeStatus(NodeStatus),
     Allocation(Allocation<'a>),
@@ -67,6 +82,7 @@ pub enum Message<'a> {
     LogMessage(LogMessage<'a>),
     NodeInfoRequest,
     NodeInfoResponse(NodeInfo<'a>),
+    BatteryInfo(BatteryInfo<'a>),
 }
 
 #[derive(Clone, Copy, Debug, PartialEq, Eq)]
@@ -77,16 +93,18 @@ pub enum MessageType {
     LogMessage,
     NodeInfoRequest,
     NodeInfoResponse,
+    BatteryInfo,
 }
 
 impl MessageType {
-    pub const ALL: [MessageType; 6] = [
+    pub const ALL: [MessageType; 7] = [
         MessageType::NodeStatus,
         MessageType::Allocation,
         MessageType::KeyValue,
         MessageType::LogMessage,
         MessageType::NodeInfoRequest,
         MessageType::NodeInfoResponse,
+        MessageType::BatteryInfo,
     ];
 }
 
@@ -100,6 +118,7 @@ pub fn decode(message_type: MessageType, payload: &[u8]) -> Result<Message<'_>, 
         MessageType::LogMessage => Message::LogMessage(LogMessage::read(reader)?),
         MessageType::NodeInfoRequest => Message::NodeInfoRequest,
         MessageType::NodeInfoResponse => Message::NodeInfoResponse(NodeInfo::read(reader)?),
+        MessageType::BatteryInfo => Message::BatteryInfo(BatteryInfo::read(reader)?),
     };
     reader.end()?;
     Ok(message)
@@ -115,6 +134,7 @@ pub fn encode(message: &Message, out: &mut [u8]) -> Result<usize, Refusal> {
         Message::LogMessage(one) => one.write(&mut writer),
         Message::NodeInfoRequest => (),
         Message::NodeInfoResponse(one) => one.write(&mut writer),
+        Message::BatteryInfo(one) => one.write(&mut writer),
     }
     writer.finish(out)
 }
@@ -246,6 +266,38 @@ impl<'a> NodeInfo<'a> {
         self.hardware.write(writer);
         writer.require(is_name(self.name));
         writer.last_list(self.name, 80);
+    }
+}
+
+impl<'a> BatteryInfo<'a> {
+    fn read(reader: &mut Reader<'a>) -> Result<BatteryInfo<'a>, Refusal> {
+        let mut floats = [0; 7];
+        for float in &mut floats {
+            *float = widen(reader.number(16)? as u16);
+        }
+        Ok(BatteryInfo {
+            floats,
+            status_flags: reader.number(11)?,
+            health: reader.number(7)?,
+            charge: reader.number(7)?,
+            charge_deviation: reader.number(7)?,
+            battery_id: reader.number(8)?,
+            model_instance_id: reader.number(32)?,
+            model_name: reader.last_list(31)?,
+        })
+    }
+
+    fn write(&self, writer: &mut Writer) {
+        for float in self.floats {
+            writer.number(u64::from(narrow(float)), 16);
+        }
+        writer.number(self.status_flags, 11);
+        writer.number(self.health, 7);
+        writer.number(self.charge, 7);
+        writer.number(self.charge_deviation, 7);
+        writer.number(self.battery_id, 8);
+        writer.number(self.model_instance_id, 32);
+        writer.last_list(self.model_name, 31);
     }
 }
 

@@ -1,4 +1,6 @@
-// Internal functions and messages under C names, for the benchmarks in bench/ alone. Not part of the product.
+// Internal functions and messages under C names, for bench/ and for the comparison of conversions in tests/. Not part of the product.
+mod battery;
+mod floats;
 mod info;
 mod status;
 

@@ -1,5 +1,6 @@
 // Decoding: a payload in hexadecimal, and its fields as text.
 use super::allocation;
+use super::battery_info;
 use super::get_node_info_request;
 use super::get_node_info_response;
 use super::key_value;
@@ -30,6 +31,9 @@ fn typed(name: &[u8], payload: &[u8], out: &mut [u8], at: usize) -> usize {
     }
     if check::same(name, b"LogMessage") {
         return log_message::decode(payload, out, at);
+    }
+    if check::same(name, b"BatteryInfo") {
+        return battery_info::decode(payload, out, at);
     }
     put::ill_formed(out, at)
 }

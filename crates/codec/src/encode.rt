@@ -1,5 +1,6 @@
 // Encoding: fields as text, and the message in hexadecimal.
 use super::allocation;
+use super::battery_info;
 use super::get_node_info_request;
 use super::get_node_info_response;
 use super::key_value;
@@ -33,6 +34,9 @@ fn typed(name: &[u8], words: &[u8], bytes: &mut [u8], message: &mut [u8]) -> Enc
     }
     if check::same(name, b"LogMessage") {
         return log_message::encode(words, bytes, message);
+    }
+    if check::same(name, b"BatteryInfo") {
+        return battery_info::encode(words, bytes, message);
     }
     Encoded::IllFormed
 }

@@ -16,7 +16,9 @@ types =
     -- KeyValue
     (0, 16370) ∷
     -- LogMessage
-    (0, 16383) ∷ []
+    (0, 16383) ∷
+    -- BatteryInfo
+    (0, 1092) ∷ []
 
 -- RULES 3.3: a subscription as a setup takes it, kind (1), type ID (4), signature (8), low byte first
 unfoldable pub record13 : ℕ → ℕ → List ℕ

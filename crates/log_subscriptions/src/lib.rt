@@ -5,7 +5,7 @@ ghost use lib.ListN.{length};
 ghost use Rattle.bits.specs.Part.{splice};
 ghost use Rattle.log_subscriptions.specs.Subscriptions.{record13, subscriptions as subscriptionsOf};
 
-const COUNT: usize = 5;
+const COUNT: usize = 6;
 
 const SERVICE: u32 = 65536;
 
@@ -16,6 +16,7 @@ const TYPES: [u32; COUNT] = [
     1, // Allocation
     16370, // KeyValue
     16383, // LogMessage
+    1092, // BatteryInfo
 ];
 
 // A type as a record for a receiver's setup (RULES 3.3): kind (1), type ID (4), signature (8), low byte first.
@@ -29,11 +30,11 @@ fn put(out: &mut [u8], j: usize, kind: u32, type_id: u32)
 }
 
 // Internal. The records of all of them.
-pub fn subscriptions() -> [u8; 65]
+pub fn subscriptions() -> [u8; 78]
     ensures { λ r. ⌜ r ≡ subscriptionsOf ⌝ }
 {
     let types = TYPES;
-    let mut out = [0u8; 65];
+    let mut out = [0u8; 78];
     let mut j = 0;
     while j < COUNT {
         put(&mut out, j, types[j] / SERVICE, types[j] % SERVICE);

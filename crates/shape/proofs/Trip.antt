@@ -12,12 +12,12 @@ use Rattle.shape.proofs.Reading.{got-on}
 use Rattle.shape.proofs.RoundTrip.{made, round-there, round-back}
 
 -- a value that comes through a map
-record Through {A B : Type 0} (f : A → B) (r : Answer A) (x : B) : Type 0 where
-  from : A
-  is : r ≡ got from
-  maps : x ≡ f from
+pub record Through {A B : Type 0} (f : A → B) (r : Answer A) (x : B) : Type 0 where
+  pub from : A
+  pub is : r ≡ got from
+  pub maps : x ≡ f from
 
-through : {A B : Type 0} (f : A → B) (r : Answer A) (x : B) → mapAnswer f r ≡ got x → Through f r x
+pub through : {A B : Type 0} (f : A → B) (r : Answer A) (x : B) → mapAnswer f r ≡ got x → Through f r x
 unfolding mapAnswer
 through f (refused n) x e = absurd (let z : _≡_ {A = ℕ} 0 1 = cc in omega arith)
 through f (got a) x e = record { from = a; is = refl; maps = cc }

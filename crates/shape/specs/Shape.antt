@@ -66,7 +66,7 @@ encode (list w m d) v = toBits (widthOf m) (length (v .0)) ++ (itemBits w (v .0)
 encode (tail w m ok) v = itemBits w v
 
 -- ── reading, field by field (RULES 9.6, 9.11): 15 the payload ends in a field, 16 too many, 25 padding not zero, 17 not allowed ──
--- The five types fill whole bytes: none of them answers 25.
+-- Each type of today fills whole bytes: none answers 25.
 
 unfoldable pub decode : (d : Shape) → List Bool → Answer (Values d)
 decode end bs = refuseIf (leb 8 (length bs)) 16 (refuseIf (not (allZero bs)) 25 (got tt))

@@ -1,4 +1,4 @@
-// Works out the signatures of the five message types (RULES 11), from the bytes of their normalized definitions, and prints
+// Works out the signatures of the message types (RULES 11), from the bytes of their normalized definitions, and prints
 // each beside the number of the public DroneCAN set.
 use checksum::crc64;
 
@@ -102,6 +102,26 @@ saturated uint8[<=90] text",
     crc64::extend(own, log_level())
 }
 
+fn battery_info() -> u64 {
+    plain(
+        b"uavcan.equipment.power.BatteryInfo
+saturated float16 temperature
+saturated float16 voltage
+saturated float16 current
+saturated float16 average_power_10sec
+saturated float16 remaining_capacity_wh
+saturated float16 full_charge_capacity_wh
+saturated float16 hours_to_full_charge
+saturated uint11 status_flags
+saturated uint7 state_of_health_pct
+saturated uint7 state_of_charge_pct
+saturated uint7 state_of_charge_pct_stdev
+saturated uint8 battery_id
+saturated uint32 model_instance_id
+saturated uint8[<=31] model_name",
+    )
+}
+
 fn main() {
     row(
         b"uavcan.protocol.NodeStatus",
@@ -127,5 +147,10 @@ fn main() {
         b"uavcan.protocol.debug.LogMessage",
         log_message(),
         types::signature(0, 16383),
+    );
+    row(
+        b"uavcan.equipment.power.BatteryInfo",
+        battery_info(),
+        types::signature(0, 1092),
     );
 }

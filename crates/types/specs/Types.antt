@@ -15,7 +15,9 @@ standard =
     -- KeyValue
     record { kind = 0; type = 16370; signature = 0xE02F25D6E0C98AE0 } ∷
     -- LogMessage
-    record { kind = 0; type = 16383; signature = 0xD654A48E0C049D75 } ∷ []
+    record { kind = 0; type = 16383; signature = 0xD654A48E0C049D75 } ∷
+    -- BatteryInfo
+    record { kind = 0; type = 1092; signature = 0x249C26548A711966 } ∷ []
 
 -- 0: no standard type
 unfoldable pub signatureOf : ℕ → ℕ → ℕ

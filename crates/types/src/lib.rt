@@ -1,4 +1,4 @@
-// The five standard types (RULES 10.1): kind, data type ID and signature. What is proved and uses a signature takes it from here.
+// The standard types (RULES 10.1): kind, data type ID and signature. What is proved and uses a signature takes it from here.
 ghost use mathlib.Core.Path.{_≡_};
 ghost use Rattle.types.specs.Types.{signatureOf};
 
@@ -12,6 +12,7 @@ pub fn signature(kind: u32, type_id: u32) -> u64
             1 => 0x0B2A812620A11D40,
             16370 => 0xE02F25D6E0C98AE0,
             16383 => 0xD654A48E0C049D75,
+            1092 => 0x249C26548A711966,
             _ => 0,
         };
     }

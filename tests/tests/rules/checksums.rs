@@ -46,4 +46,5 @@ fn signatures_of_the_public_set() {
     assert_eq!(definitions::allocation(), 0x0B2A_8126_20A1_1D40);
     assert_eq!(definitions::key_value(), 0xE02F_25D6_E0C9_8AE0);
     assert_eq!(definitions::log_message(), 0xD654_A48E_0C04_9D75);
+    assert_eq!(definitions::battery_info(), 0x249C_2654_8A71_1966);
 }

@@ -1,10 +1,11 @@
-//! Messages (RULES 9 and 10): bit order, the five types both ways, and their refusals.
+//! Messages (RULES 9 and 10): bit order, floats of 16 bits, the types both ways, and their refusals.
 
 use crate::allocation_log::{ALLOCATION_LOG, UNIQUE_ID};
+use reference::binary16::{narrow, widen};
 use reference::bits::{Refusal, Writer};
 use reference::messages::{
-    decode, encode, Allocation, HardwareVersion, KeyValue, LogMessage, Message, MessageType,
-    NodeInfo, NodeStatus, SoftwareVersion,
+    decode, encode, Allocation, BatteryInfo, HardwareVersion, KeyValue, LogMessage, Message,
+    MessageType, NodeInfo, NodeStatus, SoftwareVersion,
 };
 
 fn written(fields: &[(i64, u32)]) -> Vec<u8> {
@@ -186,6 +187,101 @@ fn log_message() {
             text: &[0; 99][..text],
         });
         assert_eq!(encoded(&message), Err(Refusal::NotAllowed));
+    }
+}
+
+/// The patterns of RULES 15.2.
+#[test]
+fn floats_of_16_bits() {
+    let coming = [
+        (0x3C00, 0x3F80_0000),
+        (0x0001, 0x3380_0000),
+        (0x03FF, 0x387F_C000),
+        (0x7BFF, 0x477F_E000),
+        (0x8000, 0x8000_0000),
+        (0xFC00, 0xFF80_0000),
+        (0xFFFF, 0x7FC0_0000),
+    ];
+    for (half, single) in coming {
+        assert_eq!(widen(half), single, "{half:#x}");
+    }
+    let going = [
+        (0x3F80_1000, 0x3C00),
+        (0x3F80_3000, 0x3C02),
+        (0x3300_0000, 0x0000),
+        (0x3300_0001, 0x0001),
+        (0x387F_E000, 0x0400),
+        (0x477F_EFFF, 0x7BFF),
+        (0x477F_F000, 0x7BFF),
+        (0x8000_0001, 0x8000),
+        (0xFF7F_FFFF, 0xFBFF),
+        (0xFF80_0000, 0xFC00),
+        (0xFF80_0001, 0x7E00),
+    ];
+    for (single, half) in going {
+        assert_eq!(narrow(single), half, "{single:#x}");
+    }
+}
+
+/// Compared as an f64, which holds every value of both formats.
+#[test]
+fn every_binary16_has_its_value() {
+    for half in 0..=u16::MAX {
+        let (single, code) = (f32::from_bits(widen(half)), half & 0x7FFF);
+        if code > 0x7C00 {
+            assert_eq!((widen(half), narrow(widen(half))), (0x7FC0_0000, 0x7E00));
+            continue;
+        }
+        assert_eq!(narrow(widen(half)), half);
+        assert_eq!(single.is_sign_negative(), half > 0x7FFF);
+        if code < 0x7C00 {
+            let (exponent, digits) = (i32::from(code >> 10), f64::from(code & 0x3FF));
+            let leading = if exponent == 0 { 0.0 } else { 1024.0 };
+            let value = (leading + digits) * 2f64.powi(exponent.max(1) - 25);
+            assert_eq!(f64::from(single.abs()), value);
+        }
+    }
+}
+
+fn battery() -> BatteryInfo<'static> {
+    BatteryInfo {
+        floats: [300.0, 22.203125, -1.5, 33.3125, 40.0, 100.0, f32::NAN].map(f32::to_bits),
+        status_flags: 3,
+        health: 127,
+        charge: 40,
+        charge_deviation: 2,
+        battery_id: 1,
+        model_instance_id: 0x1234_5678,
+        model_name: b"LiPo",
+    }
+}
+
+#[test]
+fn battery_info() {
+    let bytes = b"\xB0\x5C\x8D\x4D\x00\xBE\x2A\x50\x00\x51\x40\x56\x00\x7E\
+        \x03\x1F\xD4\x02\x01\x78\x56\x34\x12LiPo";
+    let message = Message::BatteryInfo(battery());
+    assert_eq!(encoded(&message).unwrap(), bytes);
+    assert_eq!(decode(MessageType::BatteryInfo, bytes), Ok(message));
+    for end in 0..23 {
+        assert_eq!(refusal(MessageType::BatteryInfo, &bytes[..end]), 15);
+    }
+    assert!(decode(MessageType::BatteryInfo, &[0; 54]).is_ok());
+    assert_eq!(refusal(MessageType::BatteryInfo, &[0; 55]), 16);
+    let refused: [fn(&mut BatteryInfo); 7] = [
+        |one| one.status_flags = 2048,
+        |one| one.health = 128,
+        |one| one.charge = 128,
+        |one| one.charge_deviation = 128,
+        |one| one.battery_id = 256,
+        |one| one.model_instance_id = 1 << 32,
+        |one| one.model_name = &[0; 32],
+    ];
+    for spoil in refused {
+        let mut one = battery();
+        spoil(&mut one);
+        let refused = encoded(&Message::BatteryInfo(one));
+        assert_eq!(refused, Err(Refusal::NotAllowed));
     }
 }
 

@@ -45,7 +45,7 @@ impl Options {
             frames: 600_000,
             sends: 200_000,
             messages: 100_000,
-            lines: 250_000,
+            lines: 300_000,
             minimum: 1000,
         };
         while let Some(word) = words.next() {

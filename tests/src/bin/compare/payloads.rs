@@ -4,10 +4,11 @@ use crate::entry_points::Serialization;
 use crate::lent::Pair;
 use crate::random::Random;
 use crate::tally::{compare, Difference, Tally};
+use reference::binary16::{narrow, widen, LARGEST};
 use reference::bits::Refusal;
 use reference::messages::{
-    decode, encode, Allocation, HardwareVersion, KeyValue, LogMessage, Message, MessageType,
-    NodeInfo, NodeStatus, SoftwareVersion,
+    decode, encode, Allocation, BatteryInfo, HardwareVersion, KeyValue, LogMessage, Message,
+    MessageType, NodeInfo, NodeStatus, SoftwareVersion,
 };
 
 const MOST_ROOM: usize = 600;
@@ -97,7 +98,7 @@ impl Payloads {
             .as_ref()
             .map_or_else(|refusal| refusal.number(), |_| 0);
         self.tallies[index].0.number(number);
-        let back = !whole || actual == Ok(without_sub_mode(message));
+        let back = !whole || actual == Ok(coming_back(message));
         if expected == actual && back {
             return Ok(());
         }
@@ -142,6 +143,10 @@ pub fn numbers(message_type: MessageType) -> (Expected, Expected) {
             ("decode GetNodeInfo response", &[0, 15, 16, 17]),
             ("encode GetNodeInfo response", WRITING),
         ),
+        MessageType::BatteryInfo => (
+            ("decode BatteryInfo", READING),
+            ("encode BatteryInfo", WRITING),
+        ),
     }
 }
 
@@ -185,6 +190,7 @@ pub fn message<'a>(
         }),
         MessageType::NodeInfoRequest => Message::NodeInfoRequest,
         MessageType::NodeInfoResponse => Message::NodeInfoResponse(info(random, lists)),
+        MessageType::BatteryInfo => Message::BatteryInfo(battery(random, lists)),
     }
 }
 
@@ -231,6 +237,44 @@ fn info<'a>(random: &mut Random, lists: &'a Lists) -> NodeInfo<'a> {
     }
 }
 
+fn battery<'a>(random: &mut Random, lists: &'a Lists) -> BatteryInfo<'a> {
+    BatteryInfo {
+        floats: [(); 7].map(|()| float(random)),
+        status_flags: number(random, 11),
+        health: number(random, 7),
+        charge: number(random, 7),
+        charge_deviation: number(random, 7),
+        battery_id: number(random, 8),
+        model_instance_id: number(random, 32),
+        model_name: lists.at_most(random, 0, 31),
+    }
+}
+
+/// The bits of a binary32: one at an edge, one that a binary16 equals, one halfway to the next
+/// or beside that, or any.
+fn float(random: &mut Random) -> u32 {
+    const EDGES: [u32; 8] = [
+        0x8000_0000,
+        0x3300_0000,
+        0x387F_E000,
+        0x477F_EFFF,
+        0x477F_F000,
+        0x7F80_0000,
+        0xFF80_0000,
+        0x7F80_0001,
+    ];
+    let half = random.next() as u16;
+    match random.below(4) {
+        0 => random.pick(&EDGES),
+        1 => widen(half),
+        2 if half & 0x7FFF < LARGEST => {
+            let halfway = (u64::from(widen(half)) + u64::from(widen(half + 1))) / 2;
+            (halfway + random.below(3)) as u32
+        }
+        _ => random.next() as u32,
+    }
+}
+
 /// Sixteen bytes, rarely one fewer or more.
 fn unique_id(random: &mut Random) -> &'static [u8] {
     const BYTES: &[u8] = b"a part of these bytes: 16 of them";
@@ -273,12 +317,15 @@ fn spoil(random: &mut Random, payload: &mut Vec<u8>) {
     }
 }
 
-/// The message as it comes back.
-fn without_sub_mode<'a>(message: &Message<'a>) -> Message<'a> {
+/// The message as it comes back: sub-mode zero, floats as their binary16.
+fn coming_back<'a>(message: &Message<'a>) -> Message<'a> {
     let mut back = message.clone();
     match &mut back {
         Message::NodeStatus(status) => status.sub_mode = 0,
         Message::NodeInfoResponse(info) => info.status.sub_mode = 0,
+        Message::BatteryInfo(battery) => {
+            battery.floats = battery.floats.map(|bits| widen(narrow(bits)));
+        }
         _ => (),
     }
     back

@@ -4,7 +4,8 @@ use crate::entry_points::{Serialization, REFERENCE};
 use crate::payloads::{message, numbers, Lists};
 use crate::random::Random;
 use crate::tally::{Difference, Tally};
-use reference::codec::{answer, fields, hex, type_name, Value, LONGEST_LINE};
+use reference::binary16::{narrow, widen};
+use reference::codec::{answer, fields, hex, type_name, Value, FLOATS, LONGEST_LINE};
 use reference::messages::{encode, Message, MessageType};
 use std::io::{Read, Write};
 use std::process::{Command, Stdio};
@@ -41,8 +42,15 @@ const LEVELS: [&str; 8] = [
 ];
 const NAN: &str = "signalling NaN";
 const ANY_SUB_MODE: &str = "sub-mode outside of 64 bits";
+/// What a float is on its way to 16 bits.
+const KEPT: &str = "float that a binary16 equals";
+const ROUNDED: &str = "float to be rounded";
+const CLIPPED: &str = "finite float of 65520 or more";
+const MINUS_ZERO: &str = "-0";
+const INFINITE: &str = "infinity";
+const NO_NUMBER: &str = "NaN on its way to 16 bits";
 /// Lists by name, and the case that one is empty.
-const EMPTY: [(&str, &str); 6] = [
+const EMPTY: [(&str, &str); 7] = [
     ("unique_id", "empty unique ID of an Allocation"),
     ("key", "empty key"),
     ("source", "empty source"),
@@ -52,6 +60,7 @@ const EMPTY: [(&str, &str); 6] = [
         "empty certificate",
     ),
     ("name", "empty name"),
+    ("model_name", "empty model name"),
 ];
 /// Numbers that no field but the sub-mode takes.
 const OUTSIDE: [&str; 5] = [
@@ -74,7 +83,8 @@ impl Requests {
             )
         });
         let empty = EMPTY.map(|(_, case)| case);
-        let cases = [&MODES[..], &LEVELS, &empty, &[NAN, ANY_SUB_MODE]].concat();
+        let floats = [KEPT, ROUNDED, CLIPPED, MINUS_ZERO, INFINITE, NO_NUMBER];
+        let cases = [&MODES[..], &LEVELS, &empty, &floats, &[NAN, ANY_SUB_MODE]].concat();
         Requests {
             answerer,
             random: Random::new(seed),
@@ -147,13 +157,14 @@ impl Requests {
 
     /// A message of each type with every list as long as it may be, cut at every length.
     fn every_cut(&mut self) -> Vec<Request> {
-        const LENGTHS: [(usize, [u8; 2]); 6] = [
+        const LENGTHS: [(usize, [u8; 2]); 7] = [
             (7, [0, 0]),
             (17, [0, 0]),
             (62, [0, 0]),
             (122, [0, 31]),
             (0, [0, 0]),
             (376, [40, 255]),
+            (54, [0, 0]),
         ];
         let mut requests = Vec::new();
         for (index, (length, [at, count])) in LENGTHS.into_iter().enumerate() {
@@ -247,6 +258,9 @@ impl Requests {
                 {
                     self.cases.case(NAN);
                 }
+                Value::Number(Some(bits)) if FLOATS.contains(&name) => {
+                    self.cases.case(float_case(bits as u32));
+                }
                 Value::List(bytes) if bytes.is_empty() => {
                     let list = EMPTY.iter().find(|(list, _)| *list == name);
                     list.iter().for_each(|(_, case)| self.cases.case(case));
@@ -283,6 +297,17 @@ impl Requests {
             "0" => self.random.pick(&["0", "-0", "000"]).to_string(),
             plain => plain.to_string(),
         }
+    }
+}
+
+fn float_case(bits: u32) -> &'static str {
+    match bits & 0x7FFF_FFFF {
+        0x7F80_0001.. => NO_NUMBER,
+        0x7F80_0000 => INFINITE,
+        0x477F_F000.. => CLIPPED,
+        _ if bits == 0x8000_0000 => MINUS_ZERO,
+        _ if widen(narrow(bits)) == bits => KEPT,
+        _ => ROUNDED,
     }
 }
 

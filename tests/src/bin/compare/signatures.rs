@@ -1,11 +1,13 @@
-//! The standard types' signatures compared: the five, numbers near theirs, and any.
+//! The standard types' signatures compared: theirs, those of numbers near theirs, and any.
 
 use crate::entry_points::Signature;
 use crate::random::Random;
 use crate::tally::{compare, Difference, Tally};
-use reference::definitions::{signature, ALLOCATION, KEY_VALUE, LOG_MESSAGE, NODE_STATUS};
+use reference::definitions::{
+    signature, ALLOCATION, BATTERY_INFO, KEY_VALUE, LOG_MESSAGE, NODE_STATUS,
+};
 
-const STANDARD: &str = "one of the five";
+const STANDARD: &str = "a standard type";
 const OTHER: &str = "no standard type";
 
 pub struct Signatures {
@@ -40,7 +42,13 @@ impl Signatures {
     fn numbers(&mut self) -> (u32, u32) {
         let random = &mut self.random;
         let kind = random.pick(&[0, 0, 0, 1, 1, 2, 256, u32::MAX]);
-        let standard = random.pick(&[NODE_STATUS, ALLOCATION, KEY_VALUE, LOG_MESSAGE]);
+        let standard = random.pick(&[
+            NODE_STATUS,
+            ALLOCATION,
+            KEY_VALUE,
+            LOG_MESSAGE,
+            BATTERY_INFO,
+        ]);
         let type_id = match random.below(4) {
             0 => random.next() as u32,
             1 => u32::from(standard) + random.below(3) as u32 - 1,

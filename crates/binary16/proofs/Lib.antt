@@ -1,0 +1,9 @@
+pub mod Pack
+pub mod Shift
+pub mod Round
+pub mod Wide
+pub mod Near
+pub mod Only
+pub mod Whole
+pub mod Steps
+pub mod Real

@@ -1,0 +1,4 @@
+pub mod Format
+pub mod Convert
+pub mod Laws
+pub mod Samples

@@ -1,0 +1,2 @@
+mod BatteryInfoFacts
+mod Trips

@@ -1,0 +1,51 @@
+-- `battery_info::decode` meets its contract: what `decode_raw` gives, its floats widened.
+use mathlib.Core.Path.{_≡_, refl, sym, ap, _∙_}
+use Prim.Native.Nat.{ℕ}
+use native.Mathlib.Omega.{arith}
+use Rattle.shape.specs.Answer.{Answer, refused, got, numbered}
+use Rattle.shape.proofs.Reading.{refused-on, got-on}
+use Rattle.equipment_power.specs.BatteryInfo.{rawAnswerOf, withFloats}
+use Rattle.equipment_power.specs.declared.battery_info.BatteryInfo.{BatteryInfo}
+use borrow.Author.Needs.{needs}
+use Rattle.equipment_power.proofs.battery_info.decode.Statement.{statement}
+use Rattle.equipment_power.proofs.battery_info.decode.Tie as tie
+
+decode-raw-requires : tie.Need-decode-raw-requires
+decode-raw-requires c κs = search needs
+
+enum-known-n : tie.Need-enum-known-n
+enum-known-n c = search needs
+
+enum-known-m : tie.Need-enum-known-m
+enum-known-m c = search needs
+
+widened-requires : tie.Need-widened-requires
+widened-requires c κs = search needs
+
+-- a number and a value are those of one answer
+unrefused : {A : Type 0} (r : Answer A) (n : ℕ) → numbered (refused n) ≡ numbered r → r ≡ refused n
+unrefused (refused k) n e = ap refused (sym (ap (λ x. x .number) e))
+unrefused (got a) n e = let q = ap (λ x. x .value) e in let z : _≡_ {A = ℕ} 0 1 = cc in absurd (omega arith)
+
+unread : {A : Type 0} (r : Answer A) (a : A) → numbered (got a) ≡ numbered r → r ≡ got a
+unread (refused k) a e = let q = ap (λ x. x .value) e in let z : _≡_ {A = ℕ} 0 1 = cc in absurd (omega arith)
+unread (got b) a e = let q = ap (λ x. x .value) e in cc
+
+returns : tie.Need-returns
+returns c =
+    let n = c .before in
+    let d = n .before .before .decode-raw in
+    ap numbered (sym (refused-on withFloats refl (unrefused _ _ (sym (ap rawAnswerOf (n .n .given .1)) ∙ d .ensures))))
+
+returns-2 : tie.Need-returns-2
+returns-2 c =
+    let m = c .before .before in
+    let d = m .before .before .decode-raw in
+    let place = m .m .given .0 .1 .0 in
+    ap (λ (x : BatteryInfo). numbered (got (x, place))) (c .widened .ensures)
+    ∙ ap numbered (sym (got-on withFloats refl (unread _ _ (sym (ap rawAnswerOf (m .m .given .1)) ∙ d .ensures))))
+
+pub decode-spec : {M : Type 1} → statement M
+decode-spec =
+    tie.close
+    (tie.spec decode-raw-requires enum-known-n enum-known-m widened-requires returns returns-2)

@@ -1,0 +1,54 @@
+-- RULES 9.10: the return trips of BatteryInfo, instances of the laws over every description; `laws.rt` has a function for them.
+use mathlib.Core.Path.{_≡_}
+use mathlib.Core.List.{List, [], _∷_}
+use Prim.Native.Nat.{ℕ, _^_, _≤_, _<_}
+use lib.ListN.{length}
+use lib.Ieee.{Float}
+use Rattle.binary16.specs.Format.{code16}
+use Rattle.binary16.specs.Convert.{floatOf}
+use Rattle.bits.specs.Order.{Octets, unpack}
+use Rattle.shape.specs.Answer.{got}
+use Rattle.shape.specs.Shape.{Values, encoded, cleared}
+use Rattle.shape.specs.Laws.{Trips}
+use Rattle.shape.specs.declared.answer.Place.{Place}
+use Rattle.equipment_power.specs.BatteryInfo.{nameOnly, batteryInfo, modelNameIn, rawValues, rawOf, rawAt, narrowedInfo, infoIn}
+use Rattle.equipment_power.specs.declared.battery_info.BatteryInfo.{BatteryInfo}
+use Rattle.equipment_power.specs.declared.battery_info.Raw.{Raw}
+
+-- what is in a payload, numbers at their places and the name as the part that `model_name` gives
+abbrev pub found : List ℕ → Values batteryInfo
+found p = rawValues (rawAt (unpack p)) nameOnly (modelNameIn p)
+
+-- an f32 that some binary16 equals
+abbrev pub Held : Float → Type 0
+Held x = (h : ℕ) × ((h < 2 ^ 16) × (x ≡ floatOf h))
+
+abbrev pub AllHeld : List Float → Type 0
+AllHeld [] = Unit {0}
+AllHeld (x ∷ xs) = Held x × AllHeld xs
+
+abbrev pub floats : BatteryInfo → List Float
+floats x =
+    x .temperature ∷ x .voltage ∷ x .current ∷ x .«average_power_10sec» ∷ x .«remaining_capacity_wh» ∷ x .«full_charge_capacity_wh» ∷ x .«hours_to_full_charge» ∷ []
+
+-- no pattern is a NaN's
+abbrev pub NoNan : List ℕ → Type 0
+NoNan [] = Unit {0}
+NoNan (h ∷ hs) = (code16 h ≤ 0x7C00) × NoNan hs
+
+abbrev pub patterns : Raw → List ℕ
+patterns m =
+    m .temperature ∷ m .voltage ∷ m .current ∷ m .«average_power_10sec» ∷ m .«remaining_capacity_wh» ∷ m .«full_charge_capacity_wh» ∷ m .«hours_to_full_charge» ∷ []
+
+pub record Laws : Type 0 where
+  -- by the payload's own numbers every bit is kept, a NaN's too
+  pub raw : Trips batteryInfo rawOf found
+  pub whole : (p : List ℕ) → Octets p → cleared batteryInfo p ≡ p
+  -- as f32: what was written is read, where each float is one that some binary16 equals
+  pub there : (x : BatteryInfo) (name : List ℕ) (room : ℕ) (p : List ℕ) → AllHeld (floats x)
+      → encoded batteryInfo (rawValues (narrowedInfo x) nameOnly name) room ≡ got p
+      → (infoIn p ≡ got (x, record { at = 23; len = length name })) × (modelNameIn p ≡ name)
+  -- and what was read is written as it came, where none is NaN
+  pub back : (p : List ℕ) → Octets p → (x : BatteryInfo) (place : Place) (room : ℕ) → infoIn p ≡ got (x, place) → length p ≤ room
+      → NoNan (patterns (rawAt (unpack p)))
+      → encoded batteryInfo (rawValues (narrowedInfo x) nameOnly (modelNameIn p)) room ≡ got p

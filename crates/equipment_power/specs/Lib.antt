@@ -1,0 +1,3 @@
+pub mod BatteryInfo
+pub mod Laws
+pub mod Samples

@@ -1,0 +1,3 @@
+// uavcan.equipment.power: BatteryInfo (message 1092). RULES 10.9.
+pub mod battery_info;
+pub mod laws;
