@@ -6,13 +6,13 @@ enum { TIMEOUT = 2000000, SWITCH_DELAY = 1000000 }; /* microseconds */
 
 /* ---- the checksum ---- */
 
-static uint16_t table[256];
+static uint16_t table[16];
 
 static void fill_table(void)
 {
-    for (unsigned i = 0; i < 256; i++) {
-        unsigned c = i << 8;
-        for (int k = 0; k < 8; k++)
+    for (unsigned i = 0; i < 16; i++) {
+        unsigned c = i << 12;
+        for (int k = 0; k < 4; k++)
             c = (c & 0x8000) ? (c << 1) ^ 0x1021 : c << 1;
         table[i] = (uint16_t)c;
     }
@@ -20,7 +20,8 @@ static void fill_table(void)
 
 static uint16_t crc_byte(uint16_t c, uint8_t byte)
 {
-    return (uint16_t)((c << 8) ^ table[(c >> 8) ^ byte]);
+    c = (uint16_t)((c << 4) ^ table[(c >> 12) ^ (byte >> 4)]);
+    return (uint16_t)((c << 4) ^ table[(c >> 12) ^ (byte & 15)]);
 }
 
 static uint16_t crc_bytes(uint16_t c, const uint8_t *bytes, size_t n)

@@ -7,7 +7,7 @@
 
 uint16_t bench_crc16(uint16_t c, const uint8_t *s, size_t n);
 
-static uint16_t table[256];
+static uint16_t table[16];
 
 static uint16_t bitwise(uint16_t c, const uint8_t *s, size_t n)
 {
@@ -21,8 +21,10 @@ static uint16_t bitwise(uint16_t c, const uint8_t *s, size_t n)
 
 static uint16_t by_table(uint16_t c, const uint8_t *s, size_t n)
 {
-    for (size_t i = 0; i < n; i++)
-        c = (uint16_t)((c << 8) ^ table[(c >> 8) ^ s[i]]);
+    for (size_t i = 0; i < n; i++) {
+        c = (uint16_t)((c << 4) ^ table[(c >> 12) ^ (s[i] >> 4)]);
+        c = (uint16_t)((c << 4) ^ table[(c >> 12) ^ (s[i] & 15)]);
+    }
     return c;
 }
 
@@ -57,7 +59,7 @@ int main(void)
     static uint8_t s[512];
     const size_t sizes[] = {8, 64, 512};
     int wrong = 0;
-    for (int i = 0; i < 256; i++) {
+    for (int i = 0; i < 16; i++) {
         uint8_t b = (uint8_t)i;
         table[i] = bitwise(0, &b, 1);
     }
