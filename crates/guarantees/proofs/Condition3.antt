@@ -1,5 +1,5 @@
 -- Condition 3 over lent bytes (RULES 14.14): they answer and move as the rules' table does, through the view.
-use mathlib.Core.Path.{_≡_, refl, ap, _∙_}
+use mathlib.Core.Path.{ap, _∙_}
 use mathlib.Core.List.{List}
 use Prim.Native.Nat.{ℕ}
 use Rattle.guarantees.specs.Condition3.{Lent, lentBytes}

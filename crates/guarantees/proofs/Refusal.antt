@@ -3,7 +3,6 @@ use mathlib.Core.Path.{_≡_, refl, sym, ap, _∙_}
 use mathlib.Core.Bool.{Bool, true, false}
 use mathlib.Core.List.{List}
 use Prim.Native.Nat.{ℕ}
-use native.Mathlib.Omega.{arith}
 use Rattle.bits.specs.Order.{Octets}
 use Rattle.guarantees.specs.Received.{stepOn}
 use Rattle.guarantees.specs.Refusal.{RefusalLaws}

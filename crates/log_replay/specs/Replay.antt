@@ -1,12 +1,11 @@
 -- RULES 12.5 to 12.7: what one line gives. It is read, its frame goes to the receiver, and the answer is written after the time.
-use mathlib.Core.Bool.{Bool, true, false}
+use mathlib.Core.Bool.{Bool, false}
 use mathlib.Core.List.{List, [], _∷_, _++_}
 use mathlib.Core.Option.{Option, none, some}
 use Prim.Native.Nat.{ℕ, _+_, _-_, _^_}
 use lib.Dec.{ltb, eqb}
 use lib.ListN.{replicate}
 use Rattle.log_line.specs.Line.{timeText}
-use Rattle.log_line.specs.Reading.{said}
 use Rattle.rules.specs.Frame.{Frame, Arrival}
 use Rattle.rules.specs.Limits.{payloadMax}
 use Rattle.rules.specs.Tests.{pick}

@@ -8,17 +8,16 @@ use native.Mathlib.Omega.{arith}
 use borrow.Author.Tests.{leb-false, eqb-false, ltb-false, lt-ltb, le-ltb}
 use lib.Dec.{eqb, ltb}
 use lib.ListN.{length}
-use Rattle.frame.specs.inside.Head.{headOf, headTestsOf}
+use Rattle.frame.specs.inside.Head.{headOf}
 use Rattle.receiver.specs.Receive.{arrivalOf, arriving}
 use Rattle.rules.specs.Answer.{refused}
-use Rattle.rules.specs.Check.{Reception, Test, Parsed, check, parsed, largeId, badLength, noInterface, unnamedService, badTail, forAnother, notSubscribed, readTests, headTests, first, frameCheck, orZero}
+use Rattle.rules.specs.Check.{Reception, Test, check, parsed, largeId, badLength, noInterface, unnamedService, badTail, forAnother, notSubscribed, readTests, headTests, first, frameCheck, orZero}
 use Rattle.rules.specs.Frame.{Stream, isAnonymous, unnamed, priorityOf, streamOf, tailOf, payloadOf, isStart, isEnd, toggleOf, transferOf}
 use Rattle.rules.specs.Reception.{step, stepChecked, stepAnonymous}
 use Rattle.rules.specs.Setup.{Setup, signatureFor}
 use Rattle.rules.specs.Table.{Places, orElse}
 use Rattle.rules.specs.Tests.{pick}
 use Rattle.session.specs.inside.Session.{parsedOf}
-use Rattle.session.specs.declared.Incoming.{Incoming}
 use Rattle.subscriptions.specs.inside.Subscription.{asked}
 use Rattle.subscriptions.specs.declared.Subscribed.the-variants.{Under, Not}
 

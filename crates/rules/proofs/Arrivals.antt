@@ -24,7 +24,7 @@ use Rattle.rules.specs.Sent.{tailByte, framed, pieces, carrying, frameAt
 use Rattle.rules.specs.Session.{Session, overIf, over, sumOk, closing, takeEnd, takeLong, takes, proceedIf, proceed, met, react, fresh}
 use Rattle.rules.specs.Setup.{kindOf, Setup, subscribed, signatureFor}
 use Rattle.rules.specs.Table.{empty, Places, seek, holds, placeFor}
-use Rattle.rules.specs.Tests.{pick, bit, isEmpty, sameBool, isNone}
+use Rattle.rules.specs.Tests.{isEmpty, sameBool, isNone}
 use Rattle.rules.proofs.Checks.{Accepted, none-of, roomy-check, named-not-anonymous}
 use Rattle.rules.proofs.Frames.{framed-length, framed-tail, framed-payload, fulls}
 use Rattle.rules.proofs.Ids.{bit-is, flag-le}

@@ -10,7 +10,7 @@ use lib.ListN.{length}
 use borrow.Author.Tests.{ne-eqb, le-ltb}
 use Rattle.rules.specs.Check.{Reception, parsed, largeId, badLength, noInterface, unnamedService, badTail, forAnother, notSubscribed, frameCheck, roomCheck, check}
 use Rattle.rules.specs.Condition3.{ofStream}
-use Rattle.rules.specs.Frame.{Frame, Arrival, Stream, isService, sourceOf, destinationOf, isAnonymous, streamIf, streamOf, tailOf, isStart, isEnd, toggleOf}
+use Rattle.rules.specs.Frame.{Frame, Arrival, Stream, isService, sourceOf, destinationOf, isAnonymous, streamOf, tailOf, isStart, isEnd, toggleOf}
 use Rattle.rules.specs.Sent.{arrivalAt}
 use Rattle.rules.specs.Setup.{Setup}
 use Rattle.rules.specs.Tests.{pick, bit}

@@ -11,7 +11,7 @@ use borrow.Author.Tests.{eq-eqb, ne-eqb, ltb-true}
 use Rattle.bits.specs.Tabulate.{tabulate}
 use Rattle.rules.specs.Answer.{handed}
 use Rattle.rules.specs.Condition3.{ofStream, startOf, All, answersTo, upTo, Receiver, frames, answers, tookStart, never, front, Transfer, handouts, Past, rulesTable}
-use Rattle.rules.specs.Frame.{Frame, Arrival, Stream, streamOf, isStart, tailOf}
+use Rattle.rules.specs.Frame.{Arrival, Stream, streamOf, isStart, tailOf}
 use Rattle.rules.specs.Limits.{switchDelay}
 use Rattle.rules.specs.Reception.{step}
 use Rattle.rules.specs.Sending as sending

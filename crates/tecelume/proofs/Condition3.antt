@@ -3,7 +3,7 @@ use mathlib.Core.Path.{_≡_, ap, _∙_}
 use mathlib.Core.List.{List}
 use Prim.Native.Nat.{ℕ}
 use lib.ListN.{take}
-use Rattle.tecelume.specs.Condition3.{WordReading, wordReading, wordReadingOf, wordBytes}
+use Rattle.tecelume.specs.Condition3.{WordReading, wordReading, wordBytes}
 use Rattle.tecelume.specs.Entry.{packed}
 use Rattle.tecelume.specs.Word.{wordOf}
 use Rattle.tecelume.proofs.Words.{told-fits, received-fits, read-back}

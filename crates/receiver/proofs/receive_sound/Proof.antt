@@ -1,5 +1,5 @@
 -- `receive_sound` meets its contract: the first check that refuses answers, and a frame that passes is accepted.
-use mathlib.Core.Path.{_≡_, refl, sym, ap, ap₂, subst, _∙_}
+use mathlib.Core.Path.{_≡_, refl, sym, ap, subst, _∙_}
 use mathlib.Core.Bool.{Bool, true, false}
 use mathlib.Core.List.{List}
 use mathlib.Core.Option.{some}
@@ -16,10 +16,10 @@ use Rattle.frame.specs.declared.head.Head.{Head}
 use Rattle.frame.proofs.Heads.{source-is, type-lt, transfer-type-lt, destination-lt}
 use Rattle.receiver.specs.Receive.{result, arrivalOf, arriving, lent}
 use Rattle.receiver.specs.inside.Called.{Accepted}
-use Rattle.receiver.proofs.Checks.{Readable, readable, HeadPasses, head-passes, under, not-asked, read-refuses, head-refuses, not-subscribed, no-room, accepted, heads, parsed-is, step-refused, step-accepted}
+use Rattle.receiver.proofs.Checks.{Readable, readable, head-passes, under, not-asked, read-refuses, head-refuses, not-subscribed, no-room, accepted, heads, parsed-is, step-refused, step-accepted}
 use Rattle.receiver.proofs.Lent.{untouched}
 use Rattle.rules.specs.Answer.{refused}
-use Rattle.rules.specs.Check.{Parsed, check, first, orZero, parsed}
+use Rattle.rules.specs.Check.{Parsed, check, first, orZero}
 use Rattle.rules.specs.Frame as rules
 use Rattle.rules.specs.Frame.{tailOf, payloadOf, isStart, isEnd, toggleOf, isAnonymous}
 use Rattle.rules.specs.Reception.{step, stepAnonymous}

@@ -1,15 +1,14 @@
 -- RULES 4.3 to 4.8: the code's session and incoming frame, as the rules see them.
 use mathlib.Core.List.{List, _++_}
-use mathlib.Core.Bool.{Bool, false, not, _&&_, _||_}
-use Prim.Native.Nat.{ℕ, _-_, _≤_, _<_}
-use lib.Dec.{ltb, eqb}
+use mathlib.Core.Bool.{Bool, false, not}
+use Prim.Native.Nat.{ℕ, _≤_, _<_}
 use lib.ListN.{length, take, replicate}
 use Rattle.frame.specs.inside.Head as frame
 use Rattle.rules.specs.Check.{Parsed}
 use Rattle.rules.specs.Frame.{Stream}
-use Rattle.rules.specs.Limits.{gatheredMax, oldAge}
+use Rattle.rules.specs.Limits.{gatheredMax}
 use Rattle.rules.specs.Session as rules
-use Rattle.rules.specs.Tests.{pick, sameBool}
+use Rattle.rules.specs.Tests.{pick}
 use Rattle.session.specs.declared.Incoming.{Incoming}
 use Rattle.session.specs.declared.Progress.{Progress}
 use Rattle.session.specs.declared.Session.{Session}

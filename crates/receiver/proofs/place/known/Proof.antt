@@ -4,7 +4,6 @@ use mathlib.Core.Bool.{true, false}
 use mathlib.Core.List.{List}
 use Prim.Native.Nat.{ℕ, _<_}
 use native.Mathlib.Omega.{arith}
-use lib.ListN.{length}
 use Rattle.bits.proofs.Octets.{octets-all}
 use Rattle.rules.specs.Reception.{store}
 use Rattle.rules.specs.Session.{Out, waiting, next, react}
