@@ -121,7 +121,7 @@ enum tecelume_answer {
     TECELUME_STATE_FAULT = 20
 };
 
-/* One line for each number up to 20, those of calls that are not in this header included. */
+/* One line for each number up to 20 and for 25, those of calls that are not in this header included. */
 static inline const char *tecelume_text(uint32_t number)
 {
     switch (number) {
@@ -146,6 +146,7 @@ static inline const char *tecelume_text(uint32_t number)
     case 18: return "log line not well formed";
     case 19: return "interface number of 3 or more";
     case 20: return "state or map too short or at fault";
+    case 25: return "padding not zero";
     default: return "unknown number";
     }
 }
@@ -179,8 +180,8 @@ enum tecelume_kind {
     TECELUME_KIND_SERVICE = 1  /* requests and responses share one subscription */
 };
 
-/* The signature of a standard type: messages 341 (NodeStatus), 1 (Allocation), 16370 (KeyValue), 16383 (LogMessage) and 1092
- * (BatteryInfo), service 1 (GetNodeInfo). 0 for any other kind or type ID.
+/* The signature of a standard type: messages 341 (NodeStatus), 1 (Allocation), 16370 (KeyValue), 16383 (LogMessage), 1092
+ * (BatteryInfo) and 1030 (RawCommand), service 1 (GetNodeInfo). 0 for any other kind or type ID.
  *
  * Check for 0. Setup and send accept every signature, 0 too. Single frames then come through, but transfers of several frames fail with 12:
  * here, if a sender has the right signature, and at every receiver that has it. For a type of your own take the signature from the tool

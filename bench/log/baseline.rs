@@ -6,19 +6,20 @@ use std::io::{Read, Write};
 const OLD: u64 = 2_000_000;
 const SWITCH: u64 = 1_000_000;
 /// The signatures that the program `signatures` works out, in the order of its lines.
-const SIGNATURES: [u64; 6] = signatures(include_bytes!("../../crates/signatures/stdout"));
-const SUBSCRIPTIONS: [(bool, u16, u64); 6] = [
+const SIGNATURES: [u64; 7] = signatures(include_bytes!("../../crates/signatures/stdout"));
+const SUBSCRIPTIONS: [(bool, u16, u64); 7] = [
     (false, 341, SIGNATURES[0]),
     (true, 1, SIGNATURES[1]),
     (false, 1, SIGNATURES[2]),
     (false, 16370, SIGNATURES[3]),
     (false, 16383, SIGNATURES[4]),
     (false, 1092, SIGNATURES[5]),
+    (false, 1030, SIGNATURES[6]),
 ];
 
 /// Sixteen hexadecimal digits at the front of each line.
-const fn signatures(text: &[u8]) -> [u64; 6] {
-    let mut found = [0; 6];
+const fn signatures(text: &[u8]) -> [u64; 7] {
+    let mut found = [0; 7];
     let (mut line, mut column, mut i) = (0, 0, 0);
     while i < text.len() {
         let c = text[i];

@@ -270,7 +270,9 @@ static void texts(void)
 {
     for (uint32_t number = 0; number <= TECELUME_STATE_FAULT; number++)
         CHECK(strcmp(tecelume_text(number), "unknown number") != 0);
-    CHECK(strcmp(tecelume_text(TECELUME_STATE_FAULT + 1), "unknown number") == 0);
+    CHECK(strcmp(tecelume_text(25), "padding not zero") == 0);
+    for (uint32_t number = TECELUME_STATE_FAULT + 1; number < 40; number++)
+        CHECK(number == 25 || strcmp(tecelume_text(number), "unknown number") == 0);
 }
 
 static void entry_at_two_seconds(void)
@@ -372,6 +374,7 @@ static void signature_zero(void)
     CHECK(tecelume_signature(TECELUME_KIND_MESSAGE, 341) != 0 && tecelume_signature(TECELUME_KIND_MESSAGE, 1) != 0);
     CHECK(tecelume_signature(TECELUME_KIND_MESSAGE, 16370) != 0 && tecelume_signature(TECELUME_KIND_MESSAGE, 16383) != 0);
     CHECK(tecelume_signature(TECELUME_KIND_SERVICE, 1) != 0 && tecelume_signature(TECELUME_KIND_MESSAGE, 1092) != 0);
+    CHECK(tecelume_signature(TECELUME_KIND_MESSAGE, 1030) != 0);
     begin();
     CHECK(setup_under(0) == TECELUME_SUCCESS);
     CHECK(frame(SOURCE, SINGLE, 0) == TECELUME_HANDED_OUT);

@@ -9,6 +9,7 @@ pub enum Refusal {
     OutputTooSmall,
     PayloadEnds,
     TooMany,
+    PaddingNotZero,
     NotAllowed,
 }
 
@@ -18,6 +19,7 @@ impl Refusal {
             Refusal::OutputTooSmall => 8,
             Refusal::PayloadEnds => 15,
             Refusal::TooMany => 16,
+            Refusal::PaddingNotZero => 25,
             Refusal::NotAllowed => 17,
         }
     }
@@ -35,6 +37,12 @@ fn octets(bits: u32) -> impl Iterator<Item = (u32, u32)> {
     (0..bits)
         .step_by(8)
         .map(move |low| (low, 8.min(bits - low)))
+}
+
+/// The number that so many bits stand for in two's complement.
+pub fn signed(pattern: u64, bits: u32) -> i64 {
+    let negative = pattern >> (bits - 1) & 1 == 1;
+    pattern as i64 - if negative { 1i64 << bits } else { 0 }
 }
 
 pub struct Reader<'a> {
@@ -70,7 +78,7 @@ impl<'a> Reader<'a> {
         Ok(u64::from(bit))
     }
 
-    /// So many bytes as a part of the payload. Every list of every type starts at a byte.
+    /// So many bytes as a part of the payload. Every list of bytes of every type starts at a byte.
     pub fn bytes(&mut self, count: usize) -> Result<&'a [u8], Refusal> {
         assert_eq!(self.position % 8, 0, "a list inside a byte");
         let rest = &self.payload[self.position / 8..];
@@ -96,6 +104,26 @@ impl<'a> Reader<'a> {
             return Err(Refusal::TooMany);
         }
         Ok(bytes)
+    }
+
+    /// A list that ends the transfer, of items of 8 bits or more: as many as the rest of the
+    /// payload holds. The bits left over are padding.
+    pub fn last_numbers(&mut self, bits: u32, most: usize) -> Result<Vec<u64>, Refusal> {
+        let rest = 8 * self.payload.len() - self.position;
+        let (count, left) = (rest / bits as usize, rest % bits as usize);
+        if count > most || left >= 8 {
+            return Err(Refusal::TooMany);
+        }
+        let mut numbers = Vec::with_capacity(count);
+        for _ in 0..count {
+            numbers.push(self.number(bits)?);
+        }
+        for _ in 0..left {
+            if self.bit()? == 1 {
+                return Err(Refusal::PaddingNotZero);
+            }
+        }
+        Ok(numbers)
     }
 
     /// The end of a message that no list ends.
@@ -124,6 +152,13 @@ impl Writer {
                 self.bit(value >> (low + place) & 1);
             }
         }
+    }
+
+    /// Writes a signed number in two's complement.
+    pub fn signed(&mut self, value: i64, bits: u32) {
+        let half = 1i64 << (bits - 1);
+        self.require((-half..half).contains(&value));
+        self.number(value as u64 & ((1u64 << bits) - 1), bits);
     }
 
     fn bit(&mut self, bit: u64) {

@@ -3,7 +3,7 @@
 use crate::bits::Refusal;
 use crate::messages::{
     Allocation, BatteryInfo, HardwareVersion, KeyValue, LogMessage, Message, MessageType, NodeInfo,
-    NodeStatus, SoftwareVersion,
+    NodeStatus, RawCommand, SoftwareVersion, MOST_COMMANDS,
 };
 use crate::receive::LONGEST_PAYLOAD;
 use std::collections::BTreeMap;
@@ -33,6 +33,8 @@ pub const FLOATS: [&str; 7] = [
 pub enum Value {
     Number(Option<u64>),
     List(Vec<u8>),
+    /// Signed numbers; one beyond 64 bits is the nearest that is not.
+    Numbers(Vec<i64>),
 }
 
 pub type Fields = Vec<(String, Value)>;
@@ -85,6 +87,7 @@ pub fn type_name(message_type: MessageType) -> &'static str {
         MessageType::NodeInfoRequest => "GetNodeInfo.Request",
         MessageType::NodeInfoResponse => "GetNodeInfo.Response",
         MessageType::BatteryInfo => "BatteryInfo",
+        MessageType::RawCommand => "RawCommand",
     }
 }
 
@@ -115,6 +118,11 @@ impl Value {
         match self {
             Value::Number(number) => number.expect("a message's number").to_string(),
             Value::List(bytes) => hex(bytes),
+            Value::Numbers(numbers) if numbers.is_empty() => "-".to_string(),
+            Value::Numbers(numbers) => {
+                let texts: Vec<String> = numbers.iter().map(i64::to_string).collect();
+                texts.join(",")
+            }
         }
     }
 }
@@ -180,6 +188,10 @@ pub fn fields(message: &Message) -> Fields {
                 ])
                 .collect()
         }
+        Message::RawCommand(one) => {
+            let numbers = (0..one.count).map(|at| one.places.get(at).copied().unwrap_or(0));
+            vec![named("cmd", Value::Numbers(numbers.collect()))]
+        }
     }
 }
 
@@ -207,6 +219,7 @@ impl Given {
             let value = match kind {
                 Value::Number(_) => Value::Number(number(text)?),
                 Value::List(_) => Value::List(list(text)?),
+                Value::Numbers(_) => Value::Numbers(signed_numbers(text)?),
             };
             if given.insert(name.to_string(), value).is_some() {
                 return None;
@@ -275,7 +288,24 @@ impl Given {
                 model_instance_id: self.number("model_instance_id")?,
                 model_name: self.list("model_name"),
             }),
+            MessageType::RawCommand => Message::RawCommand(self.commands()),
         })
+    }
+
+    /// As many as are given, and those that have a place.
+    fn commands(&self) -> RawCommand {
+        let numbers: &[i64] = match self.0.get("cmd") {
+            Some(Value::Numbers(numbers)) => numbers,
+            _ => &[],
+        };
+        let mut places = [0; MOST_COMMANDS];
+        for (place, &number) in places.iter_mut().zip(numbers) {
+            *place = number;
+        }
+        RawCommand {
+            count: numbers.len(),
+            places,
+        }
     }
 
     /// Each float is given as its 32 bits.
@@ -312,6 +342,23 @@ fn number(text: &str) -> Option<Option<u64>> {
         Some(below) => digits(below).map(|number| number.filter(|&number| number == 0)),
         None => digits(text),
     }
+}
+
+/// Signed numbers with a comma between two, or a dash for none.
+fn signed_numbers(text: &str) -> Option<Vec<i64>> {
+    if text == "-" {
+        return Some(Vec::new());
+    }
+    text.split(',').map(signed_number).collect()
+}
+
+fn signed_number(text: &str) -> Option<i64> {
+    if let Some(size) = text.strip_prefix('-') {
+        let below = |size: u64| 0i64.checked_sub_unsigned(size).unwrap_or(i64::MIN);
+        return digits(size).map(|size| size.map_or(i64::MIN, below));
+    }
+    let above = |number: u64| i64::try_from(number).unwrap_or(i64::MAX);
+    digits(text).map(|number| number.map_or(i64::MAX, above))
 }
 
 fn list(text: &str) -> Option<Vec<u8>> {

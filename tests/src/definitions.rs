@@ -9,6 +9,7 @@ pub const KEY_VALUE: u16 = 16370;
 pub const LOG_MESSAGE: u16 = 16383;
 pub const GET_NODE_INFO: u16 = 1;
 pub const BATTERY_INFO: u16 = 1092;
+pub const RAW_COMMAND: u16 = 1030;
 
 /// The signature of one of the types, of kind 0 (message) or 1 (service); 0 of any other.
 pub fn signature(kind: u32, type_id: u32) -> u64 {
@@ -22,6 +23,7 @@ pub fn signature(kind: u32, type_id: u32) -> u64 {
         (0, LOG_MESSAGE) => log_message(),
         (1, GET_NODE_INFO) => get_node_info(),
         (0, BATTERY_INFO) => battery_info(),
+        (0, RAW_COMMAND) => raw_command(),
         _ => 0,
     }
 }
@@ -96,6 +98,10 @@ pub fn battery_info() -> u64 {
         saturated uint32 model_instance_id\n\
         saturated uint8[<=31] model_name",
     )
+}
+
+pub fn raw_command() -> u64 {
+    hash(b"uavcan.equipment.esc.RawCommand\nsaturated int14[<=20] cmd")
 }
 
 fn log_level() -> u64 {

@@ -40,6 +40,7 @@ fn receiver() -> Receiver {
         one(false, types::LOG_MESSAGE, types::log_message()),
         one(true, types::GET_NODE_INFO, types::get_node_info()),
         one(false, types::BATTERY_INFO, types::battery_info()),
+        one(false, types::RAW_COMMAND, types::raw_command()),
     ];
     Receiver::setup(1, subscriptions).expect("types that differ")
 }

@@ -3,7 +3,7 @@
 //! Numbers are held wider than their fields, so that a caller's number may be too large.
 
 use crate::binary16::{narrow, widen};
-use crate::bits::{Reader, Refusal, Writer};
+use crate::bits::{signed, Reader, Refusal, Writer};
 
 #[derive(Clone, Debug, PartialEq, Eq)]
 pub struct NodeStatus {
@@ -74,6 +74,16 @@ pub struct BatteryInfo<'a> {
     pub model_name: &'a [u8],
 }
 
+/// The most commands of a RawCommand.
+pub const MOST_COMMANDS: usize = 20;
+
+#[derive(Clone, Debug, PartialEq, Eq)]
+pub struct RawCommand {
+    /// How many of the places are used, from the first on.
+    pub count: usize,
+    pub places: [i64; MOST_COMMANDS],
+}
+
 #[derive(Clone, Debug, PartialEq, Eq)]
 pub enum Message<'a> {
     NodeStatus(NodeStatus),
@@ -83,6 +93,7 @@ pub enum Message<'a> {
     NodeInfoRequest,
     NodeInfoResponse(NodeInfo<'a>),
     BatteryInfo(BatteryInfo<'a>),
+    RawCommand(RawCommand),
 }
 
 #[derive(Clone, Copy, Debug, PartialEq, Eq)]
@@ -94,10 +105,11 @@ pub enum MessageType {
     NodeInfoRequest,
     NodeInfoResponse,
     BatteryInfo,
+    RawCommand,
 }
 
 impl MessageType {
-    pub const ALL: [MessageType; 7] = [
+    pub const ALL: [MessageType; 8] = [
         MessageType::NodeStatus,
         MessageType::Allocation,
         MessageType::KeyValue,
@@ -105,6 +117,7 @@ impl MessageType {
         MessageType::NodeInfoRequest,
         MessageType::NodeInfoResponse,
         MessageType::BatteryInfo,
+        MessageType::RawCommand,
     ];
 }
 
@@ -119,6 +132,7 @@ pub fn decode(message_type: MessageType, payload: &[u8]) -> Result<Message<'_>, 
         MessageType::NodeInfoRequest => Message::NodeInfoRequest,
         MessageType::NodeInfoResponse => Message::NodeInfoResponse(NodeInfo::read(reader)?),
         MessageType::BatteryInfo => Message::BatteryInfo(BatteryInfo::read(reader)?),
+        MessageType::RawCommand => Message::RawCommand(RawCommand::read(reader)?),
     };
     reader.end()?;
     Ok(message)
@@ -135,6 +149,7 @@ pub fn encode(message: &Message, out: &mut [u8]) -> Result<usize, Refusal> {
         Message::NodeInfoRequest => (),
         Message::NodeInfoResponse(one) => one.write(&mut writer),
         Message::BatteryInfo(one) => one.write(&mut writer),
+        Message::RawCommand(one) => one.write(&mut writer),
     }
     writer.finish(out)
 }
@@ -298,6 +313,27 @@ impl<'a> BatteryInfo<'a> {
         writer.number(self.battery_id, 8);
         writer.number(self.model_instance_id, 32);
         writer.last_list(self.model_name, 31);
+    }
+}
+
+impl RawCommand {
+    fn read(reader: &mut Reader) -> Result<RawCommand, Refusal> {
+        let patterns = reader.last_numbers(14, MOST_COMMANDS)?;
+        let mut places = [0; MOST_COMMANDS];
+        for (place, &pattern) in places.iter_mut().zip(&patterns) {
+            *place = signed(pattern, 14);
+        }
+        Ok(RawCommand {
+            count: patterns.len(),
+            places,
+        })
+    }
+
+    fn write(&self, writer: &mut Writer) {
+        writer.require(self.count <= MOST_COMMANDS);
+        for &number in self.places.iter().take(self.count) {
+            writer.signed(number, 14);
+        }
     }
 }
 

@@ -6,6 +6,7 @@ use super::get_node_info_response;
 use super::key_value;
 use super::log_message;
 use super::node_status;
+use super::raw_command;
 use codec_text::hex;
 use codec_text::hex::Length;
 use codec_text::put;
@@ -34,6 +35,9 @@ fn typed(name: &[u8], payload: &[u8], out: &mut [u8], at: usize) -> usize {
     }
     if check::same(name, b"BatteryInfo") {
         return battery_info::decode(payload, out, at);
+    }
+    if check::same(name, b"RawCommand") {
+        return raw_command::decode(payload, out, at);
     }
     put::ill_formed(out, at)
 }

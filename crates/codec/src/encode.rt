@@ -6,6 +6,7 @@ use super::get_node_info_response;
 use super::key_value;
 use super::log_message;
 use super::node_status;
+use super::raw_command;
 use codec_text::answer;
 use codec_text::answer::Encoded;
 use codec_text::number;
@@ -37,6 +38,9 @@ fn typed(name: &[u8], words: &[u8], bytes: &mut [u8], message: &mut [u8]) -> Enc
     }
     if check::same(name, b"BatteryInfo") {
         return battery_info::encode(words, bytes, message);
+    }
+    if check::same(name, b"RawCommand") {
+        return raw_command::encode(words, message);
     }
     Encoded::IllFormed
 }

@@ -9,6 +9,7 @@ mod get_node_info_response;
 mod key_value;
 mod log_message;
 mod node_status;
+mod raw_command;
 mod request;
 
 use codec_text::put;

@@ -2,6 +2,7 @@
 use super::names;
 use super::number::Number;
 use super::put;
+use super::signed;
 use shape::answer::Written;
 use shape::part;
 ghost use Prim.Native.Nat.{_≤_};
@@ -40,6 +41,12 @@ pub fn numbers(out: &mut [u8], at: usize, names: &[u8], values: &[u64]) -> usize
 pub fn list(out: &mut [u8], at: usize, name: &[u8], s: &[u8]) -> usize {
     let a = label(out, at, name);
     put::list(out, a, s)
+}
+
+// Internal. A list of signed numbers under its name.
+pub fn signed_list(out: &mut [u8], at: usize, name: &[u8], s: &[i64]) -> usize {
+    let a = label(out, at, name);
+    signed::list(out, a, s)
 }
 
 // Internal. What was written, of which `message` has the bytes in front.

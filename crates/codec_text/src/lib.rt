@@ -5,3 +5,4 @@ pub mod hex;
 pub mod names;
 pub mod number;
 pub mod put;
+pub mod signed;

@@ -21,6 +21,7 @@ use Rattle.shape.specs.Laws.{Trips}
 use Rattle.shape.specs.declared.answer.Place.{Place}
 use Rattle.shape.proofs.Reading.{got-on, never}
 use Rattle.shape.proofs.RoundTrip.{whole-same}
+use Rattle.shape.proofs.Tails.{never-25}
 use Rattle.shape.proofs.Trip.{trips, through}
 use Rattle.equipment_power.specs.BatteryInfo.{nameOnly, batteryInfo, modelNameIn, rawValues, rawOf, rawIn, rawAt, widenedInfo, narrowedInfo, withFloats, infoIn}
 use Rattle.equipment_power.specs.Laws.{Laws, found, Held, AllHeld, floats, NoNan, patterns}
@@ -115,4 +116,4 @@ back p o x place room e l h =
     enough false s g = ltb-false (length p) 23 s
 
 pub laws : Laws
-laws = record { raw = raw; whole = whole; there = there; back = back }
+laws = record { raw = raw; whole = whole; never-25 = never-25 batteryInfo (refl, refl); there = there; back = back }

@@ -9,7 +9,7 @@ use Rattle.binary16.specs.Convert.{floatOf}
 use Rattle.bits.specs.Order.{Octets, unpack}
 use Rattle.shape.specs.Answer.{got}
 use Rattle.shape.specs.Shape.{Values, encoded, cleared}
-use Rattle.shape.specs.Laws.{Trips}
+use Rattle.shape.specs.Laws.{Trips, Never25}
 use Rattle.shape.specs.declared.answer.Place.{Place}
 use Rattle.equipment_power.specs.BatteryInfo.{nameOnly, batteryInfo, modelNameIn, rawValues, rawOf, rawAt, narrowedInfo, infoIn}
 use Rattle.equipment_power.specs.declared.battery_info.BatteryInfo.{BatteryInfo}
@@ -44,6 +44,8 @@ pub record Laws : Type 0 where
   -- by the payload's own numbers every bit is kept, a NaN's too
   pub raw : Trips batteryInfo rawOf found
   pub whole : (p : List ℕ) → Octets p → cleared batteryInfo p ≡ p
+  -- RULES 9.4: it fills whole bytes
+  pub never-25 : Never25 batteryInfo
   -- as f32: what was written is read, where each float is one that some binary16 equals
   pub there : (x : BatteryInfo) (name : List ℕ) (room : ℕ) (p : List ℕ) → AllHeld (floats x)
       → encoded batteryInfo (rawValues (narrowedInfo x) nameOnly name) room ≡ got p

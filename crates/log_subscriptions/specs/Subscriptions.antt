@@ -18,7 +18,9 @@ types =
     -- LogMessage
     (0, 16383) ∷
     -- BatteryInfo
-    (0, 1092) ∷ []
+    (0, 1092) ∷
+    -- RawCommand
+    (0, 1030) ∷ []
 
 -- RULES 3.3: a subscription as a setup takes it, kind (1), type ID (4), signature (8), low byte first
 unfoldable pub record13 : ℕ → ℕ → List ℕ

@@ -7,10 +7,12 @@ use lib.Dec.{lit≤}
 use lib.ListN.{length, take, drop, take-append-drop}
 use lib.Seq.{drop-drop, take-add}
 use Rattle.bits.specs.Order.{unpack, bytes, toBits, store}
+use Rattle.bits.specs.Width.{widthIn, widthOf}
 use Rattle.bits.proofs.Numbers.{length-toBits}
 use Rattle.shape.specs.Shape.{Shape, end, clear, cleared}
 use Rattle.shape.specs.Laws.{Whole}
 use Rattle.shape.proofs.RoundTrip.{clear-same}
+use Rattle.shape.proofs.Tails.{never-25}
 use Rattle.shape.proofs.Trip.{trips}
 use Rattle.protocol.specs.Laws.{Laws, statusFound, responseFound}
 use Rattle.protocol.specs.NodeStatus.{statusThen, nodeStatus, statusOf}
@@ -35,6 +37,7 @@ cleared-status d h p =
     ∙ ap (λ (n : ℕ). bytes (length p) (take 37 (unpack p) ++ (toBits 3 0 ++ drop (37 + n) (unpack p)))) (sym (length-toBits 3 0))
 
 pub laws : Laws
+unfolding widthOf widthIn
 laws =
     record {
       status = trips nodeStatus tt (statusOf end) statusFound (λ p o. status.only p);
@@ -42,4 +45,5 @@ laws =
       responses = trips response (lit≤ tt) responseOf responseFound responses.only;
       status-kept = cleared-status end tt;
       response-kept = cleared-status (versionsThen lists) tt;
+      never-25 = (never-25 nodeStatus refl, (never-25 request refl, never-25 response (refl, (refl, refl))));
     }

@@ -4,7 +4,7 @@ use mathlib.Core.List.{List}
 use Prim.Native.Nat.{ℕ}
 use Rattle.bits.specs.Order.{unpack, toBits, store}
 use Rattle.shape.specs.Shape.{end, Values, cleared}
-use Rattle.shape.specs.Laws.{Trips}
+use Rattle.shape.specs.Laws.{Trips, Never25}
 use Rattle.protocol.specs.NodeStatus.{nodeStatus, statusValues, statusOf, statusAt}
 use Rattle.protocol.specs.GetNodeInfoRequest.{request}
 use Rattle.protocol.specs.GetNodeInfoResponse.{lists, response, uniqueIdIn, certificateIn, nameIn, numberValues, responseOf, numbersAt}
@@ -23,3 +23,5 @@ pub record Laws : Type 0 where
   -- RULES 9.8: sub-mode's three bits are all that is not kept
   pub status-kept : (p : List ℕ) → cleared nodeStatus p ≡ store p 37 (toBits 3 0)
   pub response-kept : (p : List ℕ) → cleared response p ≡ store p 37 (toBits 3 0)
+  -- RULES 9.4: they fill whole bytes
+  pub never-25 : Never25 nodeStatus × (Never25 request × Never25 response)

@@ -4,7 +4,7 @@ use mathlib.Core.List.{List}
 use Prim.Native.Nat.{ℕ}
 use Rattle.bits.specs.Order.{Octets, unpack, fromBits}
 use Rattle.shape.specs.Shape.{Values, cleared}
-use Rattle.shape.specs.Laws.{Trips}
+use Rattle.shape.specs.Laws.{Trips, Never25}
 use Rattle.protocol_debug.specs.KeyValue.{keyValue, keyIn, keyValueOf}
 use Rattle.protocol_debug.specs.LogMessage.{logMessage, sourceIn, textIn, logMessageOf}
 
@@ -21,3 +21,5 @@ pub record Laws : Type 0 where
   -- every bit is kept
   pub whole-key-value : (p : List ℕ) → Octets p → cleared keyValue p ≡ p
   pub whole-log-message : (p : List ℕ) → Octets p → cleared logMessage p ≡ p
+  -- RULES 9.4: they fill whole bytes
+  pub never-25 : Never25 keyValue × Never25 logMessage

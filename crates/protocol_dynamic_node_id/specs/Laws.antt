@@ -5,7 +5,7 @@ use Prim.Native.Nat.{ℕ}
 use lib.ListN.{drop}
 use Rattle.bits.specs.Order.{Octets, unpack, fromBits}
 use Rattle.shape.specs.Shape.{Values, cleared}
-use Rattle.shape.specs.Laws.{Trips}
+use Rattle.shape.specs.Laws.{Trips, Never25}
 use Rattle.protocol_dynamic_node_id.specs.Allocation.{allocation, uniqueIdIn, allocationOf}
 
 -- what is in a payload, numbers at their places and the list as the part that `unique_id` gives
@@ -16,3 +16,5 @@ pub record Laws : Type 0 where
   pub allocations : Trips allocation allocationOf allocationFound
   -- every bit is kept
   pub whole-allocation : (p : List ℕ) → Octets p → cleared allocation p ≡ p
+  -- RULES 9.4: it fills whole bytes
+  pub never-25 : Never25 allocation

@@ -14,7 +14,7 @@ use Rattle.bits.specs.Width.{widthOf}
 use Rattle.bits.proofs.Digits.{length-digits, value-digits}
 use Rattle.bits.proofs.Bytes.{length-unpack, drop-unpack}
 use Rattle.bits.proofs.Octets.{octets-drop}
-use Rattle.shape.specs.Answer.{Answer, refused, got, refuseIf, mapAnswer}
+use Rattle.shape.specs.Answer.{Answer, refused, got, numbered, refuseIf, mapAnswer}
 use Rattle.shape.specs.Shape.{Shape, end, num, void, items, list, tail, Values, anything, itemsOf, decode}
 
 -- ── a head: numbers and ignored bits ──
@@ -60,6 +60,21 @@ refused-on f e h = e ∙ ap (λ r. mapAnswer f r) h
 pub got-on : {A B : Type 0} (f : A → B) {x : Answer B} {r : Answer A} {v : A} → x ≡ mapAnswer f r → r ≡ got v → x ≡ got (f v)
 unfolding mapAnswer
 got-on f e h = e ∙ ap (λ r. mapAnswer f r) h
+
+-- a number and a value are those of one answer
+pub unrefused : {A : Type 0} (r : Answer A) (n : ℕ) → numbered (refused n) ≡ numbered r → r ≡ refused n
+unrefused (refused k) n e = ap refused (sym (ap (λ x. x .number) e))
+unrefused (got a) n e = let q = ap (λ x. x .value) e in let z : _≡_ {A = ℕ} 0 1 = cc in absurd (omega arith)
+
+pub unread : {A : Type 0} (r : Answer A) (a : A) → numbered (got a) ≡ numbered r → r ≡ got a
+unread (refused k) a e = let q = ap (λ x. x .value) e in let z : _≡_ {A = ℕ} 0 1 = cc in absurd (omega arith)
+unread (got b) a e = let q = ap (λ x. x .value) e in cc
+
+-- a refusal comes through no map
+pub refused-from : {A B : Type 0} (f : A → B) (r : Answer A) (n : ℕ) → mapAnswer f r ≡ refused n → r ≡ refused n
+unfolding mapAnswer
+refused-from f (refused k) n e = let q : _≡_ {A = ℕ} k n = cc in ap refused q
+refused-from f (got a) n e = absurd (let z : _≡_ {A = ℕ} 0 1 = cc in omega arith)
 
 -- two answers of one payload
 pub never : {A : Type 0} {x : Answer A} {k : ℕ} {v : A} → x ≡ refused k → x ≡ got v → ⊥
@@ -137,7 +152,7 @@ byte : (b : ℕ) (rest : List Bool) → b < 256 → fromBits 8 (digits 8 b ++ re
 unfolding fromBits number valueFrom
 byte b rest h = rw (take-at (digits 8 b) rest 8 (length-digits 8 b), value-digits 8 b) (omega arith)
 
-byte-items : (n : ℕ) (s : List ℕ) → Octets s → n ≤ length s → itemsOf 8 n (unpack s) ≡ take n s
+pub byte-items : (n : ℕ) (s : List ℕ) → Octets s → n ≤ length s → itemsOf 8 n (unpack s) ≡ take n s
 unfolding itemsOf unpack
 byte-items zero s o h = refl
 byte-items (suc n) [] o h = absurd (omega arith)

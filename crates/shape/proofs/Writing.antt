@@ -5,7 +5,7 @@ use mathlib.Core.List.{List, [], _∷_, _++_, append-nil}
 use Prim.Native.Nat.{ℕ, _+_, _*_, _-_, _≤_, _<_}
 use native.Mathlib.Omega.{arith}
 use borrow.Author.Tests.{lt-ltb, le-ltb}
-use lib.ListN.{length, drop, replicate}
+use lib.ListN.{length, drop, replicate, length-append, length-replicate}
 use Rattle.bits.specs.Order.{Octets, digits, unpack, bytes, bytesFor, padding, octets, toBits, store}
 use Rattle.bits.proofs.Bytes.{length-bytes, store-front, store-store}
 use Rattle.shape.specs.Answer.{refused, got, numbered, refuseIf}
@@ -16,29 +16,36 @@ module _ (d : Shape) (v : Values d) (m : List ℕ) where
   unfolding encoded refuseIf
   refuse-17 f = rw f
 
-  -- bits that fill n bytes
-  module _ (f : fits d v ≡ true) (n : ℕ) (l : length (encode d v) ≡ n * 8) where
-    for : bytesFor (length (encode d v)) ≡ n
-    for = omega arith
-
+  -- bits that take n bytes, the last one perhaps padded
+  module _ (f : fits d v ≡ true) (n : ℕ) (for : bytesFor (length (encode d v)) ≡ n) where
     size : length (message d v) ≡ n
     size = length-bytes (bytesFor (length (encode d v))) (encode d v ++ padding (encode d v)) ∙ for
 
-    pub refuse-8 : length m < n → (numbered (refused 8), m) ≡ written d v m
+    pub refuse-8-padded : length m < n → (numbered (refused 8), m) ≡ written d v m
     unfolding encoded refuseIf
-    refuse-8 h = rw (f, size, lt-ltb (length m) n h)
+    refuse-8-padded h = rw (f, size, lt-ltb (length m) n h)
 
-    packed : message d v ≡ bytes n (encode d v)
-    packed =
-        let z : bytesFor (length (encode d v)) * 8 - length (encode d v) ≡ 0 = omega arith in
-        ap (λ (k : ℕ). bytes (bytesFor (length (encode d v))) (encode d v ++ replicate k false)) z
-        ∙ ap (λ (b : List Bool). bytes (bytesFor (length (encode d v))) b) (append-nil (encode d v)) ∙ ap (λ (k : ℕ). bytes k (encode d v)) for
+    pub write-padded : Octets m → n ≤ length m → (m' : List ℕ) → m' ≡ store m 0 (encode d v ++ padding (encode d v)) → (numbered (got n), m') ≡ written d v m
+    unfolding encoded refuseIf
+    write-padded o h m' e =
+        let l : length (encode d v ++ padding (encode d v)) ≡ n * 8 = length-append (encode d v) (padding (encode d v))
+        ∙ omega (arith, length-replicate (bytesFor (length (encode d v)) * 8 - length (encode d v)) false) in
+        let b : m' ≡ message d v ++ drop n m = e ∙ store-front m n (encode d v ++ padding (encode d v)) o l h
+        ∙ ap (λ (k : ℕ). bytes k (encode d v ++ padding (encode d v)) ++ drop n m) (sym for) in
+        rw (f, size, le-ltb (length m) n h, b, size)
+
+  -- bits that fill n bytes
+  module _ (f : fits d v ≡ true) (n : ℕ) (l : length (encode d v) ≡ n * 8) where
+    pub refuse-8 : length m < n → (numbered (refused 8), m) ≡ written d v m
+    refuse-8 h = refuse-8-padded f n (omega arith) h
+
+    none : padding (encode d v) ≡ []
+    none = let z : bytesFor (length (encode d v)) * 8 - length (encode d v) ≡ 0 = omega arith in ap (λ (k : ℕ). replicate k false) z
 
     pub write-all : Octets m → n ≤ length m → (m' : List ℕ) → m' ≡ store m 0 (encode d v) → (numbered (got n), m') ≡ written d v m
-    unfolding encoded refuseIf
     write-all o h m' e =
-        let b : m' ≡ message d v ++ drop n m = e ∙ store-front m n (encode d v) o l h ∙ ap (λ (x : List ℕ). x ++ drop n m) (sym packed) in
-        rw (f, size, le-ltb (length m) n h, b, size)
+        write-padded f n (omega arith) o h m'
+        (e ∙ ap (λ (b : List Bool). store m 0 b) (sym (ap (λ (p : List Bool). encode d v ++ p) none ∙ append-nil (encode d v))))
 
 -- one field more after those written from bit b on
 pub more-from : (b : ℕ) (m m' m'' : List ℕ) (xs ys : List Bool) (at : ℕ) → m' ≡ store m b xs → b + length xs ≡ at → at ≤ length m * 8 → m'' ≡ store m' at ys

@@ -1,13 +1,19 @@
 -- RULES 9.10: the return trip, over every description. `laws.rt` has a function for each law, whose contract it is.
 use mathlib.Core.Path.{_≡_}
+use mathlib.Core.Bool.{Bool, true, not}
 use mathlib.Core.List.{List}
-use Prim.Native.Nat.{ℕ, _≤_}
-use lib.ListN.{length}
-use Rattle.bits.specs.Order.{Octets}
-use Rattle.shape.specs.Answer.{got, mapAnswer}
-use Rattle.shape.specs.Shape.{Shape, end, num, void, items, list, tail, Values, decoded, encoded, cleared}
+use Prim.Native.Nat.{ℕ, _+_, _*_, _%_, _^_, _≤_, _<_}
+use lib.Dec.{ltb}
+use lib.IntN.{ℤ}
+use lib.ListN.{length, drop}
+use Rattle.bits.specs.Order.{Octets, unpack}
+use Rattle.bits.specs.Part.{span}
+use Rattle.bits.specs.Width.{widthOf}
+use Rattle.shape.specs.Answer.{refused, got, refuseIf, mapAnswer}
+use Rattle.shape.specs.Signed.{signedOf, patternOf, inRange}
+use Rattle.shape.specs.Shape.{Shape, end, num, void, items, list, tail, Values, itemBits, itemsOf, decode, decoded, encoded, cleared}
 
--- RULES 9.11: items of a list without a length field have 8 bits or more
+-- RULES 9.4: items of a list without a length field have 8 bits or more
 abbrev pub Sound : Shape → Type 0
 Sound end = Unit {0}
 Sound (num w d) = Sound d
@@ -36,6 +42,44 @@ Back = (d : Shape) (p : List ℕ) (v : Values d) (room : ℕ) → decoded d p �
 -- where nothing is ignored, that is the payload itself
 abbrev pub Same : Type 0
 Same = (d : Shape) → Whole d → (p : List ℕ) → Octets p → cleared d p ≡ p
+
+-- RULES 9.4, as instances: a list at the end, of items of 8 to 64 bits, that starts after h bits and so perhaps inside a byte
+pub record TailTrips (h w m : ℕ) (ok : List ℕ → Bool) : Type 0 where
+  pub there : (v : Values (num h (tail w m ok))) (room : ℕ) (p : List ℕ) → encoded (num h (tail w m ok)) v room ≡ got p → decoded (num h (tail w m ok)) p ≡ got v
+  pub back : (p : List ℕ) → Octets p → (v : Values (num h (tail w m ok))) (room : ℕ) → decoded (num h (tail w m ok)) p ≡ got v → length p ≤ room
+      → encoded (num h (tail w m ok)) v room ≡ got p
+
+abbrev pub Tails : Type 0
+Tails = (h w m : ℕ) (ok : List ℕ → Bool) → 8 ≤ w → w ≤ 64 → TailTrips h w m ok
+
+-- RULES 9.4: after k bits, each list holds bytes, and whole bytes come before the list at the end, or before the end
+abbrev pub OnBytes : ℕ → Shape → Type 0
+OnBytes k end = k % 8 ≡ 0
+OnBytes k (num w d) = OnBytes (k + w) d
+OnBytes k (void w d) = OnBytes (k + w) d
+OnBytes k (items w n d) = OnBytes (k + n * w) d
+OnBytes k (list w m d) = (w ≡ 8) × OnBytes (k + widthOf m) d
+OnBytes k (tail w m ok) = (w ≡ 8) × (k % 8 ≡ 0)
+
+-- no payload is refused for padding
+abbrev pub Never25 : Shape → Type 0
+Never25 d = (p : List ℕ) → decoded d p ≡ refused 25 → ⊥
+
+-- Lists of bytes at whole bytes are parts of the payload, and the rule over every width is for them the one on bytes.
+pub record ByteLists : Type 0 where
+  -- what is read and written item by item is what is copied
+  pub read : (s : List ℕ) (at n : ℕ) → Octets s → at + n ≤ length s → itemsOf 8 n (drop (at * 8) (unpack s)) ≡ span s at n
+  pub write : (xs : List ℕ) → itemBits 8 xs ≡ unpack xs
+  -- at the end, the list is the rest of the payload, and nothing is left over
+  pub rest : (m : ℕ) (ok : List ℕ → Bool) (s : List ℕ) → Octets s
+      → decode (tail 8 m ok) (unpack s) ≡ refuseIf (ltb m (length s)) 16 (refuseIf (not (ok s)) 17 (got s))
+  -- so that no such type answers 25
+  pub never-25 : (d : Shape) → OnBytes 0 d → Never25 d
+
+-- RULES 9.13: over every width, a signed number that w bits hold is what its bits stand for, and every w bits are those of such a number
+pub record SignedLaws : Type 0 where
+  pub there : (w : ℕ) (z : ℤ) → 1 ≤ w → inRange w z ≡ true → (signedOf w (patternOf w z) ≡ z) × (patternOf w z < 2 ^ w)
+  pub back : (w n : ℕ) → 1 ≤ w → n < 2 ^ w → (patternOf w (signedOf w n) ≡ n) × (inRange w (signedOf w n) ≡ true)
 
 -- The return trip of one type. `of` is what its reader's struct shows of the values, `at` what is in a payload at the places of the numbers
 -- and in the parts that the list functions give.

@@ -1,3 +1,5 @@
 pub mod Answer
 pub mod Shape
+pub mod Signed
 pub mod Laws
+pub mod inside

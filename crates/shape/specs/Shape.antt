@@ -20,7 +20,7 @@ pub data Shape : Type 0 where
   items : ℕ → ℕ → Shape → Shape
   -- at most m items of w bits, after a length field (RULES 9.3): w, m
   list : ℕ → ℕ → Shape → Shape
-  -- at most m items of w bits, the last thing of all, with no length field (RULES 9.4): w, m, what the content must pass
+  -- at most m items of w bits, 8 or more, the last thing of all, with no length field (RULES 9.4): w, m, what the content must pass
   tail : ℕ → ℕ → (List ℕ → Bool) → Shape
 
 -- what a message of this shape holds
@@ -65,8 +65,8 @@ encode (items w k d) v = itemBits w (v .0) ++ encode d (v .1)
 encode (list w m d) v = toBits (widthOf m) (length (v .0)) ++ (itemBits w (v .0) ++ encode d (v .1))
 encode (tail w m ok) v = itemBits w v
 
--- ── reading, field by field (RULES 9.6, 9.11): 15 the payload ends in a field, 16 too many, 25 padding not zero, 17 not allowed ──
--- Each type of today fills whole bytes: none answers 25.
+-- ── reading, field by field (RULES 9.6): 15 the payload ends in a field, 16 too many, 25 padding not zero, 17 not allowed ──
+-- A list at the end may start inside a byte: all is counted in bits. Where lists hold bytes and start at whole bytes none is left over (`ByteLists`).
 
 unfoldable pub decode : (d : Shape) → List Bool → Answer (Values d)
 decode end bs = refuseIf (leb 8 (length bs)) 16 (refuseIf (not (allZero bs)) 25 (got tt))

@@ -122,6 +122,13 @@ saturated uint8[<=31] model_name",
     )
 }
 
+fn raw_command() -> u64 {
+    plain(
+        b"uavcan.equipment.esc.RawCommand
+saturated int14[<=20] cmd",
+    )
+}
+
 fn main() {
     row(
         b"uavcan.protocol.NodeStatus",
@@ -152,5 +159,10 @@ fn main() {
         b"uavcan.equipment.power.BatteryInfo",
         battery_info(),
         types::signature(0, 1092),
+    );
+    row(
+        b"uavcan.equipment.esc.RawCommand",
+        raw_command(),
+        types::signature(0, 1030),
     );
 }

@@ -17,7 +17,9 @@ standard =
     -- LogMessage
     record { kind = 0; type = 16383; signature = 0xD654A48E0C049D75 } ∷
     -- BatteryInfo
-    record { kind = 0; type = 1092; signature = 0x249C26548A711966 } ∷ []
+    record { kind = 0; type = 1092; signature = 0x249C26548A711966 } ∷
+    -- RawCommand
+    record { kind = 0; type = 1030; signature = 0x217F5C87D7EC951D } ∷ []
 
 -- 0: no standard type
 unfoldable pub signatureOf : ℕ → ℕ → ℕ

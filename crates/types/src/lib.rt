@@ -13,6 +13,7 @@ pub fn signature(kind: u32, type_id: u32) -> u64
             16370 => 0xE02F25D6E0C98AE0,
             16383 => 0xD654A48E0C049D75,
             1092 => 0x249C26548A711966,
+            1030 => 0x217F5C87D7EC951D,
             _ => 0,
         };
     }

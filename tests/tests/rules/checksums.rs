@@ -47,4 +47,5 @@ fn signatures_of_the_public_set() {
     assert_eq!(definitions::key_value(), 0xE02F_25D6_E0C9_8AE0);
     assert_eq!(definitions::log_message(), 0xD654_A48E_0C04_9D75);
     assert_eq!(definitions::battery_info(), 0x249C_2654_8A71_1966);
+    assert_eq!(definitions::raw_command(), 0x217F_5C87_D7EC_951D);
 }

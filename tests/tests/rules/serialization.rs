@@ -2,10 +2,10 @@
 
 use crate::allocation_log::{ALLOCATION_LOG, UNIQUE_ID};
 use reference::binary16::{narrow, widen};
-use reference::bits::{Refusal, Writer};
+use reference::bits::{Reader, Refusal, Writer};
 use reference::messages::{
     decode, encode, Allocation, BatteryInfo, HardwareVersion, KeyValue, LogMessage, Message,
-    MessageType, NodeInfo, NodeStatus, SoftwareVersion,
+    MessageType, NodeInfo, NodeStatus, RawCommand, SoftwareVersion, MOST_COMMANDS,
 };
 
 fn written(fields: &[(i64, u32)]) -> Vec<u8> {
@@ -282,6 +282,77 @@ fn battery_info() {
         spoil(&mut one);
         let refused = encoded(&Message::BatteryInfo(one));
         assert_eq!(refused, Err(Refusal::NotAllowed));
+    }
+}
+
+/// These numbers, and in the places past them the last argument.
+fn commands(numbers: &[i64], past: i64) -> Message<'static> {
+    let mut places = [past; MOST_COMMANDS];
+    places[..numbers.len()].copy_from_slice(numbers);
+    Message::RawCommand(RawCommand {
+        count: numbers.len(),
+        places,
+    })
+}
+
+#[test]
+fn raw_command() {
+    let bytes = b"\x00\x83\xFD\xFF\xFF\xC0\x40";
+    let numbers = [-8192, 8191, -1, 1];
+    assert_eq!(encoded(&commands(&numbers, 7)).unwrap(), bytes);
+    let read = decode(MessageType::RawCommand, bytes);
+    assert_eq!(read, Ok(commands(&numbers, 0)));
+    for number in [-8193, 8192, i64::MIN, i64::MAX] {
+        let refused = encoded(&commands(&[number], 0));
+        assert_eq!(refused, Err(Refusal::NotAllowed));
+    }
+    let too_many = Message::RawCommand(RawCommand {
+        count: 21,
+        places: [0; MOST_COMMANDS],
+    });
+    assert_eq!(encoded(&too_many), Err(Refusal::NotAllowed));
+}
+
+/// Only the lengths of 0 to 20 numbers are read, and only with padding that is zero.
+#[test]
+fn lengths_and_padding_of_raw_command() {
+    let lengths: Vec<usize> = (0..=20)
+        .map(|count: usize| (14 * count).div_ceil(8))
+        .collect();
+    for length in 0..=40 {
+        let zeros = vec![0; length];
+        let Some(count) = lengths.iter().position(|&one| one == length) else {
+            assert_eq!(refusal(MessageType::RawCommand, &zeros), 16);
+            assert_eq!(refusal(MessageType::RawCommand, &vec![255; length]), 16);
+            continue;
+        };
+        let read = decode(MessageType::RawCommand, &zeros);
+        assert_eq!(read, Ok(commands(&vec![0; count], 0)));
+        for bit in 0..8 * length - 14 * count {
+            let mut bytes = zeros.clone();
+            bytes[length - 1] |= 1 << bit;
+            assert_eq!(refusal(MessageType::RawCommand, &bytes), 25);
+        }
+    }
+}
+
+/// RULES 9.4 over every width and start: what is written is read, whatever the padding's length.
+#[test]
+fn lists_at_the_end_of_every_width() {
+    for (start, bits) in (0..8).flat_map(|start| (8..=64).map(move |bits| (start, bits))) {
+        for count in 0..10 {
+            let mut writer = Writer::default();
+            writer.number(0, start);
+            let items: Vec<u64> = (0..count).map(|item| !item >> (64 - bits)).collect();
+            for &item in &items {
+                writer.number(item, bits);
+            }
+            let bytes = writer.into_bytes();
+            let mut reader = Reader::new(&bytes);
+            assert_eq!(reader.number(start), Ok(0));
+            assert_eq!(reader.last_numbers(bits, 10), Ok(items));
+            assert_eq!(reader.end(), Ok(()));
+        }
     }
 }
 

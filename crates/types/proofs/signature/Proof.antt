@@ -7,10 +7,10 @@ use mathlib.Core.Path.{_≡_, sym, ap, ap₂, _∙_}
 use Rattle.types.proofs.signature.Statement.{statement}
 use Rattle.types.proofs.signature.Tie as tie
 
-other-message : (t : ℕ) → (t ≡ 341 → ⊥) → (t ≡ 1 → ⊥) → (t ≡ 16370 → ⊥) → (t ≡ 16383 → ⊥) → (t ≡ 1092 → ⊥) → signatureOf 0 t ≡ 0
+other-message : (t : ℕ) → (t ≡ 341 → ⊥) → (t ≡ 1 → ⊥) → (t ≡ 16370 → ⊥) → (t ≡ 16383 → ⊥) → (t ≡ 1092 → ⊥) → (t ≡ 1030 → ⊥) → signatureOf 0 t ≡ 0
 unfolding signatureOf subscribed
-other-message t a b d e f =
-    simp (ne-eqb 341 t (λ q. a (sym q)), ne-eqb 1 t (λ q. b (sym q)), ne-eqb 16370 t (λ q. d (sym q)), ne-eqb 16383 t (λ q. e (sym q)), ne-eqb 1092 t (λ q. f (sym q)))
+other-message t a b d e f g =
+    simp (ne-eqb 341 t (λ q. a (sym q)), ne-eqb 1 t (λ q. b (sym q)), ne-eqb 16370 t (λ q. d (sym q)), ne-eqb 16383 t (λ q. e (sym q)), ne-eqb 1092 t (λ q. f (sym q)), ne-eqb 1030 t (λ q. g (sym q)))
 
 other-service : (t : ℕ) → (t ≡ 1 → ⊥) → signatureOf 1 t ≡ 0
 unfolding signatureOf subscribed
@@ -41,26 +41,30 @@ unfolding signatureOf subscribed
 returns-5 c = ap₂ signatureOf (sym (c .before .if1 .taken)) (sym (c .match .keys5))
 
 returns-6 : tie.Need-returns-6
-returns-6 c =
-    let r = c .match .rest in
-    let t = c .before .before .args .type-id in
-    sym (ap (λ (k : ℕ). signatureOf k t) (c .before .if1 .taken) ∙ other-message t (r .0 .0 .0 .0 .1) (r .0 .0 .0 .1) (r .0 .0 .1) (r .0 .1) (r .1))
+unfolding signatureOf subscribed
+returns-6 c = ap₂ signatureOf (sym (c .before .if1 .taken)) (sym (c .match .keys6))
 
 returns-7 : tie.Need-returns-7
-unfolding signatureOf subscribed
-returns-7 c = ap₂ signatureOf (sym (c .before .if2 .taken)) (sym (c .if3 .taken))
+returns-7 c =
+    let r = c .match .rest in
+    let t = c .before .before .args .type-id in
+    sym (ap (λ (k : ℕ). signatureOf k t) (c .before .if1 .taken) ∙ other-message t (r .0 .0 .0 .0 .0 .1) (r .0 .0 .0 .0 .1) (r .0 .0 .0 .1) (r .0 .0 .1) (r .0 .1) (r .1))
 
 returns-8 : tie.Need-returns-8
-returns-8 c =
-    let t = c .before .before .before .args .type-id in
-    sym (ap (λ (k : ℕ). signatureOf k t) (c .before .if2 .taken) ∙ other-service t (c .if3 .left))
+unfolding signatureOf subscribed
+returns-8 c = ap₂ signatureOf (sym (c .before .if2 .taken)) (sym (c .if3 .taken))
 
 returns-9 : tie.Need-returns-9
 returns-9 c =
+    let t = c .before .before .before .args .type-id in
+    sym (ap (λ (k : ℕ). signatureOf k t) (c .before .if2 .taken) ∙ other-service t (c .if3 .left))
+
+returns-10 : tie.Need-returns-10
+returns-10 c =
     let a = c .before .before .args in
     sym (other-kind (a .kind) (a .type-id) (c .before .if1 .left) (c .if2 .left))
 
 pub signature-spec : {M : Type 1} → statement M
 signature-spec =
     tie.close
-    (tie.spec returns returns-2 returns-3 returns-4 returns-5 returns-6 returns-7 returns-8 returns-9)
+    (tie.spec returns returns-2 returns-3 returns-4 returns-5 returns-6 returns-7 returns-8 returns-9 returns-10)

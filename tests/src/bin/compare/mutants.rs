@@ -59,6 +59,11 @@ pub fn all() -> Vec<Mutant> {
             Part::Requests,
             first_letter_is_length,
         ),
+        reading("codec-count-rounded-up", Part::Requests, count_rounded_up),
+        reading("codec-padding-ignored", Part::Requests, padding_ignored),
+        reading("codec-25-before-16", Part::Requests, padding_first),
+        reading("codec-sign-bit-lost", Part::Requests, sign_bit_lost),
+        reading("unused-place-not-zero", Part::Payloads, unused_place),
     ];
     others.into_iter().chain(interfaces).collect()
 }
@@ -297,6 +302,62 @@ fn first_letter_is_length(
         let length = usize::from(info.name[0]);
         let rest = &info.name[1..];
         info.name = &rest[..rest.len().min(length)];
+    }
+    Ok(message)
+}
+
+/// One number more where bits are left over.
+fn count_rounded_up(message_type: MessageType, payload: &[u8]) -> Result<Message<'_>, Refusal> {
+    let mut message = messages::decode(message_type, payload)?;
+    if let Message::RawCommand(commands) = &mut message {
+        commands.count = (8 * payload.len()).div_ceil(14);
+    }
+    Ok(message)
+}
+
+/// Clears what is left over after the last number.
+fn padding_ignored(message_type: MessageType, payload: &[u8]) -> Result<Message<'_>, Refusal> {
+    match messages::decode(message_type, payload) {
+        Err(Refusal::PaddingNotZero) => {
+            let left = 8 * payload.len() % 14;
+            let mut cleared = payload.to_vec();
+            *cleared.last_mut().expect("padding is in a byte") &= !0 << left;
+            let Message::RawCommand(commands) = messages::decode(message_type, &cleared)? else {
+                return Err(Refusal::PaddingNotZero);
+            };
+            Ok(Message::RawCommand(commands))
+        }
+        other => other,
+    }
+}
+
+/// Looks at the bits left over before their number.
+fn padding_first(message_type: MessageType, payload: &[u8]) -> Result<Message<'_>, Refusal> {
+    let left = 8 * payload.len() % 14;
+    let read = messages::decode(message_type, payload);
+    let last = payload.last().copied().unwrap_or(0);
+    if message_type == MessageType::RawCommand && left >= 8 && last != 0 {
+        return Err(Refusal::PaddingNotZero);
+    }
+    read
+}
+
+/// Takes all 14 bits for digits.
+fn sign_bit_lost(message_type: MessageType, payload: &[u8]) -> Result<Message<'_>, Refusal> {
+    let mut message = messages::decode(message_type, payload)?;
+    if let Message::RawCommand(commands) = &mut message {
+        commands.places = commands.places.map(|number| number.rem_euclid(1 << 14));
+    }
+    Ok(message)
+}
+
+/// Leaves something in the first place past the count.
+fn unused_place(message_type: MessageType, payload: &[u8]) -> Result<Message<'_>, Refusal> {
+    let mut message = messages::decode(message_type, payload)?;
+    if let Message::RawCommand(commands) = &mut message {
+        if let Some(place) = commands.places.get_mut(commands.count) {
+            *place = 1;
+        }
     }
     Ok(message)
 }

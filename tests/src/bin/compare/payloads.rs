@@ -8,7 +8,7 @@ use reference::binary16::{narrow, widen, LARGEST};
 use reference::bits::Refusal;
 use reference::messages::{
     decode, encode, Allocation, BatteryInfo, HardwareVersion, KeyValue, LogMessage, Message,
-    MessageType, NodeInfo, NodeStatus, SoftwareVersion,
+    MessageType, NodeInfo, NodeStatus, RawCommand, SoftwareVersion, MOST_COMMANDS,
 };
 
 const MOST_ROOM: usize = 600;
@@ -147,6 +147,10 @@ pub fn numbers(message_type: MessageType) -> (Expected, Expected) {
             ("decode BatteryInfo", READING),
             ("encode BatteryInfo", WRITING),
         ),
+        MessageType::RawCommand => (
+            ("decode RawCommand", &[0, 16, 25]),
+            ("encode RawCommand", WRITING),
+        ),
     }
 }
 
@@ -191,6 +195,7 @@ pub fn message<'a>(
         MessageType::NodeInfoRequest => Message::NodeInfoRequest,
         MessageType::NodeInfoResponse => Message::NodeInfoResponse(info(random, lists)),
         MessageType::BatteryInfo => Message::BatteryInfo(battery(random, lists)),
+        MessageType::RawCommand => Message::RawCommand(commands(random)),
     }
 }
 
@@ -248,6 +253,27 @@ fn battery<'a>(random: &mut Random, lists: &'a Lists) -> BatteryInfo<'a> {
         model_instance_id: number(random, 32),
         model_name: lists.at_most(random, 0, 31),
     }
+}
+
+/// Any number of commands, rarely one too many; in and around their range, rarely outside. The
+/// places past the count hold the like.
+fn commands(random: &mut Random) -> RawCommand {
+    const EDGES: [i64; 4] = [-8192, -1, 0, 8191];
+    const OUTSIDE: [i64; 4] = [i64::MIN, -8193, 8192, i64::MAX];
+    let outside = random.coin();
+    let mut place = || match random.below(8) {
+        0 if outside => random.pick(&OUTSIDE),
+        1 => random.pick(&EDGES),
+        _ => random.below(16_384) as i64 - 8192,
+    };
+    let places = [(); MOST_COMMANDS].map(|()| place());
+    let count = random.index(MOST_COMMANDS + 1);
+    let count = if random.once_in(16) {
+        MOST_COMMANDS + 1
+    } else {
+        count
+    };
+    RawCommand { count, places }
 }
 
 /// The bits of a binary32: one at an edge, one that a binary16 equals, one halfway to the next
@@ -317,7 +343,7 @@ fn spoil(random: &mut Random, payload: &mut Vec<u8>) {
     }
 }
 
-/// The message as it comes back: sub-mode zero, floats as their binary16.
+/// The message as it comes back: sub-mode zero, floats as their binary16, unused places zero.
 fn coming_back<'a>(message: &Message<'a>) -> Message<'a> {
     let mut back = message.clone();
     match &mut back {
@@ -325,6 +351,14 @@ fn coming_back<'a>(message: &Message<'a>) -> Message<'a> {
         Message::NodeInfoResponse(info) => info.status.sub_mode = 0,
         Message::BatteryInfo(battery) => {
             battery.floats = battery.floats.map(|bits| widen(narrow(bits)));
+        }
+        Message::RawCommand(commands) => {
+            let count = commands.count;
+            commands
+                .places
+                .iter_mut()
+                .skip(count)
+                .for_each(|place| *place = 0);
         }
         _ => (),
     }

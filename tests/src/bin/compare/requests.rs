@@ -5,6 +5,7 @@ use crate::payloads::{message, numbers, Lists};
 use crate::random::Random;
 use crate::tally::{Difference, Tally};
 use reference::binary16::{narrow, widen};
+use reference::bits::Writer;
 use reference::codec::{answer, fields, hex, type_name, Value, FLOATS, LONGEST_LINE};
 use reference::messages::{encode, Message, MessageType};
 use std::io::{Read, Write};
@@ -62,6 +63,13 @@ const EMPTY: [(&str, &str); 7] = [
     ("name", "empty name"),
     ("model_name", "empty model name"),
 ];
+/// Commands on both sides of each edge.
+const COMMANDS: [(i64, &str); 4] = [
+    (-8193, "command -8193"),
+    (-8192, "command -8192"),
+    (8191, "command 8191"),
+    (8192, "command 8192"),
+];
 /// Numbers that no field but the sub-mode takes.
 const OUTSIDE: [&str; 5] = [
     "-1",
@@ -84,7 +92,9 @@ impl Requests {
         });
         let empty = EMPTY.map(|(_, case)| case);
         let floats = [KEPT, ROUNDED, CLIPPED, MINUS_ZERO, INFINITE, NO_NUMBER];
-        let cases = [&MODES[..], &LEVELS, &empty, &floats, &[NAN, ANY_SUB_MODE]].concat();
+        let commands = COMMANDS.map(|(_, case)| case);
+        let others = [NAN, ANY_SUB_MODE];
+        let cases = [&MODES[..], &LEVELS, &empty, &floats, &commands, &others].concat();
         Requests {
             answerer,
             random: Random::new(seed),
@@ -102,9 +112,11 @@ impl Requests {
         pairs.chain([self.ill_formed, self.cases]).collect()
     }
 
-    /// Compares about so many lines, and every cut of one message of each type.
+    /// Compares about so many lines, every cut of one message of each type, and commands of every
+    /// count and length.
     pub fn run(&mut self, lines: u64) -> Result<(), Difference> {
         let mut block = self.every_cut();
+        block.extend(self.every_command());
         for line in 0..lines {
             let request = self.request();
             block.push(request);
@@ -157,7 +169,7 @@ impl Requests {
 
     /// A message of each type with every list as long as it may be, cut at every length.
     fn every_cut(&mut self) -> Vec<Request> {
-        const LENGTHS: [(usize, [u8; 2]); 7] = [
+        const LENGTHS: [(usize, [u8; 2]); 8] = [
             (7, [0, 0]),
             (17, [0, 0]),
             (62, [0, 0]),
@@ -165,6 +177,7 @@ impl Requests {
             (0, [0, 0]),
             (376, [40, 255]),
             (54, [0, 0]),
+            (35, [0, 0]),
         ];
         let mut requests = Vec::new();
         for (index, (length, [at, count])) in LENGTHS.into_iter().enumerate() {
@@ -173,6 +186,40 @@ impl Requests {
                 *byte = count;
             }
             requests.extend((0..=length).map(|end| decode_line(index, &payload[..end])));
+        }
+        requests
+    }
+
+    /// RawCommand: every length from 0 to 40 bytes, every count from 0 to 21, each bit of padding
+    /// set by itself, and numbers on both sides of each edge.
+    fn every_command(&mut self) -> Vec<Request> {
+        const TYPE: usize = 7;
+        const ROUNDS: usize = 20;
+        let mut requests = Vec::new();
+        for length in 0..=40 {
+            requests.push(decode_line(TYPE, &vec![0; length]));
+            requests.push(decode_line(TYPE, &vec![255; length]));
+            requests.push(decode_line(TYPE, &self.random.bytes(length)));
+        }
+        for number in [-8193, -8192, 8191, 8192] {
+            for at in 0..20 {
+                let mut numbers = vec![0; 20];
+                numbers[at] = number;
+                requests.push(encode_line(TYPE, &numbers));
+            }
+        }
+        for count in (0..=21).cycle().take(22 * ROUNDS) {
+            let numbers: Vec<i64> = (0..count)
+                .map(|_| self.random.below(16_384) as i64 - 8192)
+                .collect();
+            requests.push(encode_line(TYPE, &numbers));
+            let mut payload = payload_of(&numbers);
+            requests.push(decode_line(TYPE, &payload));
+            for bit in 0..8 * payload.len() - 14 * count {
+                *payload.last_mut().expect("padding is in a byte") ^= 1 << bit;
+                requests.push(decode_line(TYPE, &payload));
+                *payload.last_mut().expect("padding is in a byte") ^= 1 << bit;
+            }
         }
         requests
     }
@@ -261,6 +308,10 @@ impl Requests {
                 Value::Number(Some(bits)) if FLOATS.contains(&name) => {
                     self.cases.case(float_case(bits as u32));
                 }
+                Value::Numbers(numbers) => {
+                    let edges = COMMANDS.iter().filter(|(edge, _)| numbers.contains(edge));
+                    edges.for_each(|(_, case)| self.cases.case(case));
+                }
                 Value::List(bytes) if bytes.is_empty() => {
                     let list = EMPTY.iter().find(|(list, _)| *list == name);
                     list.iter().for_each(|(_, case)| self.cases.case(case));
@@ -318,6 +369,26 @@ fn decode_line(index: usize, payload: &[u8]) -> Request {
         index,
         encodes: false,
     }
+}
+
+/// A line that asks for these commands.
+fn encode_line(index: usize, numbers: &[i64]) -> Request {
+    let name = type_name(MessageType::ALL[index]);
+    let cmd = Value::Numbers(numbers.to_vec()).text();
+    Request {
+        line: format!("encode {name} 512 cmd={cmd}").into_bytes(),
+        index,
+        encodes: true,
+    }
+}
+
+/// Commands as they are written, also more than there may be.
+fn payload_of(numbers: &[i64]) -> Vec<u8> {
+    let mut writer = Writer::default();
+    for &number in numbers {
+        writer.signed(number, 14);
+    }
+    writer.into_bytes()
 }
 
 fn by_reference(line: &[u8]) -> String {

@@ -4,7 +4,7 @@ use crate::entry_points::Signature;
 use crate::random::Random;
 use crate::tally::{compare, Difference, Tally};
 use reference::definitions::{
-    signature, ALLOCATION, BATTERY_INFO, KEY_VALUE, LOG_MESSAGE, NODE_STATUS,
+    signature, ALLOCATION, BATTERY_INFO, KEY_VALUE, LOG_MESSAGE, NODE_STATUS, RAW_COMMAND,
 };
 
 const STANDARD: &str = "a standard type";
@@ -48,6 +48,7 @@ impl Signatures {
             KEY_VALUE,
             LOG_MESSAGE,
             BATTERY_INFO,
+            RAW_COMMAND,
         ]);
         let type_id = match random.below(4) {
             0 => random.next() as u32,

@@ -106,13 +106,14 @@ fn wild(random: &mut Random) -> (u32, Vec<u8>) {
 /// A stream of a subscribed type, with the own node as the destination of services.
 fn talked(random: &mut Random) -> Stream {
     let source = random.between(1, 127) as u8;
-    let (transfer_type, type_id) = match random.below(7) {
+    let (transfer_type, type_id) = match random.below(8) {
         0 => (TransferType::Message, types::NODE_STATUS),
         1 => (TransferType::Message, types::ALLOCATION),
         2 => (TransferType::Message, types::KEY_VALUE),
         3 => (TransferType::Message, types::LOG_MESSAGE),
         4 => (TransferType::Message, types::BATTERY_INFO),
-        5 => (TransferType::Request, types::GET_NODE_INFO),
+        5 => (TransferType::Message, types::RAW_COMMAND),
+        6 => (TransferType::Request, types::GET_NODE_INFO),
         _ => (TransferType::Response, types::GET_NODE_INFO),
     };
     let destination = u8::from(transfer_type.is_service());
@@ -130,7 +131,8 @@ fn signature(stream: &Stream) -> u64 {
         (TransferType::Message, types::ALLOCATION) => types::allocation(),
         (TransferType::Message, types::KEY_VALUE) => types::key_value(),
         (TransferType::Message, types::LOG_MESSAGE) => types::log_message(),
-        (TransferType::Message, _) => types::battery_info(),
+        (TransferType::Message, types::BATTERY_INFO) => types::battery_info(),
+        (TransferType::Message, _) => types::raw_command(),
         _ => types::get_node_info(),
     }
 }

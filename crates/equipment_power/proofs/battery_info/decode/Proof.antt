@@ -1,9 +1,7 @@
 -- `battery_info::decode` meets its contract: what `decode_raw` gives, its floats widened.
-use mathlib.Core.Path.{_≡_, refl, sym, ap, _∙_}
-use Prim.Native.Nat.{ℕ}
-use native.Mathlib.Omega.{arith}
-use Rattle.shape.specs.Answer.{Answer, refused, got, numbered}
-use Rattle.shape.proofs.Reading.{refused-on, got-on}
+use mathlib.Core.Path.{refl, sym, ap, _∙_}
+use Rattle.shape.specs.Answer.{got, numbered}
+use Rattle.shape.proofs.Reading.{unrefused, unread, refused-on, got-on}
 use Rattle.equipment_power.specs.BatteryInfo.{rawAnswerOf, withFloats}
 use Rattle.equipment_power.specs.declared.battery_info.BatteryInfo.{BatteryInfo}
 use borrow.Author.Needs.{needs}
@@ -21,15 +19,6 @@ enum-known-m c = search needs
 
 widened-requires : tie.Need-widened-requires
 widened-requires c κs = search needs
-
--- a number and a value are those of one answer
-unrefused : {A : Type 0} (r : Answer A) (n : ℕ) → numbered (refused n) ≡ numbered r → r ≡ refused n
-unrefused (refused k) n e = ap refused (sym (ap (λ x. x .number) e))
-unrefused (got a) n e = let q = ap (λ x. x .value) e in let z : _≡_ {A = ℕ} 0 1 = cc in absurd (omega arith)
-
-unread : {A : Type 0} (r : Answer A) (a : A) → numbered (got a) ≡ numbered r → r ≡ got a
-unread (refused k) a e = let q = ap (λ x. x .value) e in let z : _≡_ {A = ℕ} 0 1 = cc in absurd (omega arith)
-unread (got b) a e = let q = ap (λ x. x .value) e in cc
 
 returns : tie.Need-returns
 returns c =

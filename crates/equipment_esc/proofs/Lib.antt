@@ -1,0 +1,2 @@
+pub mod RawCommandFacts
+mod Trips

@@ -1,0 +1,214 @@
+-- RawCommand: what its reader and its writer go by.
+use mathlib.Core.Path.{_≡_, refl, sym, ap, _∙_}
+use mathlib.Core.Bool.{Bool, true, false, not, _&&_}
+use mathlib.Core.List.{List, [], _∷_, _++_, map, append-assoc, append-nil}
+use Prim.Native.Nat.{ℕ, zero, suc, _+_, _*_, _-_, _/_, _^_, _≤_, _<_}
+use native.Mathlib.Numerals.{add-one}
+use native.Mathlib.Omega.{arith}
+use borrow.Author.Tests.{lt-ltb, le-leb, lt-leb, ltb-true, leb-true}
+use lib.Dec.{ltb, leb, lit≤}
+use lib.IntN.{ℤ, pos}
+use lib.Signed.{mag}
+use lib.ListN.{length, take, drop, getD, set, replicate, length-append, length-map, length-replicate}
+use lib.Seq.{take-suc, take-all, take-at, set-at, length-take-le}
+use mir.Syntax.{w64}
+use mir.Val.{SFits, toZ, ofZ}
+use mir.ValLaws.{toZ-ofZ}
+use Rattle.bits.specs.Order.{Octets, unpack, bytesFor, padding, store}
+use Rattle.shape.specs.Answer.{Answer, refused, got, numbered, refuseIf, mapAnswer, wrote}
+use Rattle.shape.specs.Shape.{anything, itemBits, itemsOf, allBelow, encode, decode, fits, written}
+use Rattle.shape.specs.Signed.{signedOf, patternOf, inRange}
+use Rattle.shape.proofs.Fields.{and-left, and-right, and-both, and-true, and-assoc, length-itemBits, length-itemsOf, items-below}
+use Rattle.shape.proofs.Reading.{unrefused, unread, refused-from, refused-on, got-on}
+use Rattle.shape.proofs.Writing.{refuse-8-padded, write-padded}
+use Rattle.shape.proofs.ItemFacts.{Counts, counts}
+use Rattle.shape.proofs.SignedFacts.{mag-lt, pattern-lt, signed-pattern, pattern-signed, signed-in}
+use Rattle.equipment_esc.specs.RawCommand.{rawCommand, commandOf, commandIn, readOf, numbersOf, allIn, commandFits, commandValues, commandEncoded}
+use Rattle.equipment_esc.specs.declared.raw_command.RawCommand.{RawCommand}
+use Rattle.equipment_esc.specs.declared.raw_command.Read.{Read}
+
+-- ── maps of a front ──
+
+map-append : {A B : Type 0} (f : A → B) (xs ys : List A) → map f (xs ++ ys) ≡ map f xs ++ map f ys
+map-append f [] ys = refl
+map-append f (x ∷ xs) ys = ap (λ l. f x ∷ l) (map-append f xs ys)
+
+-- a turn of a loop that fills places from the front: one more is mapped
+pub mapped : {A B : Type 0} (f : A → B) (xs : List A) (a : A) (z : B) (out : List B) (i : ℕ) (y : B) → i < length xs → i < 20
+    → out ≡ map f (take i xs) ++ replicate (20 - i) z → y ≡ f (getD xs i a)
+    → set out i y ≡ map f (take (i + 1) xs) ++ replicate (20 - (i + 1)) z
+mapped {A} {B} f xs a z out i y h l e g =
+    let k : 20 - i ≡ suc (20 - (i + 1)) = omega arith in
+    let n : length (map f (take i xs)) ≡ i = length-map (take i xs) f ∙ length-take-le i xs (omega arith) in
+    let rest : List B = replicate (20 - (i + 1)) z in
+    ap (λ (o : List B). set o i y) (e ∙ ap (λ (j : ℕ). map f (take i xs) ++ replicate j z) k) ∙ set-at (map f (take i xs)) z rest y i n
+    ∙ ap (λ (x : B). map f (take i xs) ++ (x ∷ rest)) g
+    ∙ sym (append-assoc (map f (take i xs)) (f (getD xs i a) ∷ []) rest)
+    ∙ ap (λ (o : List B). o ++ rest) (sym (map-append f (take i xs) (getD xs i a ∷ [])) ∙ ap (λ (o : List A). map f o) (sym (take-suc xs i a h)))
+    ∙ ap (λ (j : ℕ). map f (take j xs) ++ rest) (sym (add-one i))
+
+-- all 20 are mapped
+pub all-mapped : {A B : Type 0} (f : A → B) (xs : List A) (z : B) (out : List B) (i : ℕ) → length xs ≡ 20 → i ≡ 20
+    → out ≡ map f (take i xs) ++ replicate (20 - i) z → out ≡ map f xs
+all-mapped {A} {B} f xs z out i h l e =
+    let k : 20 - i ≡ 0 = omega arith in
+    e ∙ ap (λ (j : ℕ). map f (take i xs) ++ replicate j z) k ∙ append-nil (map f (take i xs)) ∙ ap (λ (o : List A). map f o) (take-all i xs (omega arith))
+
+-- ── numbers in range ──
+
+-- what a signed local holds
+pub held : (z : ℤ) → mag z < 9223372036854775808 → toZ w64 (ofZ w64 z) ≡ z
+held z h = toZ-ofZ w64 z (record { sfits = h })
+
+-- the number of 14 bits does
+pub signed-held : (z : ℤ) (n : ℕ) → n < 16384 → z ≡ signedOf 14 n → toZ w64 (ofZ w64 z) ≡ signedOf 14 n
+signed-held z n h e =
+    let l : mag (signedOf 14 n) < 8192 = mag-lt 14 (signedOf 14 n) (signed-in 14 n (lit≤ tt) h) in
+    ap (λ (y : ℤ). toZ w64 (ofZ w64 y)) e ∙ held (signedOf 14 n) (omega arith)
+
+all-in-append : (xs ys : List ℤ) → allIn (xs ++ ys) ≡ allIn xs && allIn ys
+unfolding allIn
+all-in-append [] ys = refl
+all-in-append (x ∷ xs) ys = rw (all-in-append xs ys) (sym (and-assoc (inRange 14 x) (allIn xs) (allIn ys)))
+
+one-in : (z : ℤ) → allIn (z ∷ []) ≡ inRange 14 z
+unfolding allIn
+one-in z = and-true (inRange 14 z)
+
+-- the first i and the next
+pub next-in : (zs : List ℤ) (i : ℕ) → i < length zs → allIn (take (i + 1) zs) ≡ allIn (take i zs) && inRange 14 (getD zs i (pos 0))
+next-in zs i h =
+    ap (λ (n : ℕ). allIn (take n zs)) (add-one i) ∙ ap allIn (take-suc zs i (pos 0) h) ∙ all-in-append (take i zs) (getD zs i (pos 0) ∷ [])
+    ∙ ap (λ (b : Bool). allIn (take i zs) && b) (one-in (getD zs i (pos 0)))
+
+-- one of those in range
+pub in-at : (zs : List ℤ) (i : ℕ) → i < length zs → allIn zs ≡ true → inRange 14 (getD zs i (pos 0)) ≡ true
+unfolding allIn
+in-at [] i h e = absurd (omega arith)
+in-at (z ∷ zs) zero h e = and-left (inRange 14 z) (allIn zs) e
+in-at (z ∷ zs) (suc i) h e = in-at zs i (omega arith) (and-right (inRange 14 z) (allIn zs) e)
+
+still : (a b c : Bool) → (b ≡ false → c ≡ false) → a && b ≡ false → a && c ≡ false
+still true b c h e = h e
+still false b c h e = refl
+
+-- more of the list can only be worse
+pub not-in : (zs : List ℤ) (i n : ℕ) → i ≤ n → allIn (take i zs) ≡ false → allIn (take n zs) ≡ false
+unfolding allIn
+not-in zs zero n h e = absurd (let z : _≡_ {A = ℕ} 0 1 = cc in omega arith)
+not-in zs (suc i) zero h e = absurd (omega arith)
+not-in [] (suc i) (suc n) h e = e
+not-in (z ∷ zs) (suc i) (suc n) h e = still (inRange 14 z) (allIn (take i zs)) (allIn (take n zs)) (not-in zs i n (omega arith)) e
+
+pub below-at : (n : ℕ) (xs : List ℕ) (i : ℕ) → i < length xs → allBelow n xs ≡ true → getD xs i 0 < n
+unfolding allBelow
+below-at n [] i h e = absurd (omega arith)
+below-at n (x ∷ xs) zero h e = ltb-true x n (and-left (ltb x n) (allBelow n xs) e)
+below-at n (x ∷ xs) (suc i) h e = below-at n xs i (omega arith) (and-right (ltb x n) (allBelow n xs) e)
+
+-- ── reading ──
+
+drop-same : {A : Type 0} (n m : ℕ) (a : A) → drop n (replicate m a) ≡ replicate (m - n) a
+drop-same zero m a = let e : m - 0 ≡ m = omega arith in rw e
+drop-same (suc n) zero a = let e : 0 - suc n ≡ 0 = omega arith in rw e
+drop-same (suc n) (suc m) a = let e : suc m - suc n ≡ m - n = omega arith in rw e (drop-same n m a)
+
+-- the first n of 20 places are read, the others are still zero
+pub places-read : (u : List Bool) (n k : ℕ) (xs : List ℕ) → xs ≡ itemsOf 14 k u → k ≡ n → xs ++ drop (n - 0) (replicate 20 0) ≡ itemsOf 14 n u ++ replicate (20 - n) 0
+places-read u n k xs e f =
+    let z : n - 0 ≡ n = omega arith in
+    let g : _≡_ {A = List ℕ} (drop n (replicate 20 0)) (replicate (20 - n) 0) = drop-same n 20 0 in
+    ap (λ (j : ℕ). xs ++ drop j (replicate 20 0)) z ∙ ap (λ (r : List ℕ). xs ++ r) g
+    ∙ ap (λ (l : List ℕ). l ++ replicate (20 - n) 0) (e ∙ ap (λ (j : ℕ). itemsOf 14 j u) f)
+
+below-append : (n : ℕ) (xs ys : List ℕ) → allBelow n xs ≡ true → allBelow n ys ≡ true → allBelow n (xs ++ ys) ≡ true
+unfolding allBelow
+below-append n [] ys h k = k
+below-append n (x ∷ xs) ys h k = and-both (ltb x n) (allBelow n (xs ++ ys)) (and-left (ltb x n) (allBelow n xs) h) (below-append n xs ys (and-right (ltb x n) (allBelow n xs) h) k)
+
+zeros-below : (n : ℕ) → allBelow 16384 (replicate n 0) ≡ true
+unfolding allBelow
+zeros-below zero = refl
+zeros-below (suc n) = zeros-below n
+
+pub places-below : (u : List Bool) (n : ℕ) → n * 14 ≤ length u → allBelow 16384 (itemsOf 14 n u ++ replicate (20 - n) 0) ≡ true
+places-below u n h = below-append 16384 (itemsOf 14 n u) (replicate (20 - n) 0) (items-below 14 n u h) (zeros-below (20 - n))
+
+signed-zeros : (n : ℕ) → map (signedOf 14) (replicate n 0) ≡ replicate n (pos 0)
+unfolding signedOf
+signed-zeros zero = refl
+signed-zeros (suc n) = ap (λ (l : List ℤ). pos 0 ∷ l) (signed-zeros n)
+
+module _ (p : List ℕ) where
+  pub not-read : (n : ℕ) → numbered (refused n) ≡ numbered (mapAnswer length (decode rawCommand (unpack p))) → readOf (refused n) ≡ readOf (commandIn p)
+  not-read n e = ap readOf (sym (refused-on commandOf refl (refused-from length (decode rawCommand (unpack p)) n (unrefused _ n e))))
+
+  module _ (n : ℕ) (e : numbered (got n) ≡ numbered (mapAnswer length (decode rawCommand (unpack p)))) where
+    pub told : Counts 14 20 n (unpack p)
+    told = counts 14 20 n (unpack p) (unread _ n e)
+
+    pub was-read : (xs : List ℕ) (zs : List ℤ) → xs ≡ itemsOf 14 n (unpack p) ++ replicate (20 - n) 0 → zs ≡ map (signedOf 14) xs
+        → _≡_ {A = Read} (record { number = 0; message = record { count = n; cmd = zs } }) (readOf (commandIn p))
+    was-read xs zs f g =
+        let ys : List ℕ = itemsOf 14 n (unpack p) in
+        let l : length (map (signedOf 14) ys) ≡ n = length-map ys (signedOf 14) ∙ length-itemsOf 14 n (unpack p) in
+        let q : zs ≡ map (signedOf 14) ys ++ replicate (20 - n) (pos 0) = g ∙ ap (λ (o : List ℕ). map (signedOf 14) o) f ∙ map-append (signedOf 14) ys (replicate (20 - n) 0)
+        ∙ ap (λ (o : List ℤ). map (signedOf 14) ys ++ o) (signed-zeros (20 - n)) in
+        let c : _≡_ {A = RawCommand} (record { count = n; cmd = zs }) (commandOf ys) = rw (l, q) in
+        ap (λ (x : RawCommand). readOf (got x)) c ∙ ap readOf (sym (got-on commandOf refl (told .is)))
+
+-- ── writing ──
+
+values-below : (zs : List ℤ) → allIn zs ≡ true → allBelow 16384 (map (patternOf 14) zs) ≡ true
+unfolding allIn allBelow
+values-below [] e = refl
+values-below (z ∷ zs) e =
+    and-both (ltb (patternOf 14 z) 16384) (allBelow 16384 (map (patternOf 14) zs))
+    (lt-ltb (patternOf 14 z) 16384 (pattern-lt 14 z (lit≤ tt) (and-left (inRange 14 z) (allIn zs) e))) (values-below zs (and-right (inRange 14 z) (allIn zs) e))
+
+module _ (x : RawCommand) (m : List ℕ) where
+  pub too-large : commandFits x ≡ false → (numbered (refused 17), m) ≡ wrote (commandEncoded x (length m)) m
+  unfolding commandEncoded refuseIf
+  too-large f = rw f
+
+  module _ (long : length (x .cmd) ≡ 20) (f : commandFits x ≡ true) where
+    pub few : x .count ≤ 20
+    few = leb-true (x .count) 20 (and-left (leb (x .count) 20) (allIn (numbersOf x)) f)
+
+    pub numbers-in : allIn (numbersOf x) ≡ true
+    numbers-in = and-right (leb (x .count) 20) (allIn (numbersOf x)) f
+
+    as-many : length (commandValues x) ≡ x .count
+    as-many = length-map (numbersOf x) (patternOf 14) ∙ length-take-le (x .count) (x .cmd) (omega (arith, few))
+
+    values-fit : fits rawCommand (commandValues x) ≡ true
+    unfolding fits
+    values-fit =
+        and-both (leb (length (commandValues x)) 20) (allBelow 16384 (commandValues x) && true) (le-leb (length (commandValues x)) 20 (omega (arith, as-many, few)))
+        (and-both (allBelow 16384 (commandValues x)) true (values-below (numbersOf x) numbers-in) refl)
+
+    by-values : written rawCommand (commandValues x) m ≡ wrote (commandEncoded x (length m)) m
+    unfolding commandEncoded refuseIf
+    by-values = rw f
+
+    bits : length (encode rawCommand (commandValues x)) ≡ x .count * 14
+    unfolding encode
+    bits = length-itemBits 14 (commandValues x) ∙ ap (λ (n : ℕ). n * 14) as-many
+
+    size : bytesFor (length (encode rawCommand (commandValues x))) ≡ bytesFor (x .count * 14)
+    size = ap bytesFor bits
+
+    pub too-short : length m < bytesFor (x .count * 14) → (numbered (refused 8), m) ≡ wrote (commandEncoded x (length m)) m
+    too-short h = refuse-8-padded rawCommand (commandValues x) m values-fit (bytesFor (x .count * 14)) size h ∙ by-values
+
+    -- xs: the patterns and zeros
+    pub stored : Octets m → bytesFor (x .count * 14) ≤ length m → (xs m' : List ℕ) → xs ≡ commandValues x ++ replicate (20 - x .count) 0
+        → m' ≡ store m 0 (itemBits 14 (take (x .count) xs) ++ replicate (bytesFor (x .count * 14) * 8 - x .count * 14) false)
+        → (numbered (got (bytesFor (x .count * 14))), m') ≡ wrote (commandEncoded x (length m)) m
+    unfolding encode
+    stored o h xs m' e g =
+        let t : take (x .count) xs ≡ commandValues x = ap (λ (l : List ℕ). take (x .count) l) e ∙ take-at (commandValues x) (replicate (20 - x .count) 0) (x .count) as-many in
+        write-padded rawCommand (commandValues x) m values-fit (bytesFor (x .count * 14)) size o h m'
+        (g ∙ ap (λ (l : List ℕ). store m 0 (itemBits 14 l ++ replicate (bytesFor (x .count * 14) * 8 - x .count * 14) false)) t
+        ∙ ap (λ (n : ℕ). store m 0 (itemBits 14 (commandValues x) ++ replicate (bytesFor n * 8 - n) false)) (sym bits))
+        ∙ by-values

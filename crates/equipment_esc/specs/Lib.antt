@@ -1,0 +1,3 @@
+pub mod RawCommand
+pub mod Laws
+pub mod Samples

@@ -1,0 +1,3 @@
+// uavcan.equipment.esc: RawCommand.
+pub mod laws;
+pub mod raw_command;
