@@ -84,22 +84,34 @@ uint32_t tecelume_version(void);
  *       send: out has under TECELUME_SEND_SIZE(payload_len) bytes                the same
  *   9   receive: start of a new stream, 32 sessions in use and none is old       subscribe to less; a later start may be taken
  *       send: new topic, 32 entries in use, none unused for 2,000,000 or more    use fewer topics, or call again later
- *  10   receive: passed over. A repeat; a part of a transfer whose start or an   nothing; if it is often on one cable, frames are
- *       earlier frame was missed; the rest of a transfer that 11 dropped; a      lost or two nodes have the same ID
- *       frame by another interface than the one that its stream follows
  *  11   receive: payload over 512 bytes; the transfer is dropped                 nothing: too long for this library
  *       send: payload over 512 bytes                                             send less
- *  12   receive: the checksum differs; the transfer is dropped                   nothing; if always for one type, correct its
- *                                                                                signature
+ *  12   receive: the checksum differs; the transfer is dropped                   nothing; after a 31 a frame was lost; if always
+ *                                                                                for one type, correct its signature
  *  13   setup: own ID or subscriptions not allowed                               correct the arguments
  *  14   send: a value out of range, or an anonymous transfer that cannot be      correct the arguments
  *  19   receive: interface number of 3 or more                                   number your interfaces from 0; with one, give 0
  *  20   setup: state or map too short                                            lend more
  *       receive, send: state or map too short, or it holds a value out of        set it up again, and look for what wrote over it
  *       range, toggle 1 with nothing gathered, or two like entries
+ *  30   receive: passed over, no start and no transfer in hand. The start was    nothing, if it is rare or follows an 11; if often,
+ *       lost, refused or is more than 2,000,000 back; or a repeat of the last    frames are lost before this call: look at the bus
+ *       frame; or the rest of a transfer that 11 dropped                         and at the driver's queue; after 8 or 9 see there
+ *  31   receive: passed over, wrong toggle. A repeat of a frame already taken,   nothing, if the transfer is handed out all the
+ *       or a frame before this one was lost                                      same; if it ends with 12 or not at all, as for 30
+ *  32   receive: passed over, not the transfer ID that is expected. A start      nothing, if that transfer was handed out; else as
+ *       that repeats the transfer before; or a part of a transfer whose start    for 30, and if it goes on, look for two nodes
+ *       was lost                                                                 with the same ID
+ *  33   receive: passed over, a repeat of the start of the transfer in hand      nothing, if the transfer is handed out; else its
+ *                                                                                sender begins again and again, or two nodes have
+ *                                                                                the same ID
+ *  34   receive: passed over, by another interface than the one that the         nothing: normal with several cables; if a stream
+ *       stream follows                                                           has no other answer, the cable that it follows
+ *                                                                                has failed: see interfaces, below
  *
- * Under 2 to 9, 13, 14, 19 and 20 a call leaves state or map and out byte for byte as they were. Under 10, 11 and 12 tecelume_receive
- * leaves out as it was and changes at most the session of the frame's stream; a tecelume_send that answers 11 changes nothing. */
+ * Under 2 to 9, 13, 14, 19, 20 and 31 to 34 a call leaves state or map and out byte for byte as they were. Under 11, 12 and 30
+ * tecelume_receive leaves out as it was and changes at most the session of the frame's stream, under 30 only an old one; a tecelume_send
+ * that answers 11 changes nothing. 10 is no answer any more: version 0.1 gave it for 30 to 33. */
 enum tecelume_answer {
     TECELUME_SUCCESS = 0, /* of setup and sending */
     TECELUME_TAKEN = 0,   /* of tecelume_receive */
@@ -112,16 +124,20 @@ enum tecelume_answer {
     TECELUME_NO_SUBSCRIPTION = 7,
     TECELUME_OUTPUT_TOO_SMALL = 8,
     TECELUME_TABLE_FULL = 9,
-    TECELUME_PASSED_OVER = 10,
     TECELUME_PAYLOAD_TOO_LONG = 11,
     TECELUME_CHECKSUM_DIFFERS = 12,
     TECELUME_SETUP_REFUSED = 13,
     TECELUME_NOT_SENDABLE = 14,
     TECELUME_NO_INTERFACE = 19,
-    TECELUME_STATE_FAULT = 20
+    TECELUME_STATE_FAULT = 20,
+    TECELUME_NO_TRANSFER = 30, /* this and the next four: passed over */
+    TECELUME_WRONG_TOGGLE = 31,
+    TECELUME_WRONG_TRANSFER = 32,
+    TECELUME_REPEATED_START = 33,
+    TECELUME_OTHER_INTERFACE = 34
 };
 
-/* One line for each number up to 20 and for 25, those of calls that are not in this header included. */
+/* One line for each number that is an answer, those of calls that are not in this header included. */
 static inline const char *tecelume_text(uint32_t number)
 {
     switch (number) {
@@ -135,7 +151,6 @@ static inline const char *tecelume_text(uint32_t number)
     case 7: return "no subscription";
     case 8: return "output buffer too small";
     case 9: return "table full";
-    case 10: return "passed over";
     case 11: return "payload over 512 bytes";
     case 12: return "checksum differs";
     case 13: return "own ID or subscriptions not allowed";
@@ -147,6 +162,11 @@ static inline const char *tecelume_text(uint32_t number)
     case 19: return "interface number of 3 or more";
     case 20: return "state or map too short or at fault";
     case 25: return "padding not zero";
+    case 30: return "passed over, no transfer in hand: its start was lost, or it is over already";
+    case 31: return "passed over, wrong toggle: a repeat of a frame already taken, or a frame before this one was lost";
+    case 32: return "passed over, wrong transfer ID: a repeat of the transfer before, or the start of this one was lost";
+    case 33: return "passed over: a repeat of the start of the transfer in hand";
+    case 34: return "passed over: by another interface than the one that the stream follows";
     default: return "unknown number";
     }
 }
@@ -228,8 +248,8 @@ uint32_t tecelume_setup(uint8_t *state, size_t state_len, uint32_t own, const ui
  * A 32-bit timer of microseconds runs back when it wraps, after 71 minutes. What was stored before the wrap has age 0 for up to 71 minutes
  * after it, and what was stored in the last two seconds before it never grows old; for a stream this ends with its next start that is
  * taken, for a topic with its next send. Until then they keep their places, so that new streams and topics may answer 9, a start with the
- * transfer ID of the stream's last transfer is passed over, however late it comes, and a stream whose cable has failed is not heard by
- * another one. Count the wraps, and give the time in 64 bits. */
+ * transfer ID of the stream's last transfer answers 32, however late it comes, and of a stream whose cable has failed, what comes by another
+ * one answers 34. Count the wraps, and give the time in 64 bits. */
 
 /* ---- reception ---- */
 
@@ -238,23 +258,24 @@ uint32_t tecelume_setup(uint8_t *state, size_t state_len, uint32_t own, const ui
  * place until it is old and the start of a new stream needs one. It is old once the last start taken of its stream is more than 2,000,000
  * microseconds back, at exactly 2,000,000 not yet; frames that are no start, and starts that were passed over, do not count.
  *
- * There are TECELUME_SESSIONS_MAX sessions. So if 40 nodes send a message each second, 32 of them are heard, and the frames of the other 8
- * answer 9. */
+ * There are TECELUME_SESSIONS_MAX sessions. So if 40 nodes send a message each second, 32 of them are heard; the starts of the other 8
+ * answer 9, and what follows a start 30. */
 
 /* ---- interfaces ---- */
 
 /* A node may be on up to TECELUME_INTERFACES buses, each with a cable of its own, that carry the same transfers. A frame comes with the
  * number of the interface that it came by, 0 to 2. A node with one cable gives 0 with every frame.
  *
- * A session follows the interface of the start that it began with, and frames of its stream by another one are passed over (RULES 4.5,
- * 4.6): so a transfer that comes by all cables is handed out once. The session switches when a start comes by another interface more than
+ * A session follows the interface of the start that it began with, and frames of its stream by another one answer 34 (RULES 4.5, 4.6):
+ * so a transfer that comes by all cables is handed out once. The session switches when a start comes by another interface more than
  * 1,000,000 microseconds after the last start taken, at exactly 1,000,000 not yet, if the start has the transfer ID that is expected next
  * or one of the 15 after it; the session then begins anew with that start. An old session follows the interface of the next frame of its
  * stream. So a stream whose cable fails is heard again by another: not in the second after the last start taken, and at the latest from
  * its first start after two seconds. An anonymous message has no session and is handed out as often as it comes, by each interface.
  *
- * On one cable all is as in version 0.1 but for one thing. A start that repeats the transfer ID in hand more than 1,000,000 microseconds
- * after the start that was taken begins the transfer anew, and answers 0 (1, if it is a single frame); version 0.1 passed it over. */
+ * On one cable all is as in version 0.1 but for the numbers 30 to 33 and one thing more. A start that repeats the transfer ID in hand more
+ * than 1,000,000 microseconds after the start that was taken begins the transfer anew, and answers 0 (1, if it is a single frame); version
+ * 0.1 passed it over. */
 
 /* Receives one frame as a result word (RULES 13.3), for callers in other languages. C programs call tecelume_receive. */
 uint64_t tecelume_receive_word(uint8_t *state, size_t state_len, uint32_t id, const uint8_t *frame, size_t frame_len,
@@ -273,8 +294,8 @@ uint64_t tecelume_receive_word(uint8_t *state, size_t state_len, uint32_t id, co
  * Gives    a result, to be read by the functions above and below.
  *          1: the payload is at the front of out, bytes after it stay. The result also says whose it is.
  *          0: the frame was taken and its transfer goes on.
- * Refuses  20; then the first match of 2, 3, 19 and 4 to 8 (RULES 4.1); then 9 (4.3), 10 (4.5, 4.6), 11 and 12 (4.8). All leave out as it
- *          was, and so does 0.
+ * Refuses  20; then the first match of 2, 3, 19 and 4 to 8 (RULES 4.1); then 9 (4.3); then, of a start, the first match of 34, 32 and 33,
+ *          and of any other frame that of 34, 30, 32 and 31 (4.3, 4.5, 4.6); then 11 and 12 (4.8). All leave out as it was, and so does 0.
  * Costs    the check for 20, which grows with the subscriptions and sessions in use; a look at the session; the checksum, once, at the
  *          end of a transfer of several frames. In libtecelume.a at most 3072 bytes of stack, besides what memcpy and its like take. */
 static inline tecelume_result tecelume_receive(uint8_t *state, size_t state_len, uint32_t id, const uint8_t *frame, size_t frame_len,

@@ -139,7 +139,7 @@ impl Receiver {
         let key = id & 0xFF_FFFF;
         let place = match self.keys.iter().position(|&k| k == key) {
             Some(place) => place,
-            None if !start => return Answer::Number(10),
+            None if !start => return Answer::Number(30),
             None => {
                 let old = |i: &usize| time.saturating_sub(self.sessions[*i].time) > OLD;
                 let free = self
@@ -165,11 +165,16 @@ impl Receiver {
             (s.len, s.toggle, s.expected) = (0, false, transfer);
             if !start {
                 s.expected = (transfer + 1) & 31;
-                return Answer::Number(10);
+                return Answer::Number(30);
             }
         }
         if toggle != s.toggle || transfer != s.expected || start != (s.len == 0) {
-            return Answer::Number(10);
+            return Answer::Number(match (start, transfer == s.expected) {
+                (false, _) if s.len == 0 => 30,
+                (_, false) => 32,
+                (true, true) => 33,
+                (false, true) => 31,
+            });
         }
         if start {
             s.time = time;

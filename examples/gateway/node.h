@@ -27,7 +27,7 @@ struct owner {
     void *self;
 };
 
-enum { NODE_ANSWERS = 21 };
+enum { NODE_ANSWERS = TECELUME_OTHER_INTERFACE + 1 }; /* it is the largest */
 
 /* The whole memory of the node. */
 struct node {

@@ -123,16 +123,21 @@ static bool tells_frames(const struct call *c, const struct call *after, tecelum
 
 static bool may_change_state(enum entry entry, uint32_t number)
 {
-    return entry == RECEIVE ? number <= TECELUME_HANDED_OUT || (number >= TECELUME_PASSED_OVER && number <= TECELUME_CHECKSUM_DIFFERS)
-                            : number == TECELUME_SUCCESS;
+    if (entry != RECEIVE)
+        return number == TECELUME_SUCCESS;
+    return number <= TECELUME_HANDED_OUT || number == TECELUME_PAYLOAD_TOO_LONG || number == TECELUME_CHECKSUM_DIFFERS ||
+           number == TECELUME_NO_TRANSFER;
 }
 
+enum { NUMBERS = 64 }; /* no answer is larger */
+#define BIT(number) ((uint64_t)1 << (number))
+
 /* Which numbers an entry answers, as bits. */
-static const uint32_t answers[ENTRIES] = {
-    1u << 0 | 1u << 13 | 1u << 20,
-    0x1FFFu | 1u << 19 | 1u << 20,
-    1u << 0 | 1u << 20,
-    1u << 0 | 1u << 8 | 1u << 9 | 1u << 11 | 1u << 14 | 1u << 20,
+static const uint64_t answers[ENTRIES] = {
+    BIT(0) | BIT(13) | BIT(20),
+    (BIT(10) - 1) | BIT(11) | BIT(12) | BIT(19) | BIT(20) | (BIT(35) - BIT(30)),
+    BIT(0) | BIT(20),
+    BIT(0) | BIT(8) | BIT(9) | BIT(11) | BIT(14) | BIT(20),
 };
 
 static void judge(const struct call *c, const struct call *after, tecelume_result result)
@@ -140,7 +145,7 @@ static void judge(const struct call *c, const struct call *after, tecelume_resul
     uint32_t number = tecelume_number(result);
     bool detailed = (c->entry == RECEIVE && number == TECELUME_HANDED_OUT) || (c->entry == SEND && number == TECELUME_SUCCESS);
     size_t size = c->entry == SETUP || c->entry == RECEIVE ? TECELUME_RECEIVER_SIZE : TECELUME_MAP_SIZE;
-    if (number > 31 || (answers[c->entry] >> number & 1) == 0)
+    if (number >= NUMBERS || (answers[c->entry] >> number & 1) == 0)
         fail(c, "a number that this call does not answer");
     if (!detailed && result.word != number)
         fail(c, "other bits of the word are not 0");
@@ -184,7 +189,7 @@ bool show_answers(void)
     bool all = true;
     for (int e = 0; e < ENTRIES; e++) {
         printf("%-10s", entry_names[e]);
-        for (int n = 0; n < 32; n++) {
+        for (int n = 0; n < NUMBERS; n++) {
             if (answers[e] >> n & 1) {
                 printf(" %d: %" PRIu64, n, seen[e][n]);
                 all &= seen[e][n] > 0;

@@ -5,8 +5,9 @@
  *
  * Each call is made twice, on equal buffers placed differently, and must give the same word and the same bytes: so nothing but the
  * arguments counts. Then what include/tecelume.h promises is checked (call.c): const inputs stay, a refusal leaves every buffer as it
- * was and all other bits of the word 0, success writes only where it may. A payload sent comes out as it went in, and a copy of a frame by
- * another interface hands out nothing. What the answers must be otherwise is the business of the comparison with the second implementation.
+ * was and all other bits of the word 0, success writes only where it may. A payload sent comes out as it went in, and a frame that was
+ * taken comes again, by its own interface or by another, and is passed over for the right reason. What the answers must be otherwise is the
+ * business of the comparison with the second implementation.
  *
  * --selftest makes one call that says one byte too many of a buffer. Something must notice, or the runs without it show nothing. */
 #include <inttypes.h>
@@ -287,13 +288,25 @@ static void judge_last(const struct lane *lane, tecelume_result result)
     through += number == TECELUME_HANDED_OUT;
 }
 
-/* A frame that was taken, at the same time by another interface. */
-static void receive_copy(void)
+/* The number for a repeat of a frame that was taken. */
+static uint32_t repeat_number(void)
 {
+    bool start = (receiver.input.bytes[receiver.input.length - 1] & 128) != 0;
+    bool end = (receiver.input.bytes[receiver.input.length - 1] & 64) != 0;
+    if (start)
+        return end ? TECELUME_WRONG_TRANSFER : TECELUME_REPEATED_START;
+    return end ? TECELUME_NO_TRANSFER : TECELUME_WRONG_TOGGLE;
+}
+
+/* A frame that was taken, at the same time by its own interface or by another. */
+static void receive_again(void)
+{
+    uint32_t shift = below(TECELUME_INTERFACES);
     bool anonymous = (receiver.id & 255) == 0;
-    receiver.interface_number = (receiver.interface_number + 1 + below(TECELUME_INTERFACES - 1)) % TECELUME_INTERFACES;
-    if (tecelume_number(run(&receiver)) != (anonymous ? TECELUME_HANDED_OUT : TECELUME_PASSED_OVER))
-        fail(&receiver, "a copy by another interface was not passed over");
+    uint32_t expected = anonymous ? TECELUME_HANDED_OUT : shift > 0 ? TECELUME_OTHER_INTERFACE : repeat_number();
+    receiver.interface_number = (receiver.interface_number + shift) % TECELUME_INTERFACES;
+    if (tecelume_number(run(&receiver)) != expected)
+        fail(&receiver, "a frame that came again was not passed over for the right reason");
 }
 
 static void receive_frame(struct lane *lane)
@@ -311,7 +324,7 @@ static void receive_frame(struct lane *lane)
         judge_last(lane, result);
     lane->whole &= tecelume_number(result) == TECELUME_TAKEN;
     if (tecelume_number(result) <= TECELUME_HANDED_OUT && once_in(3))
-        receive_copy();
+        receive_again();
 }
 
 /* A frame with more or fewer bytes than a frame has, or of no lane. */

@@ -37,7 +37,8 @@ static void check(bool holds, const char *what, int line)
 
 static bool changes_nothing(uint32_t number)
 {
-    return (number >= TECELUME_ID_TOO_LARGE && number <= TECELUME_TABLE_FULL) || number >= TECELUME_NO_INTERFACE;
+    return (number >= TECELUME_ID_TOO_LARGE && number <= TECELUME_TABLE_FULL) || number == TECELUME_NO_INTERFACE ||
+           number == TECELUME_STATE_FAULT || (number >= TECELUME_WRONG_TOGGLE && number <= TECELUME_OTHER_INTERFACE);
 }
 
 /* A frame that comes by an interface, and the room that it gets. */
@@ -118,14 +119,20 @@ static uint32_t send_message(uint32_t type_id, uint64_t time)
     return tecelume_number(send_topic(&t, time));
 }
 
-/* Gives the records of the last send to the receiver; the result of the last one, the others are taken. */
+/* Gives a record of the last send to the receiver. */
+static tecelume_result carry_record(size_t index, uint64_t time)
+{
+    const uint8_t *record = records + index * TECELUME_RECORD_SIZE;
+    return receive_by(only_cable, tecelume_record_id(record), tecelume_record_data(record), tecelume_record_length(record), time);
+}
+
+/* Gives so many of them; the result of the last one, the others are taken. */
 static tecelume_result carry(size_t count, uint64_t time)
 {
     tecelume_result result = {0};
     for (size_t i = 0; i < count; i++) {
-        const uint8_t *record = records + i * TECELUME_RECORD_SIZE;
         CHECK(tecelume_number(result) == TECELUME_TAKEN);
-        result = receive_by(only_cable, tecelume_record_id(record), tecelume_record_data(record), tecelume_record_length(record), time);
+        result = carry_record(i, time);
     }
     return result;
 }
@@ -175,11 +182,11 @@ static void old_from_last_start_taken(void)
     begin();
     CHECK(frame(SOURCE, START, 0) == TECELUME_TAKEN);
     CHECK(frame(SOURCE, TOGGLE, 1500000) == TECELUME_TAKEN);
-    CHECK(frame(SOURCE, 0, TWO_SECONDS + 1) == TECELUME_PASSED_OVER);
+    CHECK(frame(SOURCE, 0, TWO_SECONDS + 1) == TECELUME_NO_TRANSFER);
     begin();
     CHECK(frame(SOURCE, START, 0) == TECELUME_TAKEN);
-    CHECK(frame(SOURCE, START, 900000) == TECELUME_PASSED_OVER);
-    CHECK(frame(SOURCE, TOGGLE, TWO_SECONDS + 1) == TECELUME_PASSED_OVER);
+    CHECK(frame(SOURCE, START, 900000) == TECELUME_REPEATED_START);
+    CHECK(frame(SOURCE, TOGGLE, TWO_SECONDS + 1) == TECELUME_NO_TRANSFER);
     begin();
     CHECK(frame(SOURCE, SINGLE, 0) == TECELUME_HANDED_OUT);
     CHECK(frame(SOURCE, START | 1, 1500000) == TECELUME_TAKEN);
@@ -202,15 +209,15 @@ static void handed_out_once(void)
     begin();
     for (unsigned id = 0; id < 4; id++) {
         CHECK(frame_by(1, SOURCE, START | id, id) == TECELUME_TAKEN);
-        CHECK(frame_by(2, SOURCE, START | id, id) == TECELUME_PASSED_OVER);
+        CHECK(frame_by(2, SOURCE, START | id, id) == TECELUME_OTHER_INTERFACE);
         CHECK(frame_by(1, SOURCE, TOGGLE | id, id) == TECELUME_TAKEN);
-        CHECK(frame_by(0, SOURCE, TOGGLE | id, id) == TECELUME_PASSED_OVER);
-        CHECK(frame_by(0, SOURCE, END | id, id) == TECELUME_PASSED_OVER);
+        CHECK(frame_by(0, SOURCE, TOGGLE | id, id) == TECELUME_OTHER_INTERFACE);
+        CHECK(frame_by(0, SOURCE, END | id, id) == TECELUME_OTHER_INTERFACE);
         CHECK(frame_by(1, SOURCE, END | id, id) == TECELUME_CHECKSUM_DIFFERS);
         CHECK(frame_by(1, SOURCE + 1, SINGLE | id, id) == TECELUME_HANDED_OUT);
     }
     for (unsigned id = 0; id < 4; id++)
-        CHECK(frame_by(2, SOURCE + 1, SINGLE | id, 4) == TECELUME_PASSED_OVER);
+        CHECK(frame_by(2, SOURCE + 1, SINGLE | id, 4) == TECELUME_OTHER_INTERFACE);
 }
 
 /* From then on the other interface is followed, and not the first one. */
@@ -218,12 +225,12 @@ static void switch_after_one_second(void)
 {
     begin();
     CHECK(frame_by(0, SOURCE, START, 0) == TECELUME_TAKEN);
-    CHECK(frame_by(1, SOURCE, START | 1, ONE_SECOND) == TECELUME_PASSED_OVER);
-    CHECK(frame_by(1, SOURCE, TOGGLE, ONE_SECOND + 1) == TECELUME_PASSED_OVER);
+    CHECK(frame_by(1, SOURCE, START | 1, ONE_SECOND) == TECELUME_OTHER_INTERFACE);
+    CHECK(frame_by(1, SOURCE, TOGGLE, ONE_SECOND + 1) == TECELUME_OTHER_INTERFACE);
     CHECK(frame_by(1, SOURCE, START | 1, ONE_SECOND + 1) == TECELUME_TAKEN);
-    CHECK(frame_by(0, SOURCE, TOGGLE | 1, ONE_SECOND + 2) == TECELUME_PASSED_OVER);
+    CHECK(frame_by(0, SOURCE, TOGGLE | 1, ONE_SECOND + 2) == TECELUME_OTHER_INTERFACE);
     CHECK(frame_by(1, SOURCE, TOGGLE | 1, ONE_SECOND + 2) == TECELUME_TAKEN);
-    CHECK(frame_by(0, SOURCE, START | 3, ONE_SECOND + 2) == TECELUME_PASSED_OVER);
+    CHECK(frame_by(0, SOURCE, START | 3, ONE_SECOND + 2) == TECELUME_OTHER_INTERFACE);
     CHECK(frame_by(1, SOURCE, START | 3, ONE_SECOND + 2) == TECELUME_TAKEN);
 }
 
@@ -233,7 +240,7 @@ static void switch_by_transfer_id(void)
     for (unsigned id = 0; id < TRANSFER_IDS; id++) {
         begin();
         CHECK(frame_by(0, SOURCE, SINGLE | 3, 0) == TECELUME_HANDED_OUT);
-        CHECK(frame_by(2, SOURCE, SINGLE | id, TWO_SECONDS) == (id >= 4 && id < 20 ? TECELUME_HANDED_OUT : TECELUME_PASSED_OVER));
+        CHECK(frame_by(2, SOURCE, SINGLE | id, TWO_SECONDS) == (id >= 4 && id < 20 ? TECELUME_HANDED_OUT : TECELUME_OTHER_INTERFACE));
         begin();
         CHECK(frame_by(0, SOURCE, SINGLE | 3, 0) == TECELUME_HANDED_OUT);
         CHECK(frame_by(2, SOURCE, SINGLE | id, TWO_SECONDS + 1) == TECELUME_HANDED_OUT);
@@ -257,22 +264,95 @@ static void repeat_on_one_cable(void)
     begin();
     CHECK(frame(SOURCE, START, 0) == TECELUME_TAKEN);
     CHECK(frame(SOURCE, TOGGLE, 0) == TECELUME_TAKEN);
-    CHECK(frame(SOURCE, START, ONE_SECOND) == TECELUME_PASSED_OVER);
+    CHECK(frame(SOURCE, START, ONE_SECOND) == TECELUME_REPEATED_START);
     CHECK(frame(SOURCE, START, ONE_SECOND + 1) == TECELUME_TAKEN);
-    CHECK(frame(SOURCE, 0, ONE_SECOND + 1) == TECELUME_PASSED_OVER);
+    CHECK(frame(SOURCE, 0, ONE_SECOND + 1) == TECELUME_WRONG_TOGGLE);
     CHECK(frame(SOURCE, TOGGLE, ONE_SECOND + 1) == TECELUME_TAKEN);
-    CHECK(frame(SOURCE, SINGLE, TWO_SECONDS + 1) == TECELUME_PASSED_OVER);
+    CHECK(frame(SOURCE, SINGLE, TWO_SECONDS + 1) == TECELUME_REPEATED_START);
     CHECK(frame(SOURCE, SINGLE, TWO_SECONDS + 2) == TECELUME_HANDED_OUT);
-    CHECK(frame(SOURCE, SINGLE, TWO_SECONDS + 3 + ONE_SECOND) == TECELUME_PASSED_OVER);
+    CHECK(frame(SOURCE, SINGLE, TWO_SECONDS + 3 + ONE_SECOND) == TECELUME_WRONG_TRANSFER);
+}
+
+/* Every frame of a transfer comes twice, the start once more; the transfer is handed out all the same. */
+static void repeats(void)
+{
+    struct topic t = message(TYPE);
+    begin();
+    CHECK(tecelume_frames(send_signed(&t, 20, signature, 0, sizeof records)) == 4);
+    for (size_t i = 0; i < 3; i++) {
+        CHECK(tecelume_number(carry_record(i, 0)) == TECELUME_TAKEN);
+        CHECK(tecelume_number(carry_record(i, 0)) == (i == 0 ? TECELUME_REPEATED_START : TECELUME_WRONG_TOGGLE));
+        CHECK(tecelume_number(carry_record(0, 0)) == TECELUME_REPEATED_START);
+    }
+    CHECK(tecelume_number(carry_record(3, 0)) == TECELUME_HANDED_OUT);
+    CHECK(tecelume_number(carry_record(3, 0)) == TECELUME_NO_TRANSFER);
+    CHECK(tecelume_number(carry_record(0, 0)) == TECELUME_WRONG_TRANSFER);
+}
+
+/* The second frame of four is lost, then a start, then the rest of one transfer and the start of the next. */
+static void losses(void)
+{
+    struct topic t = message(TYPE);
+    begin();
+    CHECK(tecelume_frames(send_signed(&t, 20, signature, 0, sizeof records)) == 4);
+    CHECK(tecelume_number(carry_record(0, 0)) == TECELUME_TAKEN);
+    CHECK(tecelume_number(carry_record(2, 0)) == TECELUME_WRONG_TOGGLE);
+    CHECK(tecelume_number(carry_record(3, 0)) == TECELUME_CHECKSUM_DIFFERS);
+    CHECK(tecelume_frames(send_signed(&t, 20, signature, 0, sizeof records)) == 4);
+    for (size_t i = 1; i < 4; i++)
+        CHECK(tecelume_number(carry_record(i, 0)) == TECELUME_NO_TRANSFER);
+    CHECK(tecelume_frames(send_signed(&t, 20, signature, 0, sizeof records)) == 4);
+    CHECK(tecelume_number(carry(2, 0)) == TECELUME_TAKEN);
+    CHECK(tecelume_frames(send_signed(&t, 20, signature, 0, sizeof records)) == 4);
+    for (size_t i = 1; i < 4; i++)
+        CHECK(tecelume_number(carry_record(i, 0)) == TECELUME_WRONG_TRANSFER);
+    CHECK(tecelume_number(carry(4, 0)) == TECELUME_HANDED_OUT);
+}
+
+/* By 8, and by 9. */
+static void rest_after_a_refused_start(void)
+{
+    const struct way short_room = {0, sizeof out - 1};
+    const uint8_t data[8] = {0, 0, 0, 0, 0, 0, 0, START};
+    begin();
+    CHECK(tecelume_number(receive_by(short_room, message_id(TYPE, SOURCE), data, sizeof data, 0)) == TECELUME_OUTPUT_TOO_SMALL);
+    CHECK(frame(SOURCE, TOGGLE, 0) == TECELUME_NO_TRANSFER);
+    begin_full(0);
+    CHECK(frame(SPARE, START, 0) == TECELUME_TABLE_FULL);
+    CHECK(frame(SPARE, TOGGLE, 0) == TECELUME_NO_TRANSFER);
+}
+
+/* Transfer 4 is expected by interface 0: in hand with toggle 1, then with nothing in hand, then by an old session. Several reasons apply to
+ * most frames. */
+static void reasons_in_order(void)
+{
+    static uint8_t kept[sizeof state];
+    begin();
+    CHECK(frame(SOURCE, START | 4, 0) == TECELUME_TAKEN);
+    CHECK(frame_by(1, SOURCE, START | 3, 0) == TECELUME_OTHER_INTERFACE && frame_by(1, SOURCE, START | 4, 0) == TECELUME_OTHER_INTERFACE);
+    CHECK(frame(SOURCE, START | 3, 0) == TECELUME_WRONG_TRANSFER && frame(SOURCE, START | 4, 0) == TECELUME_REPEATED_START);
+    CHECK(frame_by(1, SOURCE, 3, 0) == TECELUME_OTHER_INTERFACE && frame_by(1, SOURCE, TOGGLE | 4, 0) == TECELUME_OTHER_INTERFACE);
+    CHECK(frame(SOURCE, 3, 0) == TECELUME_WRONG_TRANSFER && frame(SOURCE, TOGGLE | 3, 0) == TECELUME_WRONG_TRANSFER);
+    CHECK(frame(SOURCE, 4, 0) == TECELUME_WRONG_TOGGLE && frame(SOURCE, TOGGLE | 4, 0) == TECELUME_TAKEN);
+    begin();
+    CHECK(frame(SOURCE, SINGLE | 3, 0) == TECELUME_HANDED_OUT);
+    memcpy(kept, state, sizeof state);
+    CHECK(frame_by(1, SOURCE, START | 4, 0) == TECELUME_OTHER_INTERFACE && frame(SOURCE, START | 3, 0) == TECELUME_WRONG_TRANSFER);
+    CHECK(frame_by(1, SOURCE, TOGGLE | 9, 0) == TECELUME_OTHER_INTERFACE && frame_by(1, SOURCE, 4, 0) == TECELUME_OTHER_INTERFACE);
+    CHECK(frame(SOURCE, TOGGLE | 9, 0) == TECELUME_NO_TRANSFER && frame(SOURCE, 4, TWO_SECONDS) == TECELUME_NO_TRANSFER);
+    CHECK(memcmp(state, kept, sizeof state) == 0);
+    CHECK(frame_by(1, SOURCE, 4, TWO_SECONDS + 1) == TECELUME_NO_TRANSFER && memcmp(state, kept, sizeof state) != 0);
+    CHECK(frame_by(2, SOURCE, TOGGLE | 9, TWO_SECONDS + 1) == TECELUME_NO_TRANSFER);
 }
 
 static void texts(void)
 {
-    for (uint32_t number = 0; number <= TECELUME_STATE_FAULT; number++)
-        CHECK(strcmp(tecelume_text(number), "unknown number") != 0);
-    CHECK(strcmp(tecelume_text(25), "padding not zero") == 0);
-    for (uint32_t number = TECELUME_STATE_FAULT + 1; number < 40; number++)
-        CHECK(number == 25 || strcmp(tecelume_text(number), "unknown number") == 0);
+    for (uint32_t number = 0; number < 40; number++) {
+        bool known = (number <= TECELUME_STATE_FAULT && number != 10) || number == 25 ||
+                     (number >= TECELUME_NO_TRANSFER && number <= TECELUME_OTHER_INTERFACE);
+        CHECK(known == (strcmp(tecelume_text(number), "unknown number") != 0));
+        CHECK((number >= TECELUME_NO_TRANSFER && known) == (strncmp(tecelume_text(number), "passed over", 11) == 0));
+    }
 }
 
 static void entry_at_two_seconds(void)
@@ -290,8 +370,8 @@ static void rest_of_a_transfer_too_long(void)
     for (unsigned i = 1; i < TECELUME_FRAMES_MAX - 1; i++)
         CHECK(frame(SOURCE, i % 2 * TOGGLE, 0) == TECELUME_TAKEN);
     CHECK(frame(SOURCE, TOGGLE, 0) == TECELUME_PAYLOAD_TOO_LONG);
-    CHECK(frame(SOURCE, 0, 0) == TECELUME_PASSED_OVER);
-    CHECK(frame(SOURCE, TOGGLE | END, 0) == TECELUME_PASSED_OVER);
+    CHECK(frame(SOURCE, 0, 0) == TECELUME_NO_TRANSFER);
+    CHECK(frame(SOURCE, TOGGLE | END, 0) == TECELUME_NO_TRANSFER);
     CHECK(frame(SOURCE, START | 1, 0) == TECELUME_TAKEN);
 }
 
@@ -334,8 +414,8 @@ static void repeat_after_the_wrap(void)
     CHECK(frame(SOURCE, SINGLE, after) == TECELUME_HANDED_OUT);
     begin();
     CHECK(frame(SOURCE, SINGLE, before) == TECELUME_HANDED_OUT);
-    CHECK(frame(SOURCE, SINGLE, (uint32_t)after) == TECELUME_PASSED_OVER);
-    CHECK(frame(SOURCE, SINGLE, (uint32_t)(wrap - 1)) == TECELUME_PASSED_OVER);
+    CHECK(frame(SOURCE, SINGLE, (uint32_t)after) == TECELUME_WRONG_TRANSFER);
+    CHECK(frame(SOURCE, SINGLE, (uint32_t)(wrap - 1)) == TECELUME_WRONG_TRANSFER);
 }
 
 /* The followed interface falls silent a second before the wrap. */
@@ -347,8 +427,8 @@ static void switch_after_the_wrap(void)
     CHECK(frame_by(1, SOURCE, SINGLE | 1, after) == TECELUME_HANDED_OUT);
     begin();
     CHECK(frame_by(0, SOURCE, SINGLE, before) == TECELUME_HANDED_OUT);
-    CHECK(frame_by(1, SOURCE, SINGLE | 1, (uint32_t)after) == TECELUME_PASSED_OVER);
-    CHECK(frame_by(1, SOURCE, SINGLE | 1, before) == TECELUME_PASSED_OVER);
+    CHECK(frame_by(1, SOURCE, SINGLE | 1, (uint32_t)after) == TECELUME_OTHER_INTERFACE);
+    CHECK(frame_by(1, SOURCE, SINGLE | 1, before) == TECELUME_OTHER_INTERFACE);
     CHECK(frame_by(0, SOURCE, SINGLE | 1, (uint32_t)after) == TECELUME_HANDED_OUT);
     CHECK(frame_by(1, SOURCE, SINGLE | 2, (uint32_t)after + ONE_SECOND + 1) == TECELUME_HANDED_OUT);
 }
@@ -550,10 +630,10 @@ static void new_setup(void)
 {
     begin();
     CHECK(frame(SOURCE, SINGLE, 0) == TECELUME_HANDED_OUT);
-    CHECK(frame(SOURCE, SINGLE, 0) == TECELUME_PASSED_OVER);
+    CHECK(frame(SOURCE, SINGLE, 0) == TECELUME_WRONG_TRANSFER);
     CHECK(frame(SOURCE, START | 1, 0) == TECELUME_TAKEN);
     CHECK(setup_under(signature) == TECELUME_SUCCESS);
-    CHECK(frame(SOURCE, TOGGLE | 1, 0) == TECELUME_PASSED_OVER);
+    CHECK(frame(SOURCE, TOGGLE | 1, 0) == TECELUME_NO_TRANSFER);
     CHECK(frame(SOURCE, SINGLE, 0) == TECELUME_HANDED_OUT);
 }
 
@@ -588,6 +668,10 @@ static const struct {
     {"switch_by_transfer_id", switch_by_transfer_id},
     {"anonymous_by_each_interface", anonymous_by_each_interface},
     {"repeat_on_one_cable", repeat_on_one_cable},
+    {"repeats", repeats},
+    {"losses", losses},
+    {"rest_after_a_refused_start", rest_after_a_refused_start},
+    {"reasons_in_order", reasons_in_order},
     {"texts", texts},
     {"entry_at_two_seconds", entry_at_two_seconds},
     {"rest_of_a_transfer_too_long", rest_of_a_transfer_too_long},

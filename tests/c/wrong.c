@@ -7,8 +7,9 @@
 
 #include "tecelume.h"
 
-enum { START = 0x80, TRANSFER_ID = 31, ID_AT = 55, SWITCH_DELAY = 1000000, OTHER = 99 /* a number that no call answers */ };
-enum { FLAGS = 1163 }; /* of the first session: the toggle, and twice the interface */
+enum { START = 0x80, TOGGLE = 0x20, TRANSFER_ID = 31, ID_AT = 55, SWITCH_DELAY = 1000000, OTHER = 99 /* a number that no call answers */ };
+/* of the first session: how many bytes it has gathered, the transfer ID that it expects, the toggle and twice the interface */
+enum { GATHERED = 1160, EXPECTED = 1162, FLAGS = 1163 };
 
 static bool is(const char *name)
 {
@@ -108,17 +109,41 @@ static uint32_t reception(uint32_t number, const uint8_t *state)
 {
     static bool dropped;
     dropped |= number == TECELUME_PAYLOAD_TOO_LONG;
-    if (is("rest-is-taken") && dropped && number == TECELUME_PASSED_OVER)
+    if (is("rest-is-taken") && dropped && number == TECELUME_NO_TRANSFER)
         return TECELUME_TAKEN;
+    if (is("bare-ten") && number >= TECELUME_NO_TRANSFER && number <= TECELUME_OTHER_INTERFACE)
+        return 10;
     if (is("unheard-unsubscribed") && number == TECELUME_TABLE_FULL)
         return TECELUME_NO_SUBSCRIPTION;
     if (is("zeros-at-fault") && state[0] == 0 && number == TECELUME_NO_SUBSCRIPTION)
         return TECELUME_STATE_FAULT;
     if (is("fault-not-seen") && number == TECELUME_STATE_FAULT)
-        return TECELUME_PASSED_OVER;
+        return TECELUME_TABLE_FULL;
     if (is("interface-fault-not-seen") && number == TECELUME_STATE_FAULT && state[FLAGS] == 2 * TECELUME_INTERFACES)
-        return TECELUME_PASSED_OVER;
+        return TECELUME_TABLE_FULL;
     return is("own-id-guarded") && state[0] != own_set_up ? (uint32_t)TECELUME_STATE_FAULT : number;
+}
+
+/* Another reason in place of the right one, for a frame of the first session's stream. `old` is a session that was. */
+static uint32_t reason(uint32_t number, const uint8_t *state, uint8_t tail, bool old)
+{
+    bool start = (tail & START) != 0, other_id = (tail & TRANSFER_ID) != state[EXPECTED];
+    bool in_hand = state[GATHERED] != 0 || state[GATHERED + 1] != 0, other_toggle = (tail & TOGGLE) / TOGGLE != state[FLAGS] % 2;
+    if (is("start-32-before-34") && start && number == TECELUME_OTHER_INTERFACE && other_id)
+        return TECELUME_WRONG_TRANSFER;
+    if (is("start-33-before-32") && start && number == TECELUME_WRONG_TRANSFER && in_hand)
+        return TECELUME_REPEATED_START;
+    if (is("30-before-34") && !start && number == TECELUME_OTHER_INTERFACE && !in_hand)
+        return TECELUME_NO_TRANSFER;
+    if (is("32-before-30") && number == TECELUME_NO_TRANSFER && other_id && !old)
+        return TECELUME_WRONG_TRANSFER;
+    if (is("31-before-32") && !start && number == TECELUME_WRONG_TRANSFER && other_toggle)
+        return TECELUME_WRONG_TOGGLE;
+    if (is("old-session-answers-34") && number == TECELUME_NO_TRANSFER && old)
+        return TECELUME_OTHER_INTERFACE;
+    if (is("other-id-in-hand-answers-30") && !start && number == TECELUME_WRONG_TRANSFER)
+        return TECELUME_NO_TRANSFER;
+    return number;
 }
 
 static void touch(uint32_t number, uint8_t *state, uint8_t *out, size_t out_len)
@@ -127,8 +152,11 @@ static void touch(uint32_t number, uint8_t *state, uint8_t *out, size_t out_len)
         out[0] ^= 1;
     if (is("output-touched-after-payload") && number == TECELUME_HANDED_OUT)
         out[out_len - 1] ^= 1;
-    if (is("refusal-touches-state") && number >= TECELUME_ID_TOO_LARGE && number <= TECELUME_TABLE_FULL)
-        state[TECELUME_RECEIVER_SIZE - 1] ^= 1;
+    bool refused = number >= TECELUME_ID_TOO_LARGE && number <= TECELUME_TABLE_FULL;
+    bool for_a_reason = number >= TECELUME_WRONG_TOGGLE && number <= TECELUME_OTHER_INTERFACE;
+    if ((is("refusal-touches-state") && refused) || (is("reason-touches-state") && for_a_reason) ||
+        (is("30-touches-state") && number == TECELUME_NO_TRANSFER))
+        state[TECELUME_RECEIVER_SIZE - 1]++;
 }
 
 uint64_t __real_tecelume_receive_word(uint8_t *state, size_t state_len, uint32_t id, const uint8_t *frame, size_t frame_len,
@@ -161,11 +189,11 @@ static uint32_t in_place(const struct arrival *a, uint32_t interface_number, uin
     if ((tail & START) != 0)
         last_start = tail;
     if (is("never-switches") && interface_number != 0 && age > 0)
-        return TECELUME_PASSED_OVER;
+        return TECELUME_OTHER_INTERFACE;
     if (is("anonymous-by-one-interface") && (a->id & 255) == 0 && interface_number != 0)
-        return TECELUME_PASSED_OVER;
+        return TECELUME_OTHER_INTERFACE;
     if (is("repeat-passed-over") && repeated && age <= 2 * SWITCH_DELAY)
-        return TECELUME_PASSED_OVER;
+        return TECELUME_REPEATED_START;
     if (is("interface-before-2-and-3") && interface_number >= TECELUME_INTERFACES)
         return TECELUME_NO_INTERFACE;
     if (is("interface-after-4") && interface_number >= TECELUME_INTERFACES && (a->id & 255) == 0x80)
@@ -182,9 +210,9 @@ static uint64_t receive_by(const struct arrival *a, uint32_t interface_number, u
     if (is("interface-ignored") || (is("interface-3-accepted") && interface_number >= TECELUME_INTERFACES))
         interface_number = 0;
     uint64_t word = receive(a, interface_number);
-    if (is("far-ahead-switches") && word == TECELUME_PASSED_OVER && start && age > SWITCH_DELAY)
+    if (is("far-ahead-switches") && word == TECELUME_OTHER_INTERFACE && start && age > SWITCH_DELAY)
         word = receive(a, 0);
-    for (uint32_t i = 0; i < TECELUME_INTERFACES && is("other-interface-taken") && word == TECELUME_PASSED_OVER; i++)
+    for (uint32_t i = 0; i < TECELUME_INTERFACES && is("other-interface-taken") && word == TECELUME_OTHER_INTERFACE; i++)
         word = receive(a, i);
     return word;
 }
@@ -198,8 +226,9 @@ uint64_t __wrap_tecelume_receive_word(uint8_t *state, size_t state_len, uint32_t
     if (is("session-wraps-counted"))
         seen = unwrapped(time);
     struct arrival a = {state, state_len, id, frame, frame_len, seen, out, out_len};
-    uint64_t word = receive_by(&a, interface_number, time > taken ? time - taken : 0);
-    uint32_t number = (uint32_t)(word & 255), wrong = reception(number, state);
+    uint64_t age = time > taken ? time - taken : 0, word = receive_by(&a, interface_number, age);
+    uint32_t number = (uint32_t)(word & 255);
+    uint32_t wrong = reason(reception(number, state), state, frame_len > 0 ? frame[frame_len - 1] : 0, age > 2 * SWITCH_DELAY);
     if (start && number <= TECELUME_HANDED_OUT)
         taken = counted = time;
     if (start ? is("age-from-last-start-seen") : is("age-from-last-frame"))

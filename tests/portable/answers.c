@@ -10,13 +10,19 @@
 
 #include "tecelume.h"
 
-enum { CALLS = 100000, FOLD = 1000, LANES = 6, NODES = 2, TYPES = 6, NUMBERS = 21 };
+enum { CALLS = 100000, FOLD = 1000, LANES = 6, NODES = 2, TYPES = 6, NUMBERS = TECELUME_OTHER_INTERFACE + 1 };
 enum { GATHERED_AT = 1288 }; /* where the gathered bytes of a receiver start */
 enum entry { SETUP, RECEIVE, MAP_SETUP, SEND, OTHERS, ENTRIES };
 
 static const char *const names[ENTRIES] = {"setup", "receive", "map_setup", "send", "others"};
-static const uint32_t must[ENTRIES] = {1u | 1u << 13 | 1u << 20, 0x1FFFu | 1u << 19 | 1u << 20, 1u | 1u << 20,
-                                       1u | 1u << 8 | 1u << 9 | 1u << 11 | 1u << 14 | 1u << 20, 1u};
+#define BIT(number) ((uint64_t)1 << (number))
+static const uint64_t must[ENTRIES] = {
+    BIT(0) | BIT(13) | BIT(20),
+    (BIT(10) - 1) | BIT(11) | BIT(12) | BIT(19) | BIT(20) | (BIT(35) - BIT(30)),
+    BIT(0) | BIT(20),
+    BIT(0) | BIT(8) | BIT(9) | BIT(11) | BIT(14) | BIT(20),
+    BIT(0),
+};
 
 static uint8_t state[TECELUME_RECEIVER_SIZE];
 static uint8_t maps[NODES][TECELUME_MAP_SIZE];

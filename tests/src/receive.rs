@@ -1,7 +1,7 @@
 //! The receiver: setup and the reception of one frame (RULES 3, 4 and 13).
 
 use crate::frame::{largest_type, priority_of, Stream, Tail, FRAME_PAYLOAD, ID_END, LONGEST_FRAME};
-use crate::session::{Piece, Session, Step};
+use crate::session::{Piece, Reason, Session, Step};
 
 pub const LARGEST_NODE: u32 = 127;
 pub const MOST_SUBSCRIPTIONS: usize = 64;
@@ -74,10 +74,10 @@ pub enum Answer {
     NoSubscription,
     OutputTooSmall,
     TableFull,
-    PassedOver,
     PayloadTooLong,
     ChecksumDiffers,
     NoInterface,
+    PassedOver(Reason),
 }
 
 impl Answer {
@@ -93,10 +93,14 @@ impl Answer {
             Answer::NoSubscription => 7,
             Answer::OutputTooSmall => 8,
             Answer::TableFull => 9,
-            Answer::PassedOver => 10,
             Answer::PayloadTooLong => 11,
             Answer::ChecksumDiffers => 12,
             Answer::NoInterface => 19,
+            Answer::PassedOver(Reason::NoTransfer) => 30,
+            Answer::PassedOver(Reason::WrongToggle) => 31,
+            Answer::PassedOver(Reason::WrongTransfer) => 32,
+            Answer::PassedOver(Reason::RepeatedStart) => 33,
+            Answer::PassedOver(Reason::OtherInterface) => 34,
         }
     }
 }
@@ -145,7 +149,7 @@ impl Receiver {
             Ok(session) => match session.accept(&head.piece) {
                 Step::Taken => Answer::Taken,
                 Step::Closed(payload) => head.hand_out(payload),
-                Step::PassedOver => Answer::PassedOver,
+                Step::PassedOver(reason) => Answer::PassedOver(reason),
                 Step::TooLong => Answer::PayloadTooLong,
                 Step::ChecksumDiffers => Answer::ChecksumDiffers,
             },
@@ -208,7 +212,7 @@ impl Receiver {
         let (stream, piece) = (head.stream, &head.piece);
         let place = match self.place_of(&stream) {
             Some(place) => place,
-            None if !piece.tail.start => return Err(Answer::PassedOver),
+            None if !piece.tail.start => return Err(Answer::PassedOver(Reason::NoTransfer)),
             None => {
                 let place = self.free_place(piece.time).ok_or(Answer::TableFull)?;
                 let transfer_id = piece.tail.transfer_id;

@@ -47,12 +47,26 @@ pub enum Restart {
     AfterDelay,
 }
 
+/// Why a frame is passed over (RULES 4.6).
+#[derive(Clone, Copy, Debug, PartialEq, Eq)]
+pub enum Reason {
+    /// No start, and no transfer is in hand.
+    NoTransfer,
+    WrongToggle,
+    /// The transfer ID is not the expected one.
+    WrongTransfer,
+    /// A start of the transfer that is in hand.
+    RepeatedStart,
+    /// Another interface is followed.
+    OtherInterface,
+}
+
 /// What a session makes of a frame.
 #[derive(Clone, Debug, PartialEq, Eq)]
 pub enum Step {
     Taken,
     Closed(Vec<u8>),
-    PassedOver,
+    PassedOver(Reason),
     TooLong,
     ChecksumDiffers,
 }
@@ -86,13 +100,13 @@ impl Session {
             self.follows = piece.interface;
             if !tail.start {
                 self.expected_id = next_transfer_id(self.expected_id);
-                return Step::PassedOver;
+                return Step::PassedOver(Reason::NoTransfer);
             }
         }
-        if piece.interface != self.follows || !self.continues_with(tail) {
-            return Step::PassedOver;
+        match self.passed_over(piece) {
+            Some(reason) => Step::PassedOver(reason),
+            None => self.take(piece),
         }
-        self.take(piece)
     }
 
     pub fn restart(&self, piece: &Piece) -> Option<Restart> {
@@ -116,10 +130,23 @@ impl Session {
         self.expected_id = transfer_id;
     }
 
-    fn continues_with(&self, tail: Tail) -> bool {
-        tail.toggle == self.toggle
-            && tail.transfer_id == self.expected_id
-            && tail.start == self.gathered.is_empty()
+    /// Why a frame at which nothing restarts is passed over; where several reasons hold, the first.
+    pub fn passed_over(&self, piece: &Piece) -> Option<Reason> {
+        let tail = piece.tail;
+        let in_hand = !self.gathered.is_empty();
+        if piece.interface != self.follows {
+            Some(Reason::OtherInterface)
+        } else if !tail.start && !in_hand {
+            Some(Reason::NoTransfer)
+        } else if tail.transfer_id != self.expected_id {
+            Some(Reason::WrongTransfer)
+        } else if tail.start && in_hand {
+            Some(Reason::RepeatedStart)
+        } else if tail.toggle != self.toggle {
+            Some(Reason::WrongToggle)
+        } else {
+            None
+        }
     }
 
     fn take(&mut self, piece: &Piece) -> Step {

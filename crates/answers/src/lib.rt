@@ -2,7 +2,7 @@
 // reception, the transfer that was handed out.
 ghost use mathlib.Core.Path.{_≡_};
 ghost use Prim.Native.Nat.{_<_};
-ghost use Rattle.answers.specs.Reception.{numberOf, noTransfer, transferIn};
+ghost use Rattle.answers.specs.Reception.{reasonNumber, numberOf, noTransfer, transferIn};
 ghost use Rattle.answers.specs.Sending as sending;
 ghost use Rattle.answers.specs.Setup as setup;
 ghost use Rattle.answers.specs.Sending.{noDispatch, dispatchIn};
@@ -18,13 +18,22 @@ pub struct Transfer {
     pub transfer: u8,
 }
 
-// The receiver's answers. `Refused` holds the number of the frame check, 2 to 8.
+// Why a frame is passed over (RULES 4.6).
+pub enum Reason {
+    NoTransfer,
+    WrongToggle,
+    WrongTransfer,
+    RepeatedStart,
+    OtherInterface,
+}
+
+// The receiver's answers. `Refused` holds the number of the frame check: 2 to 8 or 19.
 pub enum Answer {
     Taken,
     Handed(Transfer),
     Refused(u8),
     Full,
-    Passed,
+    Passed(Reason),
     TooLong,
     BadChecksum,
     Faulty,
@@ -67,6 +76,20 @@ fn no_transfer() -> Transfer
     }
 }
 
+impl Reason {
+    pub fn number(self) -> u64
+        ensures { λ r. ⌜ (r ≡ reasonNumber self) × (r < 256) ⌝ }
+    {
+        match self {
+            Reason::NoTransfer => 30,
+            Reason::WrongToggle => 31,
+            Reason::WrongTransfer => 32,
+            Reason::RepeatedStart => 33,
+            Reason::OtherInterface => 34,
+        }
+    }
+}
+
 impl Answer {
     pub fn number(self) -> u64
         ensures { λ r. ⌜ (r ≡ numberOf self) × (r < 256) ⌝ }
@@ -76,7 +99,7 @@ impl Answer {
             Answer::Handed(_) => 1,
             Answer::Refused(n) => n as u64,
             Answer::Full => 9,
-            Answer::Passed => 10,
+            Answer::Passed(r) => r.number(),
             Answer::TooLong => 11,
             Answer::BadChecksum => 12,
             Answer::Faulty => 20,
@@ -92,7 +115,7 @@ impl Answer {
             Answer::Handed(t) => t,
             Answer::Refused(_) => no_transfer(),
             Answer::Full => no_transfer(),
-            Answer::Passed => no_transfer(),
+            Answer::Passed(_) => no_transfer(),
             Answer::TooLong => no_transfer(),
             Answer::BadChecksum => no_transfer(),
             Answer::Faulty => no_transfer(),

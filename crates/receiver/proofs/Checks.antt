@@ -25,7 +25,7 @@ use Rattle.subscriptions.specs.declared.Subscribed.the-variants.{Under, Not}
 
 first-append : (xs ys : List Test) → first (xs ++ ys) ≡ orElse (first xs) (first ys)
 first-append [] ys = refl
-first-append (t ∷ ts) ys = go (t .refuses) (first-append ts ys)
+first-append (t ∷ ts) ys = go (t .holds) (first-append ts ys)
   where
     go : (b : Bool) → first (ts ++ ys) ≡ orElse (first ts) (first ys)
         → pick b (some (t .number)) (first (ts ++ ys)) ≡ orElse (pick b (some (t .number)) (first ts)) (first ys)
@@ -155,7 +155,7 @@ module _ (u : Setup) (id i time : ℕ) (bs out : List ℕ) where
   unfolding frameCheck
   in-order =
       let hs = headTests (u .own) (streamOf id) (isStart (tailOf bs)) (isEnd (tailOf bs)) (toggleOf (tailOf bs)) (length bs) in
-      let last : List Test = record { refuses = notSubscribed u (arrivalOf id bs i time .frame); number = 7 } ∷ [] in
+      let last : List Test = record { holds = notSubscribed u (arrivalOf id bs i time .frame); number = 7 } ∷ [] in
       first-append (readTests id (length bs) i) (hs ++ last) ∙ ap (orElse reads) (first-append hs last)
 
   pub read-refuses : (r : ℕ) → r ≡ orZero reads → 0 < r → check u (arriving (arrivalOf id bs i time) out) ≡ some r

@@ -1,7 +1,8 @@
 -- The session that a frame enters, and the place it comes from.
-use mathlib.Core.Path.{_≡_, sym, ap, _∙_}
-use mathlib.Core.Bool.{Bool, true, false}
-use mathlib.Core.List.{List, []}
+use mathlib.Core.Path.{_≡_, refl, sym, ap, _∙_}
+use mathlib.Core.Bool.{Bool, true, false, not, _||_}
+use mathlib.Core.List.{List, [], _∷_}
+use mathlib.Core.Option.{some}
 use Prim.Native.Nat.{ℕ, _+_, _*_, _≤_, _<_}
 use native.Mathlib.Omega.{arith}
 use lib.ListN.{length}
@@ -14,7 +15,9 @@ use Rattle.receiver.specs.declared.place.Way.the-variants.{New, Again, O
 use Rattle.session.specs.inside.Session.{sessionOf, streamOf, parsedOf, freshOf, progressOf, bare}
 use Rattle.session.proofs.Rules.{restarts-whole, over-whole}
 use Rattle.rules.specs.Session.{restarts, over}
-use Rattle.rules.specs.Tests.{isNone}
+use Rattle.rules.specs.Tests.{isEmpty, isNone}
+use Rattle.answers.specs.declared.Reason.{Reason}
+use Rattle.session.specs.inside.Answer.{why}
 use Rattle.session.specs.declared.Incoming.{Incoming}
 use Rattle.session.specs.declared.Progress.{Progress}
 use Rattle.session.specs.declared.Session as coded
@@ -78,3 +81,15 @@ module _ (s : Session) (c : Progress) (e : c ≡ progressOf s) (h : Incoming) (p
 
   pub awaited-at : (b : Bool) → b ≡ isNone (over (bare c) (parsedOf h [])) → (a : Bool) → b ≡ a → isNone (over s (parsedOf h p)) ≡ a
   awaited-at b t a q = sym (t ∙ ap (λ (x : Progress). isNone (over (bare x) (parsedOf h []))) e ∙ ap isNone (over-whole s h p)) ∙ q
+
+  pub reason-at : (r : Reason) → why (over (bare c) (parsedOf h [])) ≡ some r → why (over s (parsedOf h p)) ≡ some r
+  reason-at r t = sym (ap (λ (x : Progress). why (over (bare x) (parsedOf h []))) e ∙ ap why (over-whole s h p)) ∙ t
+
+-- toggle 0, where nothing is in hand
+pub toggle-at : (s : Session) (c : Progress) → c ≡ progressOf s → (not (s .toggle) || not (isEmpty (s .gathered))) ≡ true → c .len ≡ 0 → c .toggle ≡ false
+toggle-at s c e k z = ap (λ (x : Progress). x .toggle) e ∙ go (s .toggle) (s .gathered) k (sym (ap (λ (x : Progress). x .len) e) ∙ z)
+  where
+    go : (b : Bool) (g : List ℕ) → (not b || not (isEmpty g)) ≡ true → length g ≡ 0 → b ≡ false
+    go false g k z = refl
+    go true [] k z = sym k
+    go true (x ∷ g) k z = absurd (omega arith)

@@ -7,7 +7,6 @@ use native.Mathlib.Omega.{arith}
 use native.Mathlib.Nat.{zero-add}
 use lib.ListN.{length, set, length-take}
 use Rattle.bits.specs.Order.{Octets}
-use Rattle.rules.specs.Answer as rules
 use Rattle.rules.specs.Frame.{Stream}
 use Rattle.rules.specs.Reception.{Step, store}
 use Rattle.rules.specs.Session.{Session, Out}

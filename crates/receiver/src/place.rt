@@ -1,5 +1,6 @@
 // A frame's session (RULES 4.3): the place that it has, or gets.
 use answers::Answer;
+use answers::Reason;
 use rules::limits::GATHERED;
 use rules::limits::SESSIONS;
 use session::Incoming;
@@ -108,7 +109,7 @@ fn known(state: &mut [u8], i: usize, k: u32, f: Incoming, p: &[u8], out: &mut [u
             return enter(state, i, k, Way::Again, f, p, out);
         }
         reset(state, i, k, (f.head.transfer + 1) % 32, f.interface);
-        return Answer::Passed;
+        return Answer::Passed(Reason::NoTransfer);
     }
     if session::awaited(c, f) {
         if GATHERED < c.len + p.len() {
@@ -117,7 +118,7 @@ fn known(state: &mut [u8], i: usize, k: u32, f: Incoming, p: &[u8], out: &mut [u
         }
         return enter(state, i, k, Way::On, f, p, out);
     }
-    Answer::Passed
+    Answer::Passed(session::reason(c, f))
 }
 
 // A start of a stream without a session: the lowest empty place, else the lowest old session's.
@@ -150,5 +151,5 @@ pub fn arrive(state: &mut [u8], f: Incoming, p: &[u8], out: &mut [u8]) -> Answer
     if f.head.start {
         return unknown(state, k, f, p, out);
     }
-    Answer::Passed
+    Answer::Passed(Reason::NoTransfer)
 }

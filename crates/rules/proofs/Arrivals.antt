@@ -1,33 +1,33 @@
 -- The frames of a payload at a receiver that they are for: the start passes the checks and is sorted, and no other is a start.
 use mathlib.Core.Path.{_≡_, refl, sym, ap, _∙_, subst}
 use mathlib.Core.Bool.{Bool, true, false, true≢false, not, _&&_, _||_}
-use mathlib.Core.List.{List, [], _∷_, _++_, map, nil≢cons, cons≢nil, head-eq-of-cons-eq, tail-eq-of-cons-eq}
-use mathlib.Core.Option.{Option, none, some}
+use mathlib.Core.List.{List, [], _∷_, map, nil≢cons, cons≢nil, head-eq-of-cons-eq, tail-eq-of-cons-eq}
+use mathlib.Core.Option.{some}
 use mathlib.Mathlib.Data.Bool.Basic.{and-intro}
 use Prim.Native.Nat.{ℕ, zero, suc, _+_, _^_, _≤_, _<_}
 use native.Mathlib.Omega.{arith}
-use lib.Dec.{ltb, eqb}
-use lib.ListN.{length, getD, take, drop}
+use lib.Dec.{eqb}
+use lib.ListN.{length, take, drop}
 use lib.Seq.{length-take-le}
 use borrow.Author.Tests.{eq-eqb, ne-eqb, lt-ltb, le-ltb, le-leb, lt-leb, eqb-true, eqb-false}
-use Rattle.rules.specs.Answer.{Answer, Reason}
-use Rattle.rules.specs.Answer as answer
-use Rattle.rules.specs.Check.{Reception, Parsed, parsed, badTail}
+use Rattle.rules.specs.Answer.{Answer}
+use Rattle.rules.specs.Check.{Reception, badTail}
 use Rattle.rules.specs.Condition3.{ofStream, startOf, keep, All, framesWith, answersTo, upTo, forward, roomy, Brings, done, next, beside, rulesTable}
 use Rattle.rules.specs.Frame.{Frame, Arrival, Stream, sameStream, streamOf, tailOf, isStart, isEnd, toggleOf}
 use Rattle.rules.specs.Limits.{interfacesMax, switchDelay}
-use Rattle.rules.specs.Reception.{stepNew, stepStart, sessionIn, stepSeek, stepAnonymous, stepChecked, step}
+use Rattle.rules.specs.Reception.{step}
 use Rattle.rules.specs.Sending as sending
-use Rattle.rules.specs.Sending.{Call, any}
+use Rattle.rules.specs.Sending.{Call}
 use Rattle.rules.specs.SendingLaws.{Hears, untimed, framesBy}
 use Rattle.rules.specs.Sent.{tailByte, framed, pieces, carrying, frameAt, arrivalAt}
-use Rattle.rules.specs.Session.{Session, overIf, over, sumOk, closing, takeEnd, takeLong, takes, proceedIf, proceed, met, react, fresh}
 use Rattle.rules.specs.Setup.{kindOf, Setup, subscribed, signatureFor}
-use Rattle.rules.specs.Table.{empty, Places, seek, holds, placeFor}
-use Rattle.rules.specs.Tests.{isEmpty, sameBool, isNone}
+use Rattle.rules.specs.Sound.{placesFit}
+use Rattle.rules.specs.Table.{Places}
+use Rattle.rules.specs.Tests.{isNone}
 use Rattle.rules.proofs.Checks.{Accepted, none-of, roomy-check, named-not-anonymous}
-use Rattle.rules.proofs.Frames.{framed-length, framed-tail, framed-payload, fulls}
+use Rattle.rules.proofs.Frames.{framed-length, framed-tail, fulls}
 use Rattle.rules.proofs.Ids.{bit-is, flag-le}
+use Rattle.rules.proofs.Reasons.{Sorted, sorts-step}
 use Rattle.rules.proofs.Table.{same-refl}
 
 -- ── the frames of a payload: a start, and no other ──
@@ -78,73 +78,6 @@ module _ (t : ℕ) (small : t < 32) where
             whole = λ z. l;
             later = later n true (drop 7 xs);
           }
-
--- ── a start that passed the checks: taken, refused by 9 or passed over ──
-
-abbrev pub Sorted : Answer → Type 0
-Sorted a = any (map (eqb (answer.numberOf a)) (0 ∷ 1 ∷ 9 ∷ 10 ∷ [])) ≡ true
-
-over-empty : (f a b c : Bool) → overIf f true a b c ≡ none → b ≡ true
-over-empty true true true c e = refl
-over-empty true true false c e = let z : _≡_ {A = ℕ} 0 1 = cc in absurd (omega arith)
-over-empty true false b c e = let z : _≡_ {A = ℕ} 0 1 = cc in absurd (omega arith)
-over-empty false a b c e = let z : _≡_ {A = ℕ} 0 1 = cc in absurd (omega arith)
-
-none-in-hand : (l xs : List ℕ) → isEmpty l ≡ true → length (l ++ xs) ≡ length xs
-none-in-hand [] xs e = refl
-none-in-hand (x ∷ l) xs e = absurd (true≢false (sym e))
-
-module _ (v : Parsed) (st : v .start ≡ true) (few : length (v .payload) ≤ 7) where
-  sorts-closing : (b ok : Bool) (all : List ℕ) → b ≡ true → Sorted (closing b ok all v)
-  unfolding closing
-  sorts-closing true ok all e = refl
-  sorts-closing false ok all e = absurd (true≢false (sym e))
-
-  sorts-end : (s : Session) (all : List ℕ) (l : Bool) → Sorted (takeEnd l s v all .answer)
-  unfolding takeEnd
-  sorts-end s all false = refl
-  sorts-end s all true = sorts-closing (v .start) (sumOk (v .signature) all) all st
-
-  sorts-taken : (s : Session) → over s v ≡ none → Sorted (takes s v .answer)
-  unfolding takes takeLong over
-  sorts-taken s e =
-      let h = over-empty (eqb (v .interface) (s .follows)) (eqb (v .transfer) (s .expected)) (isEmpty (s .gathered)) (sameBool (v .toggle) (s .toggle))
-      (ap (λ b. overIf (eqb (v .interface) (s .follows)) b (eqb (v .transfer) (s .expected)) (isEmpty (s .gathered)) (sameBool (v .toggle) (s .toggle))) (sym st) ∙ e) in
-      let n = none-in-hand (s .gathered) (v .payload) h in
-      long (ltb 514 (length (s .gathered ++ v .payload))) (le-ltb 514 (length (s .gathered ++ v .payload)) (omega arith))
-    where
-      all : List ℕ
-      all = s .gathered ++ v .payload
-
-      long : (b : Bool) → b ≡ false → Sorted (takeLong b s v all .answer)
-      long true q = absurd (true≢false q)
-      long false q = sorts-end s all (v .last)
-
-  sorts-proceed : (s : Session) → Sorted (proceed s v .answer)
-  unfolding proceed proceedIf
-  sorts-proceed s = go (over s v) refl
-    where
-      go : (o : Option Reason) → over s v ≡ o → Sorted (proceedIf o s v .answer)
-      go (some r) e = refl
-      go none e = sorts-taken s e
-
-  sorts-react : (s : Session) → Sorted (react s v .answer)
-  unfolding react
-  sorts-react s = sorts-proceed (met s v)
-
-  sorts-new : (ps : Places) (o : Option ℕ) → Sorted (stepNew o ps v .answer)
-  unfolding stepNew
-  sorts-new ps none = refl
-  sorts-new ps (some i) = sorts-proceed (fresh v)
-
-  sorts-seek : (ps : Places) (o : Option ℕ) → Sorted (stepSeek o ps v .answer)
-  unfolding stepSeek stepStart
-  sorts-seek ps (some i) = sorts-react (sessionIn (getD ps i empty) v)
-  sorts-seek ps none = go (v .start) st
-    where
-      go : (b : Bool) → b ≡ true → Sorted (stepStart b ps v .answer)
-      go true e = sorts-new ps (placeFor (v .time) ps)
-      go false e = absurd (true≢false (sym e))
 
 -- ── a stream's frames ──
 
@@ -260,10 +193,6 @@ module _ (u : Setup) (c : Call) (hears : Hears u c) (id : ℕ) (small : id < 2 ^
     abbrev f : Arrival
     f = arrivalAt i id bytes time
 
-    start-is : parsed u f .start ≡ true
-    unfolding parsed
-    start-is = starts t t-small xs true last false
-
     accepts : Accepted u f
     accepts =
         let n = framed-length xs (tailByte true last false t) in
@@ -294,9 +223,7 @@ module _ (u : Setup) (c : Call) (hears : Hears u c) (id : ℕ) (small : id < 2 ^
 
     -- ── its start ──
 
-    pub sorts-start : (ps : Places) (space : ℕ) → 512 ≤ space → Sorted (step u ps (record { arrival = f; room = space }) .answer)
-    unfolding step stepChecked stepAnonymous parsed
-    sorts-start ps space h =
-        let few : length (parsed u f .payload) ≤ 7 = rw (framed-payload xs (tailByte true last false t)) most in
-        rw (roomy-check u (record { arrival = f; room = space }) h ∙ none-of u f accepts, named-not-anonymous id (rw stream named))
-        (sorts-seek (parsed u f) start-is few ps (seek (holds (parsed u f .stream)) ps))
+    pub sorts-start : (ps : Places) → placesFit ps ≡ true → (space : ℕ) → 512 ≤ space → Sorted (step u ps (record { arrival = f; room = space }) .answer)
+    sorts-start ps fit space h =
+        let r : Reception = record { arrival = f; room = space } in
+        sorts-step u ps r fit (starts t t-small xs true last false) (roomy-check u r h ∙ none-of u f accepts) (named-not-anonymous id (rw stream named))

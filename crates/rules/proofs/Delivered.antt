@@ -22,12 +22,13 @@ use Rattle.rules.specs.Sent.{tailByte, framed, carried, sent, idOf, fram
 use Rattle.rules.specs.Setup.{Setup}
 use Rattle.rules.specs.Sound.{serviceFits, streamFits}
 use Rattle.rules.specs.Table.{Places}
-use Rattle.rules.proofs.Arrivals.{starts, Opening, opening, Sorted, each, framesAt, of-it, arrivalsAt, frames-each, upto-each, roomy-each, forward-each, untimed-each, soon-each, length-each, first-timed, brings-timed, starts-each, no-starts, signed, sorts-start}
+use Rattle.rules.proofs.Arrivals.{starts, Opening, opening, each, framesAt, of-it, arrivalsAt, frames-each, upto-each, roomy-each, forward-each, untimed-each, soon-each, length-each, first-timed, brings-timed, starts-each, no-starts, signed, sorts-start}
 use Rattle.rules.proofs.Ids.{id-laws}
 use Rattle.rules.proofs.Lift.{free}
+use Rattle.rules.proofs.Reasons.{Sorted}
 use Rattle.rules.proofs.Records.{Short, sent-short, length-records, back}
 use Rattle.rules.proofs.Sends.{record-laws, source-laws}
-use Rattle.rules.proofs.Theorem.{theorem}
+use Rattle.rules.proofs.Theorem.{past-fits, theorem}
 
 module _ (u : Setup) (c : Call) (hears : Hears u c) (m : Map) (records : List ℕ) (ok : Correct c m records) (named : 0 < c .own) where
   abbrev d : Stream
@@ -108,7 +109,7 @@ module _ (u : Setup) (c : Call) (hears : Hears u c) (m : Map) (records : List �
     sorted : Sorted (step u (x .state) (x .start) .answer)
     sorted =
         subst (λ g. Sorted (step u (x .state) (record { arrival = record { frame = g; interface = f .interface }; room = x .start .room }) .answer)) start-is
-        (sorts-start u c hears id small stream named aimed t (ok .transfer) (o .bytes) (o .last) (o .most) (o .whole) time (f .interface) (h .interface) (x .state) (x .start .room) (h .room))
+        (sorts-start u c hears id small stream named aimed t (ok .transfer) (o .bytes) (o .last) (o .most) (o .whole) time (f .interface) (h .interface) (x .state) (past-fits u (x .state) (h .past)) (x .start .room) (h .room))
 
 -- what is read from the records is each frame in turn
 tab-each : {A : Type 0} (g : List ℕ → A) (l : List (List ℕ)) (f : ℕ → A) (i : ℕ) → ((k : ℕ) → k < length l → f (i + k) ≡ g (getD l k [])) → tabulate f i (length l) ≡ map g l

@@ -152,4 +152,4 @@ why-premises =
 
 pub interfaces : Interfaces
 unfolding run after step stepChecked stepAnonymous stepSeek stepStart stepNew seek placeFor check frameCheck parsed streamOf sameStream subscribed react met restarted restarts proceed proceedIf over takes takeLong takeEnd closing
-interfaces = record { followed = refl; repeated = refl; switched = refl; ahead = refl; aged = refl; order = refl }
+interfaces = record { followed = refl; repeated = refl; switched = refl; ahead = refl; aged = refl; agedAfter = refl; order = refl }

@@ -76,7 +76,7 @@ sole-apart (p ∷ ps) h = and-intro (sole-first p ps h) (sole-apart ps (sole-res
 
 -- ── one session ──
 
-record Fits (s : Session) : Type 0 where
+pub record Fits (s : Session) : Type 0 where
   pub expected : s .expected < 32
   pub follows : s .follows < 3
   pub size : length (s .gathered) ≤ 514
@@ -88,7 +88,7 @@ fits-test s h =
     and-intro (and-intro (lt-ltb (s .expected) 32 (h .expected)) (lt-ltb (s .follows) 3 (h .follows)))
     (and-intro (le-leb (length (s .gathered)) 514 (h .size)) (h .toggle))
 
-test-fits : (s : Session) → sessionFits s ≡ true → Fits s
+pub test-fits : (s : Session) → sessionFits s ≡ true → Fits s
 unfolding sessionFits
 test-fits s h =
     let j = and-elim-left (ltb (s .expected) 32 && ltb (s .follows) 3) _ h in
@@ -101,7 +101,7 @@ test-fits s h =
     }
 
 -- what is in range in a frame that passed the checks
-record ParsedFits (v : Parsed) : Type 0 where
+pub record ParsedFits (v : Parsed) : Type 0 where
   pub transfer : v .transfer < 32
   pub interface : v .interface < 3
   pub whole : v .last ≡ false → isEmpty (v .payload) ≡ false
@@ -146,7 +146,7 @@ module _ (s : Session) (v : Parsed) (ok : Fits s) (vok : ParsedFits v) where
       go (some r) = ok
       go none = long-fits (ltb 514 (length (s .gathered ++ v .payload))) refl
 
-met-fits : (s : Session) (v : Parsed) → Fits s → ParsedFits v → Fits (met s v)
+pub met-fits : (s : Session) (v : Parsed) → Fits s → ParsedFits v → Fits (met s v)
 unfolding met
 met-fits s v ok vok = go (restarts s v)
   where
@@ -165,12 +165,12 @@ set-fits [] i q h k = refl
 set-fits (p ∷ ps) zero q h k = and-intro k (and-elim-right (placeFits p) _ h)
 set-fits (p ∷ ps) (suc i) q h k = and-intro (and-elim-left (placeFits p) _ h) (set-fits ps i q (and-elim-right (placeFits p) _ h) k)
 
-at-fits : (ps : Places) (i : ℕ) → placesFit ps ≡ true → placeFits (getD ps i empty) ≡ true
+pub at-fits : (ps : Places) (i : ℕ) → placesFit ps ≡ true → placeFits (getD ps i empty) ≡ true
 at-fits [] i h = refl
 at-fits (p ∷ ps) zero h = and-elim-left _ _ h
 at-fits (p ∷ ps) (suc i) h = at-fits ps i (and-elim-right (placeFits p) _ h)
 
-session-fits : (p : Place) (v : Parsed) → placeFits p ≡ true → ParsedFits v → Fits (sessionIn p v)
+pub session-fits : (p : Place) (v : Parsed) → placeFits p ≡ true → ParsedFits v → Fits (sessionIn p v)
 session-fits empty v h vok = record { expected = vok .transfer; follows = vok .interface; size = omega arith; toggle = refl }
 session-fits (held e s) v h vok = test-fits s (and-elim-right (streamFits e) _ h)
 
@@ -251,7 +251,7 @@ whole anonymous start last toggle n e k =
     or-off (not last && ltb n 8) _ .0 (or-off (anonymous && not (start && last)) _ .0 (or-off (start && toggle) _ .0 e .1) .1) .0 in
     ltb-false n 8 (rw k at q)
 
-parsed-fits : (u : Setup) (f : Arrival) → Accepted u f → ParsedFits (parsed u f)
+pub parsed-fits : (u : Setup) (f : Arrival) → Accepted u f → ParsedFits (parsed u f)
 unfolding parsed
 parsed-fits u f a =
     record {
@@ -309,6 +309,10 @@ sound-step u ps r h =
     and-intro (eq-eqb (length (step u ps r .places)) 32 (size-step u ps r ∙ eqb-true (length ps) 32 (and-elim-left _ _ h)))
     (and-intro (fits-step u ps r (and-elim-left _ _ k))
     (sole-apart (step u ps r .places) (sole-step u ps r (apart-sole ps (and-elim-right (placesFit ps) _ k)))))
+
+pub sound-fits : (ps : Places) → sound ps ≡ true → placesFit ps ≡ true
+unfolding sound
+sound-fits ps h = and-elim-left _ _ (and-elim-right (eqb (length ps) 32) _ h)
 
 pub lasting : Lasting
 unfolding sound

@@ -13,9 +13,11 @@ pub mod Lift
 pub mod Others
 pub mod Own
 pub mod Ranges
+pub mod Reasons
 pub mod Records
 pub mod Refusals
 pub mod Sends
 pub mod Start
 pub mod Table
+pub mod Takes
 pub mod Theorem

@@ -104,13 +104,16 @@ pub restart-start : (s : Session) (v : Parsed) → restarts s v ≡ true → v .
 unfolding restarted
 restart-start s v r e g = react-restarts s v r ∙ ap (λ y. proceed y v) (rw e) ∙ begins (s .since) v e g
 
+pub restart-other : (s : Session) (v : Parsed) → restarts s v ≡ true → v .start ≡ false → react s v ≡ record { answer = passed noTransfer; session = restarted s v }
+unfolding proceed proceedIf over restarted
+restart-other s v r e = react-restarts s v r ∙ rw (e, eq-eqb (v .interface) (v .interface) refl)
+
 react-old-start : (s : Session) (v : Parsed) → Old (v .time) s → v .start ≡ true → v .toggle ≡ false → react s v ≡ takes (fresh v) v
 react-old-start s v o e g = restart-start s v (old-restarts s v o) e g
 
 react-old-other : (s : Session) (v : Parsed) → Old (v .time) s → v .start ≡ false
     → react s v ≡ record { answer = passed noTransfer; session = restarted s v }
-unfolding proceed proceedIf over restarted
-react-old-other s v o e = react-restarts s v (old-restarts s v o) ∙ rw (e, eq-eqb (v .interface) (v .interface) refl)
+react-old-other s v o e = restart-other s v (old-restarts s v o) e
 
 old-stays : (s : Session) (v : Parsed) → Old (v .time) s → Old (v .time) (restarted s v)
 unfolding restarted

@@ -9,11 +9,11 @@ use Prim.Native.Nat.{ℕ, _/_, _%_, _^_, _-_, _≤_, _<_}
 use native.Mathlib.Omega.{arith}
 use lib.Dec.{ltb, eqb}
 use lib.ListN.{length, take, drop, getD, length-take, length-drop}
-use borrow.Author.Tests.{ltb-false, leb-false}
-use Rattle.rules.specs.Answer.{Answer, taken, handed, refused, full, passed, long, differs, Reason, numberOf}
+use borrow.Author.Tests.{ltb-false, leb-false, le-leb, lt-leb, ne-eqb}
+use Rattle.rules.specs.Answer.{Answer, taken, handed, refused, full, passed, long, differs, Reason, noTransfer, wrongToggle, wrongTransfer, repeatedStart, otherInterface, reasonNumber, numberOf}
 use Rattle.rules.specs.Check.{Reception, Parsed, parsed, largeId, badLength, noInterface, unnamedService, forAnother, notSubscribed, frameCheck, roomCheck, check}
 use Rattle.rules.specs.Frame.{Arrival, isService, isAnonymous, sourceOf, streamIf, streamOf}
-use Rattle.rules.specs.Range.{HandedRange, Ranged, RangeLaw, out, HandOut, OneLaw}
+use Rattle.rules.specs.Range.{HandedRange, Ranged, RangeLaw, answered, NumberLaw, out, HandOut, OneLaw}
 use Rattle.rules.specs.Reception.{sessionIn, stepNew, stepStart, stepSeek, stepAnonymous, stepChecked, step}
 use Rattle.rules.specs.Session.{Session, sumOk, closing, takeEnd, takeLong, takes, overIf, over, proceedIf, proceed, react, met, fresh}
 use Rattle.rules.specs.Setup.{Setup}
@@ -23,10 +23,10 @@ use Rattle.rules.proofs.Checks.{Accepted, accepted, checked, badTailIn}
 
 -- ── a frame that passes the checks ──
 
-abbrev Headed : Parsed → Type 0
+abbrev pub Headed : Parsed → Type 0
 Headed v = HandedRange (v .payload) (v .stream) (v .priority) (v .transfer) × (length (v .payload) ≤ 7)
 
-headed : (u : Setup) (f : Arrival) → Accepted u f → Headed (parsed u f)
+pub headed : (u : Setup) (f : Arrival) → Accepted u f → Headed (parsed u f)
 unfolding parsed streamOf
 headed u f a = go (isService (f .frame .id))
   where
@@ -197,12 +197,36 @@ ranges u ps r = go (check u r) refl (check-small u r)
     go none e k =
         named-range (parsed u (r .arrival)) (headed u (r .arrival) (accepted u (r .arrival) (checked u r e))) (isAnonymous (r .arrival .frame .id)) ps
 
+-- the numbers of the reasons
+pub reason-range : (r : Reason) → (30 ≤ reasonNumber r) × (reasonNumber r ≤ 34)
+reason-range noTransfer = (omega arith, omega arith)
+reason-range wrongToggle = (omega arith, omega arith)
+reason-range wrongTransfer = (omega arith, omega arith)
+reason-range repeatedStart = (omega arith, omega arith)
+reason-range otherInterface = (omega arith, omega arith)
+
+number : (a : Answer) → Ranged a → answered (numberOf a) ≡ true
+number taken h = refl
+number (handed p d prio t) h = refl
+number (refused n) (inl h) = rw (le-leb n 9 (omega arith))
+number (refused n) (inr e) = rw e
+number full h = refl
+number (passed r) h =
+    let n = reasonNumber r in
+    let k = reason-range r in
+    rw (lt-leb n 9 (omega arith), ne-eqb n 11 (λ e. omega arith), ne-eqb n 12 (λ e. omega arith), ne-eqb n 19 (λ e. omega arith), le-leb 30 n (k .0), le-leb n 34 (k .1))
+number long h = refl
+number differs h = refl
+
+pub number-law : NumberLaw
+number-law u ps r = number (step u ps r .answer) (ranges u ps r)
+
 one : (a : Answer) → Ranged a → numberOf a ≡ 1 → HandOut a
 one taken h e = absurd (omega arith)
 one (handed p d prio t) h e = out p d prio t
 one (refused n) h e = absurd (omega (arith, two-or-more n h))
 one full h e = absurd (omega arith)
-one (passed r) h e = absurd (omega arith)
+one (passed r) h e = absurd (omega (arith, reason-range r))
 one long h e = absurd (omega arith)
 one differs h e = absurd (omega arith)
 

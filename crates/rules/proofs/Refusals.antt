@@ -1,50 +1,47 @@
 -- A frame that is refused changes no place: where a place is written, the answer is none of these.
 use mathlib.Core.Path.{_≡_, refl}
-use mathlib.Core.Bool.{Bool, true, false}
-use mathlib.Core.List.{List, _++_}
+use mathlib.Core.Bool.{Bool, true, false, and-false}
 use mathlib.Core.Option.{Option, none, some}
 use Prim.Native.Nat.{ℕ}
 use native.Mathlib.Omega.{arith}
-use lib.Dec.{ltb}
-use lib.ListN.{length, getD}
-use Rattle.rules.specs.Answer.{Answer, Reason, numberOf}
+use lib.Dec.{leb}
+use lib.ListN.{getD}
+use borrow.Author.Tests.{lt-leb, ne-eqb}
+use Rattle.rules.specs.Answer.{Answer, Reason, passed, reasonNumber, numberOf}
 use Rattle.rules.specs.Check.{Parsed, parsed, check}
 use Rattle.rules.specs.Frame.{isAnonymous}
-use Rattle.rules.specs.Limits.{gatheredMax}
 use Rattle.rules.specs.Reception.{sessionIn, stepNew, stepStart, stepSeek, stepAnonymous, stepChecked, step}
 use Rattle.rules.specs.Refusal.{refuses, RefusalLaw}
-use Rattle.rules.specs.Session.{Session, sumOk, closing, takeEnd, takeLong, takes, over, proceedIf, proceed, met, react, fresh}
+use Rattle.rules.specs.Session.{Session, over, proceedIf, proceed, met, react, fresh}
 use Rattle.rules.specs.Table.{Places, empty, seek, holds, placeFor}
+use Rattle.rules.proofs.Ranges.{reason-range}
+use Rattle.rules.proofs.Takes.{Takes, unfinished, whole, tooLong, badSum, takes-answer}
 
 abbrev Answers : Answer → Type 0
 Answers a = refuses (numberOf a) ≡ false
 
+taken-answers : {a : Answer} → Takes a → Answers a
+taken-answers unfinished = refl
+taken-answers whole = refl
+taken-answers tooLong = refl
+taken-answers badSum = refl
+
+passed-answers : (r : Reason) → Answers (passed r)
+passed-answers r =
+    let n = reasonNumber r in
+    let k = reason-range r in
+    rw (lt-leb n 9 (omega arith), and-false (leb 2 n), ne-eqb n 19 (λ e. omega arith), ne-eqb n 20 (λ e. omega arith))
+
 module _ (v : Parsed) where
   -- ── a session that a frame meets ──
 
-  closing-answers : (start ok : Bool) (all : List ℕ) → Answers (closing start ok all v)
-  unfolding closing
-  closing-answers true ok all = refl
-  closing-answers false true all = refl
-  closing-answers false false all = refl
-
-  end-answers : (last : Bool) (s : Session) (all : List ℕ) → Answers (takeEnd last s v all .answer)
-  unfolding takeEnd
-  end-answers false s all = refl
-  end-answers true s all = closing-answers (v .start) (sumOk (v .signature) all) all
-
-  long-answers : (b : Bool) (s : Session) (all : List ℕ) → Answers (takeLong b s v all .answer)
-  unfolding takeLong
-  long-answers true s all = refl
-  long-answers false s all = end-answers (v .last) s all
-
   proceed-answers : (s : Session) → Answers (proceed s v .answer)
-  unfolding proceed proceedIf takes
+  unfolding proceed proceedIf
   proceed-answers s = go (over s v)
     where
       go : (o : Option Reason) → Answers (proceedIf o s v .answer)
-      go (some r) = refl
-      go none = let all = s .gathered ++ v .payload in long-answers (ltb gatheredMax (length all)) s all
+      go (some r) = passed-answers r
+      go none = taken-answers (takes-answer v s)
 
   react-answers : (s : Session) → Answers (react s v .answer)
   unfolding react

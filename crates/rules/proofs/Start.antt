@@ -8,7 +8,7 @@ use native.Mathlib.Omega.{arith}
 use lib.Dec.{ltb, eqb}
 use lib.ListN.{length, getD}
 use borrow.Author.Tests.{eqb-true, ltb-true}
-use Rattle.rules.specs.Answer.{Reason, numberOf}
+use Rattle.rules.specs.Answer.{Reason, reasonNumber, numberOf}
 use Rattle.rules.specs.Check.{Reception, Parsed, parsed, frameCheck, check}
 use Rattle.rules.specs.Condition3.{ofStream, took}
 use Rattle.rules.specs.Frame.{Stream, streamOf, isAnonymous}
@@ -20,7 +20,7 @@ use Rattle.rules.specs.Tests.{sameBool, isEmpty}
 use Rattle.rules.proofs.Checks.{checked, start-toggle, named-not-anonymous, of-stream}
 use Rattle.rules.proofs.Others.{FoundPlace, place-spec}
 use Rattle.rules.proofs.Own.{began, long-free, begins, restart-start, react-stays}
-use Rattle.rules.proofs.Ranges.{Small, two-or-more, check-small}
+use Rattle.rules.proofs.Ranges.{Small, two-or-more, check-small, reason-range}
 use Rattle.rules.proofs.Table.{Found, seek-spec, sessionsOf, fails-none, Sole, only, new-at}
 
 -- ── one session ──
@@ -61,7 +61,7 @@ took-began s v st g e =
 module _ (v : Parsed) (st : v .start ≡ true) (g : v .toggle ≡ false) where
   took-proceed : (s : Session) (o : Option Reason) → over s v ≡ o → took (numberOf (proceedIf o s v .answer)) ≡ true → proceedIf o s v ≡ takes (fresh v) v
   unfolding proceedIf takes
-  took-proceed s (some r) e t = absurd (false≢true t)
+  took-proceed s (some r) e t = absurd (omega (arith, ltb-true (reasonNumber r) 2 t, reason-range r))
   took-proceed s none e t =
       ap (λ x. takes x v) (took-began s v st g e) ∙ long-free (ltb 514 (length (v .payload))) (s .since) (v .time) v (v .payload) st
 

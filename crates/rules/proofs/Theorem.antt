@@ -9,9 +9,9 @@ use native.Mathlib.Omega.{arith}
 use lib.Dec.{eqb, leb}
 use lib.ListN.{length, take}
 use lib.Seq.{take-all, take-length}
-use borrow.Author.Tests.{eq-eqb, lt-leb, leb-true, leb-false}
+use borrow.Author.Tests.{eq-eqb, ne-eqb, lt-leb, leb-true, leb-false}
 use Rattle.checksum.specs.Crc16.{checksum}
-use Rattle.rules.specs.Answer.{Answer, taken, handed, refused, full, passed, long, differs}
+use Rattle.rules.specs.Answer.{Answer, taken, handed, refused, full, passed, long, differs, reasonNumber}
 use Rattle.rules.specs.Check.{Reception, parsed}
 use Rattle.rules.specs.Condition3.{Past, fromSetup, lent, heard, ofStream, startOf, keep, framesWith, answersTo, Receiver, startFrame, frames, answers, tookStart, front, While, Brings, next, again, beside, Transfer, handouts, Condition3, rulesTable}
 use Rattle.rules.specs.Frame.{Arrival, Stream, streamOf, priorityOf, isAnonymous, isStart, tailOf}
@@ -27,9 +27,10 @@ use Rattle.rules.proofs.Delivery.{closings, verdict, closes-once}
 use Rattle.rules.proofs.Follow.{frames-upto, answers-upto, answers-length, follow}
 use Rattle.rules.proofs.Frames.{carried-short, carried-long}
 use Rattle.rules.proofs.Ids.{id-priority}
-use Rattle.rules.proofs.Lasting.{apart-sole, stream-fits, lasting}
+use Rattle.rules.proofs.Lasting.{apart-sole, stream-fits, sound-fits, lasting}
 use Rattle.rules.proofs.Others.{sole-step}
 use Rattle.rules.proofs.Own.{refRun, same}
+use Rattle.rules.proofs.Ranges.{reason-range}
 use Rattle.rules.proofs.Start.{took-checked, began-by}
 use Rattle.rules.proofs.Table.{Sole}
 
@@ -44,6 +45,9 @@ past-sound : (u : Setup) (ps : Places) → Past u ps → sound ps ≡ true
 past-sound u ps fromSetup = lasting .setup
 past-sound u ps (lent h) = h
 past-sound u ps (heard {ps = qs} h l) = sound-after u qs l (past-sound u qs h)
+
+pub past-fits : (u : Setup) (ps : Places) → Past u ps → placesFit ps ≡ true
+past-fits u ps h = sound-fits ps (past-sound u ps h)
 
 past-sole : (u : Setup) (ps : Places) → Past u ps → Sole ps
 unfolding sound
@@ -93,7 +97,7 @@ handouts-closings u (refused n ∷ l) = go (eqb n 1) refl (handouts-closings u l
     go true e h = rw e (ap (λ k. refused n ∷ k) h)
     go false e h = h
 handouts-closings u (full ∷ l) = handouts-closings u l
-handouts-closings u (passed r ∷ l) = handouts-closings u l
+handouts-closings u (passed r ∷ l) = rw (ne-eqb (reasonNumber r) 1 (λ e. omega (arith, reason-range r))) (handouts-closings u l)
 handouts-closings u (long ∷ l) = handouts-closings u l
 handouts-closings u (differs ∷ l) = handouts-closings u l
 

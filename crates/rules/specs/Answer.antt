@@ -11,6 +11,14 @@ pub data Reason : Type 0 where
   repeatedStart : Reason  -- a start of the transfer that is in hand
   otherInterface : Reason  -- the session follows another interface
 
+-- the number of each
+abbrev pub reasonNumber : Reason → ℕ
+reasonNumber noTransfer = 30
+reasonNumber wrongToggle = 31
+reasonNumber wrongTransfer = 32
+reasonNumber repeatedStart = 33
+reasonNumber otherInterface = 34
+
 pub data Answer : Type 0 where
   taken : Answer
   -- RULES 4.10: the payload, the stream, the closing frame's priority and transfer ID
@@ -27,7 +35,7 @@ numberOf taken = 0
 numberOf (handed p s prio t) = 1
 numberOf (refused n) = n
 numberOf full = 9
-numberOf (passed r) = 10
+numberOf (passed r) = reasonNumber r
 numberOf long = 11
 numberOf differs = 12
 

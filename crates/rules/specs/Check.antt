@@ -75,22 +75,22 @@ notSubscribed u f = isNone (signatureFor u (f .id))
 -- ── in their order ──
 
 pub record Test : Type 0 where
-  pub refuses : Bool
+  pub holds : Bool
   pub number : ℕ
 
 -- 2 and 3: a frame of n data bytes that cannot be read; 19: one that comes by no interface of ours
 abbrev pub readTests : ℕ → ℕ → ℕ → List Test
 readTests id n i =
-    record { refuses = largeId id; number = 2 } ∷
-    record { refuses = badLength n; number = 3 } ∷
-    record { refuses = noInterface i; number = 19 } ∷ []
+    record { holds = largeId id; number = 2 } ∷
+    record { holds = badLength n; number = 3 } ∷
+    record { holds = noInterface i; number = 19 } ∷ []
 
 -- 4 to 6: its stream and the flags of its tail
 abbrev pub headTests : ℕ → Stream → Bool → Bool → Bool → ℕ → List Test
 headTests own d start last toggle n =
-    record { refuses = unnamedService d; number = 4 } ∷
-    record { refuses = badTail (unnamed d) start last toggle n; number = 5 } ∷
-    record { refuses = forAnother own d; number = 6 } ∷ []
+    record { holds = unnamedService d; number = 4 } ∷
+    record { holds = badTail (unnamed d) start last toggle n; number = 5 } ∷
+    record { holds = forAnother own d; number = 6 } ∷ []
 
 -- all but 8 look at the setup and the frame as it comes alone
 abbrev pub frameTests : Setup → Arrival → List Test
@@ -98,12 +98,12 @@ frameTests u a =
     readTests (a .frame .id) (length (a .frame .bytes)) (a .interface)
     ++ (headTests (u .own) (streamOf (a .frame .id)) (isStart (tailOf (a .frame .bytes))) (isEnd (tailOf (a .frame .bytes)))
     (toggleOf (tailOf (a .frame .bytes))) (length (a .frame .bytes))
-    ++ (record { refuses = notSubscribed u (a .frame); number = 7 } ∷ []))
+    ++ (record { holds = notSubscribed u (a .frame); number = 7 } ∷ []))
 
--- the first that refuses answers
+-- the first that holds answers
 abbrev pub first : List Test → Option ℕ
 first [] = none
-first (t ∷ ts) = pick (t .refuses) (some (t .number)) (first ts)
+first (t ∷ ts) = pick (t .holds) (some (t .number)) (first ts)
 
 unfoldable pub frameCheck : Setup → Arrival → Option ℕ
 frameCheck u a = first (frameTests u a)

@@ -14,6 +14,7 @@ pub mod SentLaws
 pub mod Map
 pub mod Sending
 pub mod Sound
+pub mod Reasons
 pub mod Condition3
 pub mod SendingLaws
 pub mod Example

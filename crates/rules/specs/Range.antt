@@ -1,8 +1,10 @@
 -- RULES 4.10: every number that a reception answers, and every value that 1 gives, is in its range, whatever the table was.
 use mathlib.Core.Path.{_≡_}
+use mathlib.Core.Bool.{Bool, true, _&&_, _||_}
 use mathlib.Core.List.{List}
 use mathlib.Core.Logic.{_⊎_}
 use Prim.Native.Nat.{ℕ, _≤_, _<_}
+use lib.Dec.{leb, eqb}
 use lib.ListN.{length}
 use Rattle.rules.specs.Answer.{Answer, taken, handed, refused, full, passed, long, differs, numberOf}
 use Rattle.rules.specs.Check.{Reception}
@@ -32,6 +34,13 @@ Ranged differs = Unit {0}
 
 abbrev pub RangeLaw : Type 0
 RangeLaw = (u : Setup) (ps : Places) (r : Reception) → Ranged (step u ps r .answer)
+
+-- the numbers: 10 is none of them
+abbrev pub answered : ℕ → Bool
+answered n = leb n 9 || (eqb n 11 || (eqb n 12 || (eqb n 19 || (leb 30 n && leb n 34))))
+
+abbrev pub NumberLaw : Type 0
+NumberLaw = (u : Setup) (ps : Places) (r : Reception) → answered (numberOf (step u ps r .answer)) ≡ true
 
 -- number 1 is a hand-out, and nothing else
 pub data HandOut : Answer → Type 0 where

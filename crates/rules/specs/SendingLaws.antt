@@ -142,7 +142,7 @@ pub record Hearing (u : Setup) (d : Stream) (records : List ℕ) (n : ℕ) (x : 
 -- what it answers to the call's records
 pub record Arrives (u : Setup) (c : Call) (m : Map) (x : Receiver (rulesTable u)) : Type 0 where
   -- the start is taken, refused for a full table or passed over
-  pub start : any (map (eqb (answer.numberOf (step u (x .state) (x .start) .answer))) (0 ∷ 1 ∷ 9 ∷ 10 ∷ [])) ≡ true
+  pub start : any (map (eqb (answer.numberOf (step u (x .state) (x .start) .answer))) (0 ∷ 1 ∷ 9 ∷ 32 ∷ 33 ∷ 34 ∷ [])) ≡ true
   -- where it is taken, the payload is handed out exactly once
   pub once : tookStart (rulesTable u) x ≡ true
       → handouts (rulesTable u) (answers (rulesTable u) (streamOf c) x) ≡ handed (c .payload) (streamOf c) (c .priority) (transferFor c m) ∷ []

@@ -223,20 +223,20 @@ pub record Differ (x y : Heard) (meets meets' : List Bool) (a b : List ℕ) : Ty
 pub record WhyPremises : Type 0 where
   pub complete : Tests
   -- alike
-  pub pasts : Differ single double all (but 0) (0 ∷ 10 ∷ []) (0 ∷ 0 ∷ [])
+  pub pasts : Differ single double all (but 0) (0 ∷ 30 ∷ []) (0 ∷ 0 ∷ [])
   pub start : Differ intact damaged (but 2) (but 2) (0 ∷ 1 ∷ []) (0 ∷ 12 ∷ [])
-  pub take : Differ steady ahead all (but 3) (0 ∷ 0 ∷ 1 ∷ []) (10 ∷ 10 ∷ 10 ∷ [])
-  pub time : Differ steady back all (but 4) (0 ∷ 0 ∷ 1 ∷ []) (0 ∷ 10 ∷ 10 ∷ [])
-  pub room : Differ steady short all (but 5) (0 ∷ 0 ∷ 1 ∷ []) (0 ∷ 8 ∷ 10 ∷ [])
+  pub take : Differ steady ahead all (but 3) (0 ∷ 0 ∷ 1 ∷ []) (32 ∷ 30 ∷ 30 ∷ [])
+  pub time : Differ steady back all (but 4) (0 ∷ 0 ∷ 1 ∷ []) (0 ∷ 30 ∷ 30 ∷ [])
+  pub room : Differ steady short all (but 5) (0 ∷ 0 ∷ 1 ∷ []) (0 ∷ 8 ∷ 31 ∷ [])
   pub table : Differ roomLeft noneLeft all (but 6) (0 ∷ 0 ∷ []) (0 ∷ 9 ∷ [])
   pub together : (tests stream late ≡ all) × (tests stream later ≡ all) × Same stream late later
-      × (numbers stream late ≡ 0 ∷ 0 ∷ 1 ∷ []) × (numbers stream later ≡ 0 ∷ 0 ∷ 10 ∷ [])
+      × (numbers stream late ≡ 0 ∷ 0 ∷ 1 ∷ []) × (numbers stream later ≡ 0 ∷ 0 ∷ 30 ∷ [])
   pub same : (tests stream steady ≡ all) × (tests stream lacking ≡ all) × Together steady lacking
-      × (numbers stream steady ≡ 0 ∷ 0 ∷ 1 ∷ []) × (numbers stream lacking ≡ 0 ∷ 10 ∷ [])
+      × (numbers stream steady ≡ 0 ∷ 0 ∷ 1 ∷ []) × (numbers stream lacking ≡ 0 ∷ 31 ∷ [])
   pub interfaces : (tests stream steady ≡ all) × (tests stream crossed ≡ all) × Together steady crossed × (frames' crossed ≡ frames' steady)
-      × (numbers stream crossed ≡ 0 ∷ 10 ∷ 10 ∷ [])
+      × (numbers stream crossed ≡ 0 ∷ 34 ∷ 31 ∷ [])
   pub interface : (tests stream steady ≡ all) × (tests stream elsewhere ≡ all) × (elsewhere .start .arrival .frame ≡ steady .start .arrival .frame)
-      × Same stream steady elsewhere × (numbers stream elsewhere ≡ 0 ∷ 10 ∷ 10 ∷ [])
+      × Same stream steady elsewhere × (numbers stream elsewhere ≡ 0 ∷ 34 ∷ 34 ∷ [])
   -- delivered
   pub named : (tests unnamed twice ≡ but 1) × Transfer setup unnamed (twice .start .arrival) (frames (rulesTable setup) unnamed twice) 16 0 (1 ∷ [])
       × (numbers unnamed twice ≡ 1 ∷ 1 ∷ [])
@@ -249,6 +249,6 @@ pub record WhyPremises : Type 0 where
   -- in time with a microsecond more
   pub second : (tests stream tooLate ≡ all)
       × Brings 0 (idOf stream 16) (10000000 + switchDelay + 1) (sent agreed 5 payload) (tooLate .start .arrival ∷ frames (rulesTable setup) stream tooLate)
-      × (numbers stream tooLate ≡ 0 ∷ 0 ∷ 0 ∷ 10 ∷ [])
+      × (numbers stream tooLate ≡ 0 ∷ 0 ∷ 0 ∷ 34 ∷ [])
   pub order : Sent inOrder agreed 5 degrees (true ∷ true ∷ true ∷ []) × (tests stream outOfOrder ≡ all)
-      × (numbers stream inOrder ≡ 0 ∷ 0 ∷ 10 ∷ 0 ∷ 1 ∷ []) × (numbers stream outOfOrder ≡ 0 ∷ 0 ∷ 0 ∷ 0 ∷ 10 ∷ [])
+      × (numbers stream inOrder ≡ 0 ∷ 0 ∷ 31 ∷ 0 ∷ 1 ∷ []) × (numbers stream outOfOrder ≡ 0 ∷ 0 ∷ 0 ∷ 0 ∷ 31 ∷ [])

@@ -4,7 +4,8 @@ pub mod limits;
 ghost use Rattle.rules.specs.Condition3.{Condition3, rulesTable};
 ghost use Rattle.rules.specs.Example.{Example};
 ghost use Rattle.rules.specs.Interfaces.{Interfaces};
-ghost use Rattle.rules.specs.Range.{RangeLaw, OneLaw};
+ghost use Rattle.rules.specs.Range.{RangeLaw, NumberLaw, OneLaw};
+ghost use Rattle.rules.specs.Reasons.{Reasons};
 ghost use Rattle.rules.specs.Refusal.{RefusalLaw};
 ghost use Rattle.rules.specs.Samples.{Samples};
 ghost use Rattle.rules.specs.SendingLaws.{RecordLaws, SourceLaws, MapLasts, Delivered};
@@ -32,9 +33,14 @@ pub fn table_lasts()
     ensures { λ _. ⌜ Lasting ⌝ }
 {}
 
-// RULES 4.10: what a reception answers is in its range, and number 1 is a hand-out.
+// RULES 4.10: what a reception answers is in its range, by number and by value, and number 1 is a hand-out.
 pub fn answers_in_range()
-    ensures { λ _. ⌜ RangeLaw × OneLaw ⌝ }
+    ensures { λ _. ⌜ RangeLaw × (NumberLaw × OneLaw) ⌝ }
+{}
+
+// RULES 4.6: why a frame is passed over. The reasons are complete, and the first that holds is answered.
+pub fn reasons_of_passing()
+    ensures { λ _. ⌜ Reasons ⌝ }
 {}
 
 // RULES 4.9: a frame that is refused by 2 to 9 changes no place.

@@ -1,24 +1,27 @@
 -- Each case of the rules, from the tests that lead to it. Throughout, b is what a test of the code gave.
 use mathlib.Core.Path.{_≡_, refl, sym, ap, _∙_}
-use mathlib.Core.Bool.{Bool, true, false, _&&_, Bool·beq, and-false, true≢false, false≢true}
+use mathlib.Core.Bool.{Bool, true, false, not, _&&_, Bool·beq, and-false, true≢false, false≢true}
 use mathlib.Core.List.{List, [], _∷_, _++_}
 use mathlib.Core.Option.{Option, none, some}
 use Prim.Native.Nat.{ℕ, _+_, _-_, _≤_, _<_}
 use native.Mathlib.Omega.{arith}
-use borrow.Author.Tests.{lt-ltb, le-ltb, eq-eqb, ne-eqb}
+use borrow.Author.Tests.{lt-ltb, le-ltb, eq-eqb, ne-eqb, eqb-true}
 use lib.Dec.{ltb, eqb, lit≤}
 use lib.ListN.{length, take, drop, replicate, length-append, length-replicate}
-use Rattle.rules.specs.Answer.{Reason, taken, handed, passed, long, differs, noTransfer}
+use Rattle.rules.specs.Answer as answer
+use Rattle.rules.specs.Answer.{taken, handed, passed, long, differs, noTransfer}
 use Rattle.rules.specs.Check.{Parsed}
 use Rattle.rules.specs.Limits.{switchDelay}
 use Rattle.rules.specs.Session as rules
 use Rattle.rules.specs.Session.{waiting, oldSince, distance, next, sumOk, over, overIf, closed, closing, takes, takeLong, takeEnd, sinceOf, proceed, proceedIf, met, react, restarts, restarted, fresh}
 use Rattle.rules.specs.Tests.{pick, sameBool, isEmpty, isNone}
 use Rattle.answers.specs.Reception.{told, outAfter}
-use Rattle.session.specs.inside.Answer.{HandsOut, Closes}
+use Rattle.session.specs.inside.Answer.{why, Passes, HandsOut, Closes}
 use Rattle.session.specs.inside.Session.{sessionOf, InRange, parsedOf, added, progressOf, bare}
 use Rattle.answers.specs.declared.Answer.{Answer}
 use Rattle.answers.specs.declared.Answer.the-variants.{Passed, BadChecksum}
+use Rattle.answers.specs.declared.Reason.{Reason}
+use Rattle.answers.specs.declared.Reason.the-variants.{NoTransfer, WrongToggle, WrongTransfer, RepeatedStart, OtherInterface}
 use Rattle.session.specs.declared.Incoming.{Incoming}
 use Rattle.session.specs.declared.Progress.{Progress}
 use Rattle.session.specs.declared.Session.{Session}
@@ -54,6 +57,16 @@ module _ (c : Progress) (h : Incoming) (a : Bool) (d : a ≡ (eqb (h .interface)
     unfolding parsedOf
     begins-not o = rw (← d, k, ← e, o)
 
+-- ── which frame is awaited, and why another is passed over ──
+
+-- of the bytes in hand only their number counts
+over-bare : (c : Progress) (h : Incoming)
+    → over (bare c) (parsedOf h []) ≡ overIf (eqb (h .interface) (c .follows)) (h .head .start) (eqb (h .head .transfer) (c .expected)) (eqb (c .len) 0) (sameBool (h .head .toggle) (c .toggle))
+unfolding over parsedOf
+over-bare c h =
+    ap (λ (b : Bool). overIf (eqb (h .interface) (c .follows)) (h .head .start) (eqb (h .head .transfer) (c .expected)) b (sameBool (h .head .toggle) (c .toggle)))
+    (empty-length (replicate (c .len) 0) ∙ ap (λ (n : ℕ). eqb n 0) (length-replicate (c .len) 0))
+
 unfoldable awaitedAt : Progress → Incoming → Bool
 awaitedAt c h =
     eqb (h .interface) (c .follows)
@@ -74,12 +87,10 @@ none-awaited true false true false true = refl
 
 -- the test of the code is that of the rules
 over-awaited : (c : Progress) (h : Incoming) → isNone (over (bare c) (parsedOf h [])) ≡ awaitedAt c h
-unfolding over awaitedAt parsedOf
+unfolding awaitedAt
 over-awaited c h =
-    none-awaited (eqb (h .interface) (c .follows)) (h .head .start) (eqb (h .head .transfer) (c .expected)) (isEmpty (replicate (c .len) 0))
-    (sameBool (h .head .toggle) (c .toggle))
-    ∙ ap (λ (b : Bool). eqb (h .interface) (c .follows) && (eqb (h .head .transfer) (c .expected) && (sameBool (h .head .toggle) (c .toggle) && sameBool (h .head .start) b)))
-    (empty-length (replicate (c .len) 0) ∙ ap (λ (n : ℕ). eqb n 0) (length-replicate (c .len) 0))
+    ap isNone (over-bare c h)
+    ∙ none-awaited (eqb (h .interface) (c .follows)) (h .head .start) (eqb (h .head .transfer) (c .expected)) (eqb (c .len) 0) (sameBool (h .head .toggle) (c .toggle))
 
 beq-same : (a b : Bool) → Bool·beq a b ≡ sameBool a b
 beq-same true true = refl
@@ -119,6 +130,50 @@ module _ (c : Progress) (h : Incoming) where
             beq-same (h .head .start) (eqb (c .len) 0),
           )
 
+-- the first that holds: 34, 32, 33
+why-start : (f a e t : Bool) → isNone (overIf f true a e t) ≡ false → (e ≡ true → t ≡ true)
+    → why (overIf f true a e t) ≡ some (pick (not f) OtherInterface (pick (not a) WrongTransfer RepeatedStart))
+why-start false a e t n s = refl
+why-start true false e t n s = refl
+why-start true true false t n s = refl
+why-start true true true true n s = absurd (true≢false n)
+why-start true true true false n s = absurd (false≢true (s refl))
+
+-- 34, 30, 32, 31
+why-other : (f a e t : Bool) → isNone (overIf f false a e t) ≡ false
+    → why (overIf f false a e t) ≡ some (pick (not f) OtherInterface (pick e NoTransfer (pick (not a) WrongTransfer WrongToggle)))
+why-other false a e t n = refl
+why-other true a true t n = refl
+why-other true false false t n = refl
+why-other true true false false n = refl
+why-other true true false true n = absurd (true≢false n)
+
+module _ (c : Progress) (h : Incoming) (g : Passes c h) where
+  abbrev f : Bool
+  f = eqb (h .interface) (c .follows)
+
+  abbrev a : Bool
+  a = eqb (h .head .transfer) (c .expected)
+
+  abbrev e : Bool
+  e = eqb (c .len) 0
+
+  abbrev t : Bool
+  t = sameBool (h .head .toggle) (c .toggle)
+
+  passes : (b : Bool) → h .head .start ≡ b → over (bare c) (parsedOf h []) ≡ overIf f b a e t
+  passes b k = over-bare c h ∙ ap (λ (x : Bool). overIf f x a e t) k
+
+  pub reason-start : h .head .start ≡ true
+      → why (over (bare c) (parsedOf h [])) ≡ some (pick (not f) OtherInterface (pick (not a) WrongTransfer RepeatedStart))
+  reason-start k =
+      let q = passes true k in
+      ap why q ∙ why-start f a e t (sym (ap isNone q) ∙ g .over) (λ z. rw (g .start k, g .toggle (eqb-true (c .len) 0 z)))
+
+  pub reason-other : h .head .start ≡ false
+      → why (over (bare c) (parsedOf h [])) ≡ some (pick (not f) OtherInterface (pick e NoTransfer (pick (not a) WrongTransfer WrongToggle)))
+  reason-other k = let q = passes false k in ap why q ∙ why-other f a e t (sym (ap isNone q) ∙ g .over)
+
 -- ── of a session with its bytes, and a frame with its payload ──
 
 empty-bare : (g : List ℕ) → isEmpty {A = ℕ} (replicate (length g) 0) ≡ isEmpty g
@@ -155,18 +210,18 @@ module _ (s : rules.Session) (v : Parsed) where
   proceed-taken : isNone (over s v) ≡ true → proceed s v ≡ takes s v
   unfolding proceed proceedIf
   proceed-taken = go (over s v) where
-    go : (o : Option Reason) → isNone o ≡ true → proceedIf o s v ≡ takes s v
+    go : (o : Option answer.Reason) → isNone o ≡ true → proceedIf o s v ≡ takes s v
     go none x = refl
     go (some r) x = absurd (false≢true x)
 
-  -- passed over, for whatever reason
-  proceed-passed : isNone (over s v) ≡ false → (told (proceed s v .answer) ≡ Passed) × ((proceed s v .session ≡ s) × ((out : List ℕ) → outAfter (proceed s v .answer) out ≡ out))
+  proceed-passed : (r : Reason) → why (over s v) ≡ some r
+      → (told (proceed s v .answer) ≡ Passed r) × ((proceed s v .session ≡ s) × ((out : List ℕ) → outAfter (proceed s v .answer) out ≡ out))
   unfolding proceed proceedIf
-  proceed-passed = go (over s v) where
-    go : (o : Option Reason) → isNone o ≡ false
-        → (told (proceedIf o s v .answer) ≡ Passed) × ((proceedIf o s v .session ≡ s) × ((out : List ℕ) → outAfter (proceedIf o s v .answer) out ≡ out))
-    go none x = absurd (true≢false x)
-    go (some r) x = (refl, (refl, λ out. refl))
+  proceed-passed r = go (over s v) where
+    go : (o : Option answer.Reason) → why o ≡ some r
+        → (told (proceedIf o s v .answer) ≡ Passed r) × ((proceedIf o s v .session ≡ s) × ((out : List ℕ) → outAfter (proceedIf o s v .answer) out ≡ out))
+    go none x = let z : _≡_ {A = ℕ} 0 1 = cc in absurd (omega arith)
+    go (some y) x = (cc, (refl, λ out. refl))
 
 -- ── taken ──
 
@@ -272,8 +327,9 @@ module _ (s : rules.Session) (h : Incoming) (p : List ℕ) where
         not-start false x = x
         not-start true x = let z : length (s .gathered) ≡ 0 = awaited-start s h p a x in absurd (omega arith)
 
-    pub reacts-pass : isNone (over s v) ≡ false → (told (react s v .answer) ≡ Passed) × ((react s v .session ≡ s) × ((out : List ℕ) → outAfter (react s v .answer) out ≡ out))
-    reacts-pass a = rw on (proceed-passed s v a)
+    pub reacts-pass : (x : Reason) → why (over s v) ≡ some x
+        → (told (react s v .answer) ≡ Passed x) × ((react s v .session ≡ s) × ((out : List ℕ) → outAfter (react s v .answer) out ≡ out))
+    reacts-pass x a = rw on (proceed-passed s v x a)
 
 -- a start begins a new session
 pub begins : (h : Incoming) (p : List ℕ) → h .head .start ≡ true → h .head .toggle ≡ false → proceed (fresh (parsedOf h p)) (parsedOf h p) ≡ takes (fresh (parsedOf h p)) (parsedOf h p)

@@ -1,5 +1,6 @@
 // A session by value with its methods, and the tests and answers of one frame of its stream (RULES 4.3 to 4.8).
 use answers::Answer;
+use answers::Reason;
 use answers::Transfer;
 use frame::head::Head;
 use rules::limits::GATHERED;
@@ -8,6 +9,7 @@ use rules::limits::SWITCH_DELAY;
 ghost use mathlib.Core.Path.{_≡_};
 ghost use mathlib.Core.Bool.{true, false, _&&_};
 ghost use mathlib.Core.List.{[]};
+ghost use mathlib.Core.Option.{some};
 ghost use Prim.Native.Nat.{_+_, _-_, _≤_, _<_};
 ghost use lib.Dec.{ltb, eqb};
 ghost use lib.ListN.{length, take};
@@ -17,7 +19,7 @@ ghost use Rattle.rules.specs.Session as rules;
 ghost use Rattle.rules.specs.Session.{distance, next, sumOk};
 ghost use Rattle.rules.specs.Tests.{pick, isNone};
 ghost use Rattle.session.specs.inside.Session.{sessionOf, parsedOf, freshOf, added, bare};
-ghost use Rattle.session.specs.inside.Answer.{HandsOut, Closes};
+ghost use Rattle.session.specs.inside.Answer.{why, Passes, HandsOut, Closes};
 
 // A session by value.
 pub struct Session {
@@ -172,6 +174,34 @@ pub fn awaited(c: Progress, f: Incoming) -> bool
         }
     }
     false
+}
+
+// r if the test holds, else the first of those after it.
+fn first(holds: bool, r: Reason, after: Reason) -> Reason
+    ensures { λ x. ⌜ x ≡ pick holds r after ⌝ }
+{
+    if holds {
+        return r;
+    }
+    after
+}
+
+// Internal. Why a frame that is not awaited is passed over: the first that holds of 34, 32, 33 for a start, of 34, 30, 32, 31 for another frame. The
+// choices are made from the last to the first.
+pub fn reason(c: Progress, f: Incoming) -> Reason
+    requires { ⌜ Passes c f ⌝ }
+    ensures { λ r. ⌜ why (rules.over (bare c) (parsedOf f [])) ≡ some r ⌝ }
+{
+    let elsewhere = f.interface != c.follows;
+    let idle = c.len == 0;
+    let other = f.head.transfer != c.expected;
+    if f.head.start {
+        let heard = first(other, Reason::WrongTransfer, Reason::RepeatedStart);
+        return first(elsewhere, Reason::OtherInterface, heard);
+    }
+    let within = first(other, Reason::WrongTransfer, Reason::WrongToggle);
+    let heard = first(idle, Reason::NoTransfer, within);
+    first(elsewhere, Reason::OtherInterface, heard)
 }
 
 // The first two bytes, low byte first, are the transfer checksum of the others.

@@ -1,6 +1,6 @@
 -- What a state without a fault gives.
 use mathlib.Core.Path.{_≡_, sym, ap, _∙_}
-use mathlib.Core.Bool.{true, false, _&&_}
+use mathlib.Core.Bool.{true, false, not, _&&_, _||_}
 use mathlib.Core.List.{List}
 use Prim.Native.Nat.{ℕ, _/_, _≤_, _<_}
 use native.Mathlib.Omega.{arith}
@@ -11,7 +11,8 @@ use Rattle.rules.specs.Limits.{sessionsMax, gatheredMax, interfacesMax}
 use Rattle.rules.specs.Setup.{acceptable}
 use Rattle.rules.specs.Sound.{streamFits, sessionFits, placeFits, placesFit, apart, sound}
 use Rattle.rules.specs.Table.{held}
-use Rattle.state.specs.Layout.{size, setupOf, keyAt, countAt, expectedAt, flagsAt, sessionAt, placeAt, placesOf}
+use Rattle.rules.specs.Tests.{isEmpty}
+use Rattle.state.specs.Layout.{size, setupOf, keyAt, countAt, expectedAt, flagsAt, gatheredAt, sessionAt, placeAt, placesOf}
 use Rattle.frame.specs.Key.{streamOfKey}
 use Rattle.bits.specs.Tabulate.{every}
 use Rattle.state.specs.Sound.{rawFits, soundState}
@@ -59,12 +60,20 @@ module _ (m : List ℕ) (fine : soundState m ≡ true) where
     unfolding placeAt
     place-held = rw (ne-eqb (keyAt m i) 0 some)
 
+    fits : sessionFits (sessionAt m i) ≡ true
+    fits =
+        let p : placeFits (held (streamOfKey (keyAt m i)) (sessionAt m i)) ≡ true = ap placeFits (sym place-held) ∙ place-at i inTable in
+        and-right (streamFits (streamOfKey (keyAt m i))) (sessionFits (sessionAt m i)) p
+
     -- the expected transfer ID and the followed interface are in range
     named : (ltb (expectedAt m i) 32 && ltb (flagsAt m i / 2) interfacesMax) ≡ true
     unfolding sessionFits sessionAt
-    named =
-        let p : placeFits (held (streamOfKey (keyAt m i)) (sessionAt m i)) ≡ true = ap placeFits (sym place-held) ∙ place-at i inTable in
-        and-left _ _ (and-right (streamFits (streamOfKey (keyAt m i))) (sessionFits (sessionAt m i)) p)
+    named = and-left _ _ fits
+
+    -- toggle 1 goes with bytes in hand
+    pub toggle-fits : (not (sessionAt m i .toggle) || not (isEmpty (sessionAt m i .gathered))) ≡ true
+    unfolding sessionFits sessionAt
+    toggle-fits = and-right (leb (length (gatheredAt m i)) gatheredMax) _ (and-right (ltb (expectedAt m i) 32 && ltb (flagsAt m i / 2) interfacesMax) _ fits)
 
     pub expected-lt : expectedAt m i < 32
     expected-lt = ltb-true (expectedAt m i) 32 (and-left _ _ named)

@@ -1,18 +1,20 @@
 -- Every answer of a reception fits the result word, and C reads back what was put in.
 use mathlib.Core.Path.{_≡_, refl, sym, subst}
-use mathlib.Core.Bool.{Bool, true, false}
+use mathlib.Core.Bool.{Bool, true, false, _||_}
 use mathlib.Core.List.{List}
 use mathlib.Core.Logic.{inl, inr}
 use Prim.Native.Nat.{ℕ, _^_, _<_}
 use native.Mathlib.Omega.{arith}
+use lib.Dec.{eqb}
 use lib.ListN.{length}
 use Rattle.tecelume.specs.Word.{transferWord, wordOf, TransferFits, Fits, ReadBack, WordLaws}
-use Rattle.rules.proofs.Ranges.{ranges}
+use Rattle.rules.proofs.Ranges.{ranges, reason-range, number-law}
 use Rattle.rules.specs.Answer as rules
 use Rattle.rules.specs.Frame.{Arrival, Stream}
-use Rattle.rules.specs.Range.{HandedRange, Ranged}
+use Rattle.rules.specs.Range.{HandedRange, Ranged, answered}
 use Rattle.rules.specs.Reception.{step}
 use Rattle.receiver.specs.Receive.{arriving, receivedIf, received}
+use Rattle.answers.proofs.Reception.{told-number}
 use Rattle.answers.specs.Reception.{numberOf, noTransfer, transferIn, transferOf, told}
 use Rattle.answers.specs.declared.Answer.{Answer}
 use Rattle.answers.specs.declared.Answer.the-variants.{Faulty}
@@ -41,7 +43,7 @@ told-fits (rules.handed p d priority t) r = record { number = omega arith; trans
 told-fits (rules.refused n) (inl r) = small _ refl (omega arith)
 told-fits (rules.refused n) (inr r) = small _ refl (omega arith)
 told-fits rules.full r = small _ refl (omega arith)
-told-fits (rules.passed x) r = small _ refl (omega arith)
+told-fits (rules.passed x) r = small _ refl (omega (arith, told-number (rules.passed x), reason-range x))
 told-fits rules.long r = small _ refl (omega arith)
 told-fits rules.differs r = small _ refl (omega arith)
 
@@ -52,6 +54,17 @@ received-fits m f out = go (soundState m)
     go : (b : Bool) → Fits (receivedIf b m f out .answer)
     go false = small Faulty refl (omega arith)
     go true = told-fits (step (setupOf m) (placesOf m) (arriving f out) .answer) (ranges (setupOf m) (placesOf m) (arriving f out))
+
+received-numbers : (m : List ℕ) (f : Arrival) (out : List ℕ) → (answered (numberOf (received m f out .answer)) || eqb (numberOf (received m f out .answer)) 20) ≡ true
+unfolding received receivedIf
+received-numbers m f out = go (soundState m)
+  where
+    go : (b : Bool) → (answered (numberOf (receivedIf b m f out .answer)) || eqb (numberOf (receivedIf b m f out .answer)) 20) ≡ true
+    go false = refl
+    go true =
+        let u = setupOf m in
+        let ps = placesOf m in
+        rw (told-number (step u ps (arriving f out) .answer), number-law u ps (arriving f out))
 
 pub read-back : (a : Answer) → Fits a → ReadBack (wordOf a) a
 unfolding wordOf transferWord
@@ -70,4 +83,4 @@ read-back a h =
     }
 
 pub word-laws : WordLaws
-word-laws = record { fits = received-fits; back = read-back }
+word-laws = record { numbers = received-numbers; fits = received-fits; back = read-back }

@@ -1,8 +1,10 @@
 -- RULES 13.3: the result word of a reception. The number in bits 0 to 7; with 1 the payload's length in 8 to 17, the transfer type in 18 and 19,
 -- the type ID in 20 to 35, source in 36 to 42, destination in 43 to 49, priority in 50 to 54 and transfer ID in 55 to 59. All other bits are 0.
 use mathlib.Core.Path.{_≡_}
+use mathlib.Core.Bool.{true, _||_}
 use mathlib.Core.List.{List}
 use Prim.Native.Nat.{ℕ, _+_, _*_, _/_, _%_, _^_, _≤_, _<_}
+use lib.Dec.{eqb}
 use Rattle.rules.specs.Frame.{Arrival}
 use Rattle.receiver.specs.Receive.{received}
 use Rattle.answers.specs.Reception.{numberOf, transferIn}
@@ -11,6 +13,7 @@ use Rattle.answers.specs.declared.Sent.{Sent}
 use Rattle.answers.specs.declared.Transfer.{Transfer}
 use Rattle.answers.specs.Sending as sending
 use Rattle.rules.specs.Limits.{payloadMax}
+use Rattle.rules.specs.Range.{answered}
 
 unfoldable pub transferWord : Transfer → ℕ
 transferWord t =
@@ -54,6 +57,8 @@ pub record ReadBack (w : ℕ) (a : Answer) : Type 0 where
   pub transfer : w / 2 ^ 55 ≡ transferIn a .transfer
 
 pub record WordLaws : Type 0 where
+  -- RULES 4.10: the numbers that the rules give, and 20
+  pub numbers : (m : List ℕ) (f : Arrival) (out : List ℕ) → (answered (numberOf (received m f out .answer)) || eqb (numberOf (received m f out .answer)) 20) ≡ true
   pub fits : (m : List ℕ) (f : Arrival) (out : List ℕ) → Fits (received m f out .answer)
   pub back : (a : Answer) → Fits a → ReadBack (wordOf a) a
 

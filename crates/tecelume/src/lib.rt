@@ -110,7 +110,7 @@ pub extern "C" fn tecelume_signature(kind: u32, type_id: u32) -> u64
     types::signature(kind, type_id)
 }
 
-// What the result word of a reception holds: every value that is handed out fits its field and is read back from it.
+// What the result word of a reception holds: a number of RULES 4.10 or 20; and every value that is handed out fits its field and is read back from it.
 pub fn word_fields()
     ensures { λ _. ⌜ WordLaws ⌝ }
 {}

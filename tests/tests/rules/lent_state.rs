@@ -230,10 +230,10 @@ fn receive_writes_the_fields_that_change() {
     assert_eq!(changed, [control, control + 2]);
 
     let (word, changed) = changes(&mut bytes, id, &[9, 0x5F], 1, 0x1234);
-    assert_eq!((word, changed), (10, vec![]));
+    assert_eq!((word, changed), (34, vec![]));
 
     let (word, changed) = changes(&mut bytes, id, &[9, 0x41], 1, 3_000_000);
-    assert_eq!(word, 10);
+    assert_eq!(word, 30);
     assert_eq!(changed, [control + 2, control + 3]);
     assert_eq!(bytes[control + 3], 2);
 }

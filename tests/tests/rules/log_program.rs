@@ -24,7 +24,7 @@ fn listing_of_01() {
                  2.500 1001562A C1\n";
     let expected = "time kind type from to prio id len payload\n\
                     1.000 M 341 42 0 16 0 7 01000000000000\n\
-                    1.001 - 10\n\
+                    1.001 - 32\n\
                     2.000 - 5\n\
                     2.500 - 7\n\
                     end 4 1\n";
@@ -97,7 +97,7 @@ fn two_seconds_in_a_log() {
     let start = "1.000 1001552A 01 02 03 04 05 06 07 80\n";
     let next = |time: &str| format!("{start}{time} 1001552A 01 02 03 04 05 06 07 20\n");
     assert_eq!(output(next("3.000").as_bytes()).0[1], "3.000 + 0");
-    assert_eq!(output(next("3.001").as_bytes()).0[1], "3.001 - 10");
+    assert_eq!(output(next("3.001").as_bytes()).0[1], "3.001 - 30");
 }
 
 /// A log has one cable: only there does the switch delay show (RULES 4.5).
@@ -105,7 +105,7 @@ fn two_seconds_in_a_log() {
 fn repeated_start_in_a_log() {
     let start = "1.000 1001552A 01 02 03 04 05 06 07 80\n";
     let again = |time: &str| format!("{start}{time} 1001552A 01 02 03 04 05 06 07 80\n");
-    assert_eq!(output(again("2.000").as_bytes()).0[1], "2.000 - 10");
+    assert_eq!(output(again("2.000").as_bytes()).0[1], "2.000 - 33");
     assert_eq!(output(again("2.001").as_bytes()).0[1], "2.001 + 0");
 }
 

@@ -249,7 +249,7 @@ fn anonymous_frames_need_no_session() {
 #[test]
 fn no_session_is_made_without_a_start() {
     let mut receiver = receiver();
-    assert_eq!(number(&mut receiver, &[1, 0x40], 0), 10);
+    assert_eq!(number(&mut receiver, &[1, 0x40], 0), 30);
     assert!(receiver.places.iter().all(Option::is_none));
 }
 
@@ -262,30 +262,66 @@ fn repeats_are_passed_over() {
     for data in frames.iter().flat_map(|data| [data, data]) {
         answers.push(number(&mut receiver, data, 100));
     }
-    assert_eq!(answers, [0, 10, 0, 10, 0, 10, 1, 10]);
+    assert_eq!(answers, [0, 33, 0, 31, 0, 31, 1, 30]);
     assert_eq!(session(&receiver, 0), (5, 0, false, 100));
 }
 
+/// On a session that expects transfer 4 by interface 0, with seven bytes in hand and toggle 1, and with
+/// nothing in hand. To most of these frames several reasons apply; the first answers.
 #[test]
-fn passed_over_frames_change_nothing() {
-    let mut receiver = receiver();
-    let frames = split(&[7; 20], SIGNATURE, 4);
-    assert_eq!(number(&mut receiver, &frames[0], 100), 0);
-    let before = receiver.clone();
-    let tails = [0x04, 0x23, 0x25, 0x03, 0x84, 0x83];
-    for tail in tails {
+fn passed_over_for_the_first_reason_and_nothing_changes() {
+    let in_hand = begun();
+    let mut idle = receiver();
+    assert_eq!(number(&mut idle, &[0xC3], 1000), 1);
+    let cases = [
+        (&in_hand, 1, 0x83, 34),
+        (&in_hand, 1, 0x84, 34),
+        (&in_hand, 2, 0x24, 34),
+        (&in_hand, 2, 0x03, 34),
+        (&in_hand, 0, 0x83, 32),
+        (&in_hand, 0, 0x84, 33),
+        (&in_hand, 0, 0x03, 32),
+        (&in_hand, 0, 0x23, 32),
+        (&in_hand, 0, 0x25, 32),
+        (&in_hand, 0, 0x04, 31),
+        (&idle, 1, 0x83, 34),
+        (&idle, 1, 0x84, 34),
+        (&idle, 2, 0x04, 34),
+        (&idle, 2, 0x23, 34),
+        (&idle, 0, 0x83, 32),
+        (&idle, 0, 0x04, 30),
+        (&idle, 0, 0x24, 30),
+        (&idle, 0, 0x05, 30),
+        (&idle, 0, 0x23, 30),
+    ];
+    for (before, interface, tail, reason) in cases {
+        let mut receiver = before.clone();
         let data = [1, 2, 3, 4, 5, 6, 7, tail];
-        assert_eq!(number(&mut receiver, &data, 200), 10, "{tail:02X}");
-        assert_eq!(receiver, before, "{tail:02X}");
+        let number = number_by(&mut receiver, interface, &data, 1500);
+        assert_eq!(number, reason, "{tail:02X} by {interface}");
+        assert_eq!(&receiver, before, "{tail:02X} by {interface}");
     }
-    assert_eq!(number(&mut receiver, &frames[1], 300), 0);
+}
+
+/// Whatever toggle is in hand, and single frames too.
+#[test]
+fn every_start_of_the_transfer_in_hand_is_a_repeat() {
+    let mut receiver = begun();
+    for next in split(&[7; 30], SIGNATURE, 4)[1..4].iter() {
+        assert_eq!(
+            number(&mut receiver, &[1, 2, 3, 4, 5, 6, 7, 0x84], 1500),
+            33
+        );
+        assert_eq!(number(&mut receiver, &[1, 0xC4], 1500), 33);
+        assert_eq!(number(&mut receiver, next, 1500), 0);
+    }
 }
 
 #[test]
 fn no_start_with_nothing_in_hand_is_passed_over() {
     let mut receiver = receiver();
     assert_eq!(number(&mut receiver, &[0xC4], 0), 1);
-    assert_eq!(number(&mut receiver, &[1, 0x45], 0), 10);
+    assert_eq!(number(&mut receiver, &[1, 0x45], 0), 30);
     assert_eq!(session(&receiver, 0), (5, 0, false, 0));
 }
 
@@ -296,7 +332,8 @@ fn start_restarts_above_distance_one() {
         assert_eq!(number(&mut receiver, &split(&[7; 20], 0, 4)[0], 100), 0);
         let data = &split(&[8; 20], 0, transfer_id)[0];
         let expected = match transfer_id {
-            3 | 4 => 10,
+            3 => 32,
+            4 => 33,
             _ => 0,
         };
         assert_eq!(number(&mut receiver, data, 200), expected, "{transfer_id}");
@@ -311,7 +348,7 @@ fn start_restarts_above_distance_one() {
 #[test]
 fn age_is_measured_from_the_start_and_two_seconds_are_not_old() {
     let frames = split(&[7; 30], SIGNATURE, 4);
-    for (late, expected) in [(TIMEOUT, 0), (TIMEOUT + 1, 10)] {
+    for (late, expected) in [(TIMEOUT, 0), (TIMEOUT + 1, 30)] {
         let mut receiver = receiver();
         assert_eq!(number(&mut receiver, &frames[0], 1000), 0);
         assert_eq!(number(&mut receiver, &frames[1], 1_500_000), 0);
@@ -329,9 +366,9 @@ fn old_session_stays_old_until_a_start_is_taken() {
     let mut receiver = receiver();
     assert_eq!(number(&mut receiver, &[0xC4], 0), 1);
     let late = TIMEOUT + 1;
-    assert_eq!(number(&mut receiver, &[1, 0x5F], late), 10);
+    assert_eq!(number(&mut receiver, &[1, 0x5F], late), 30);
     assert_eq!(session(&receiver, 0), (0, 0, false, 0));
-    assert_eq!(number(&mut receiver, &[1, 0x42], late), 10);
+    assert_eq!(number(&mut receiver, &[1, 0x42], late), 30);
     assert_eq!(session(&receiver, 0), (3, 0, false, 0));
     assert_eq!(number(&mut receiver, &[0xC2], late), 1);
     assert_eq!(session(&receiver, 0), (3, 0, false, late));
@@ -362,7 +399,7 @@ fn copies_by_another_interface_are_passed_over() {
             answers.push(number_by(&mut receiver, interface, data, 50));
         }
     }
-    assert_eq!(answers, [0, 10, 10, 0, 10, 10, 0, 10, 10, 1, 10, 10]);
+    assert_eq!(answers, [0, 34, 34, 0, 34, 34, 0, 34, 34, 1, 34, 34]);
     assert_eq!(
         (session(&receiver, 0), follows(&receiver, 0)),
         ((5, 0, false, 50), 1)
@@ -382,7 +419,7 @@ fn start_by_another_interface_switches_after_the_delay_if_not_far_ahead() {
                 let after = (transfer_id, 7, true, 1000 + age);
                 assert_eq!((session(&receiver, 0), follows(&receiver, 0)), (after, 2));
             } else {
-                assert_eq!(number, 10, "{transfer_id} at {age}");
+                assert_eq!(number, 34, "{transfer_id} at {age}");
                 assert_eq!(receiver, before, "{transfer_id} at {age}");
             }
         }
@@ -395,7 +432,7 @@ fn other_frames_by_another_interface_are_passed_over_until_it_is_old() {
     for age in [0, SWITCH_DELAY, SWITCH_DELAY + 1, TIMEOUT] {
         let mut receiver = begun();
         let before = receiver.clone();
-        assert_eq!(number_by(&mut receiver, 1, next, 1000 + age), 10);
+        assert_eq!(number_by(&mut receiver, 1, next, 1000 + age), 34);
         assert_eq!(receiver, before);
         assert_eq!(number(&mut receiver, next, 1000 + age), 0);
     }
@@ -406,7 +443,7 @@ fn old_session_follows_the_next_frame() {
     let late = 1001 + TIMEOUT;
     let mut receiver = begun();
     let frames = split(&[7; 30], SIGNATURE, 30);
-    assert_eq!(number_by(&mut receiver, 2, &frames[1], late), 10);
+    assert_eq!(number_by(&mut receiver, 2, &frames[1], late), 30);
     assert_eq!(
         (session(&receiver, 0), follows(&receiver, 0)),
         ((31, 0, false, 1000), 2)
@@ -421,7 +458,7 @@ fn old_session_follows_the_next_frame() {
 #[test]
 fn repeated_start_on_one_cable_begins_anew_after_the_delay() {
     let frames = split(&[7; 30], SIGNATURE, 4);
-    for (age, expected) in [(SWITCH_DELAY, 10), (SWITCH_DELAY + 1, 0)] {
+    for (age, expected) in [(SWITCH_DELAY, 33), (SWITCH_DELAY + 1, 0)] {
         let mut receiver = begun();
         assert_eq!(number(&mut receiver, &frames[1], 2000), 0);
         assert_eq!(number(&mut receiver, &frames[0], 1000 + age), expected);
@@ -446,7 +483,7 @@ fn start_before_the_expected_one_never_restarts_within_two_seconds() {
             let before = receiver.clone();
             let data = &split(&[8; 20], SIGNATURE, 3)[0];
             let number = number_by(&mut receiver, interface, data, 1000 + age);
-            assert_eq!(number, 10);
+            assert_eq!(number, if interface == 0 { 32 } else { 34 });
             assert_eq!(receiver, before);
         }
     }
@@ -456,7 +493,7 @@ fn start_before_the_expected_one_never_restarts_within_two_seconds() {
 fn earlier_time_is_age_zero_and_is_kept() {
     let mut receiver = receiver();
     assert_eq!(number(&mut receiver, &[0xC4], 9_000_000), 1);
-    assert_eq!(number(&mut receiver, &[0xC4], 0), 10);
+    assert_eq!(number(&mut receiver, &[0xC4], 0), 32);
     assert_eq!(number(&mut receiver, &[0xC5], 1), 1);
     assert_eq!(session(&receiver, 0), (6, 0, false, 1));
 }
@@ -537,7 +574,7 @@ fn longer_ones_answer_11_once() {
         assert_eq!(handed_out, None);
         assert_eq!(numbers[..73], [0; 73], "{length}");
         assert_eq!(numbers[73], 11, "{length}");
-        assert!(numbers[74..].iter().all(|&number| number == 10));
+        assert!(numbers[74..].iter().all(|&number| number == 30));
     }
 }
 
@@ -577,6 +614,6 @@ fn request_and_response_are_streams_apart() {
     let mut receiver = receiver();
     assert_eq!(receive(&mut receiver, 0x0007_8589, &[0xC0], 0).number(), 1);
     assert_eq!(receive(&mut receiver, 0x0007_0589, &[0xC0], 0).number(), 1);
-    assert_eq!(receive(&mut receiver, 0x0007_0589, &[0xC0], 0).number(), 10);
+    assert_eq!(receive(&mut receiver, 0x0007_0589, &[0xC0], 0).number(), 32);
     assert_eq!(receiver.places.iter().flatten().count(), 2);
 }

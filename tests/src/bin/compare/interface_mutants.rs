@@ -2,10 +2,10 @@
 //! 19, and of the interface in a lent state.
 
 use crate::entry_points::{receive, Arrival, Receive};
-use crate::mutants::{edit_session, receive_changed, tail};
+use crate::mutants::{edit_session, receive_changed, tail, PASSED_OVER};
 use reference::frame::{forward_distance, Stream};
-use reference::receive::{INTERFACES, PLACES};
-use reference::session::{Piece, Restart, Session, FAR_AHEAD, SWITCH_DELAY};
+use reference::receive::{Answer, INTERFACES, PLACES};
+use reference::session::{Piece, Reason, Restart, Session, FAR_AHEAD, SWITCH_DELAY};
 use reference::state;
 
 pub const ALL: [(&str, Receive); 10] = [
@@ -21,8 +21,8 @@ pub const ALL: [(&str, Receive); 10] = [
     ("state-follows-interface-3", state_follows_interface_3),
 ];
 
-/// The session that the frame meets, and the frame as far as the restart rule reads it.
-fn met(call: &Arrival) -> Option<(Session, Piece<'static>)> {
+/// The session that the frame meets, and the frame as far as restarting and passing over read it.
+pub fn met(call: &Arrival) -> Option<(Session, Piece<'static>)> {
     let receiver = state::read(call.state.content())?;
     let place = receiver.place_of(&Stream::of_id(call.id))?;
     let interface = u8::try_from(call.interface).ok()?;
@@ -47,8 +47,9 @@ fn restarted(call: &mut Arrival, piece: &Piece) -> u64 {
     })
 }
 
-/// Receives a frame as one that is passed over, unless it is refused.
-fn passed_over(call: &mut Arrival) -> u64 {
+/// Receives a start at which the session should restart as one that is passed over, unless it is
+/// refused.
+fn not_restarted(call: &mut Arrival, reason: Reason) -> u64 {
     let (state, out) = (call.state.content().to_vec(), call.out.content().to_vec());
     let word = receive(call);
     if word & 255 > 1 {
@@ -56,7 +57,7 @@ fn passed_over(call: &mut Arrival) -> u64 {
     }
     call.state.content_mut().copy_from_slice(&state);
     call.out.content_mut().copy_from_slice(&out);
-    10
+    Answer::PassedOver(reason).number().into()
 }
 
 /// Receives by a variant of the rule that a start after the delay restarts the session.
@@ -64,10 +65,10 @@ fn by_delay_rule(call: &mut Arrival, rule: fn(&Session, &Piece) -> bool) -> u64 
     let Some((session, piece)) = met(call) else {
         return receive(call);
     };
-    let taken_as_it_is = session.follows == piece.interface && session.gathered.is_empty();
-    match (session.restart(&piece), rule(&session, &piece)) {
-        (Some(Restart::AfterDelay), false) if !taken_as_it_is => passed_over(call),
-        (None, true) if piece.tail.start => restarted(call, &piece),
+    let (reason, begins) = (session.passed_over(&piece), rule(&session, &piece));
+    match (session.restart(&piece), reason, begins) {
+        (Some(Restart::AfterDelay), Some(reason), false) => not_restarted(call, reason),
+        (None, _, true) if piece.tail.start => restarted(call, &piece),
         _ => receive(call),
     }
 }
@@ -113,7 +114,7 @@ fn restart_keeps_interface(call: &mut Arrival) -> u64 {
 
 fn passed_over_switches(call: &mut Arrival) -> u64 {
     let word = receive(call);
-    if let (10, Some((_, piece))) = (word, met(call)) {
+    if let (true, Some((_, piece))) = (PASSED_OVER.contains(&word), met(call)) {
         edit_session(call, |session| session.follows = piece.interface);
     }
     word

@@ -16,6 +16,7 @@ mod options;
 mod outgoing;
 mod payloads;
 mod random;
+mod reason_mutants;
 mod receptions;
 mod requests;
 mod sends;

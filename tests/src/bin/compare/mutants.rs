@@ -5,7 +5,7 @@ use crate::entry_points::{
     frames_in, receive, send, Arrival, Departure, EntryPoints, Receive, Reception, Send, Sending,
     Serialization, REFERENCE,
 };
-use crate::interface_mutants;
+use crate::{interface_mutants, reason_mutants};
 use reference::bits::Refusal;
 use reference::codec::Decode;
 use reference::frame::{Stream, Tail};
@@ -14,6 +14,10 @@ use reference::messages::{self, Message, MessageType};
 use reference::receive::{Receiver, INTERFACES};
 use reference::session::{Session, MOST_GATHERED};
 use reference::state;
+use std::ops::RangeInclusive;
+
+/// The words that say why a frame is passed over.
+pub const PASSED_OVER: RangeInclusive<u64> = 30..=34;
 
 /// The part of the comparison that has to catch a mutant.
 #[derive(Clone, Copy, PartialEq, Eq)]
@@ -32,6 +36,7 @@ pub struct Mutant {
 
 pub fn all() -> Vec<Mutant> {
     let interfaces = interface_mutants::ALL.map(|(name, receive)| receiving(name, receive));
+    let reasons = reason_mutants::ALL.map(|(name, receive)| receiving(name, receive));
     let others = [
         receiving("repeated-start-is-new", repeated_start_is_new),
         receiving("passed-over-turns-toggle", passed_over_turns_toggle),
@@ -65,7 +70,11 @@ pub fn all() -> Vec<Mutant> {
         reading("codec-sign-bit-lost", Part::Requests, sign_bit_lost),
         reading("unused-place-not-zero", Part::Payloads, unused_place),
     ];
-    others.into_iter().chain(interfaces).collect()
+    others
+        .into_iter()
+        .chain(interfaces)
+        .chain(reasons)
+        .collect()
 }
 
 fn receiving(name: &'static str, receive: Receive) -> Mutant {
@@ -173,7 +182,7 @@ fn repeated_start_is_new(call: &mut Arrival) -> u64 {
 
 fn passed_over_turns_toggle(call: &mut Arrival) -> u64 {
     let word = receive(call);
-    if word == 10 {
+    if PASSED_OVER.contains(&word) {
         edit_session(call, |session| session.toggle = !session.toggle);
     }
     word

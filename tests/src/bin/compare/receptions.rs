@@ -15,7 +15,9 @@ use reference::receive::{Frame, Receiver};
 use reference::session::MOST_GATHERED;
 use reference::state::{self, GATHERED, SIZE};
 
-const NUMBERS: [u32; 15] = [0, 1, 2, 3, 4, 5, 6, 7, 8, 9, 10, 11, 12, 19, 20];
+const NUMBERS: [u32; 19] = [
+    0, 1, 2, 3, 4, 5, 6, 7, 8, 9, 11, 12, 19, 20, 30, 31, 32, 33, 34,
+];
 const STILL_VALID: &str = "bytes altered, no fault";
 const ALTERED: &str = "20: bytes altered";
 const AS_NULL: &str = "20: NULL";

@@ -3,9 +3,9 @@
 use crate::traffic::Call;
 use reference::frame::{forward_distance, Stream, Tail, ID_END, TRANSFER_IDS};
 use reference::receive::{Answer, Receiver, LONGEST_PAYLOAD};
-use reference::session::{Piece, Restart, Session, FAR_AHEAD, SWITCH_DELAY, TIMEOUT};
+use reference::session::{Piece, Reason, Restart, Session, FAR_AHEAD, SWITCH_DELAY, TIMEOUT};
 
-pub const CASES: [&str; 57] = [
+pub const CASES: [&str; 70] = [
     "0: new session in an empty place",
     "0: new session in an old one's place",
     "0: old session restarted by a start",
@@ -34,19 +34,32 @@ pub const CASES: [&str; 57] = [
     "8: 511 lent",
     "9: oldest session of age 2,000,000",
     "9: all sessions younger",
-    "10: no session, no start",
-    "10: old session, no start",
-    "10: another interface",
-    "10: toggle differs",
-    "10: transfer ID differs",
-    "10: start with bytes in hand",
-    "10: no start with nothing in hand",
     "11: at an end",
     "11: before an end",
     "12: checksum differs",
     "19: interface 3",
     "19: interface over 3",
     "19: service with source or destination 0",
+    "30: no session",
+    "30: old session",
+    "30: old session, another interface",
+    "30: nothing in hand, expected ID",
+    "30: nothing in hand, another ID",
+    "31: not an end",
+    "31: an end",
+    "32: start, nothing in hand",
+    "32: start, bytes in hand",
+    "32: no start, right toggle",
+    "32: no start, wrong toggle",
+    "33: toggle 0 in hand",
+    "33: toggle 1 in hand",
+    "33: single frame",
+    "34: start, expected ID, nothing in hand",
+    "34: start, expected ID, bytes in hand",
+    "34: start, another ID",
+    "34: no start, all else fits",
+    "34: no start, nothing in hand",
+    "34: no start, another ID or toggle",
     "restart: old",
     "restart: out of order by the followed interface",
     "restart: after the delay, by the followed interface",
@@ -122,11 +135,11 @@ impl Found {
                 cases.push("1: transfer ID 31, 0 expected next");
             }
         }
-        if let (true, Some(seen)) = (matches!(answer.number(), 0 | 1 | 10..=12), &self.session) {
+        if let (true, Some(seen)) = (past_the_checks(answer), &self.session) {
             cases.push(self.restart_case(seen));
             cases.extend(self.switch_cases(seen));
         }
-        if matches!(answer.number(), 0 | 1 | 10..=12) {
+        if past_the_checks(answer) {
             cases.push(self.age_case(answer));
         }
         let service = self.stream.transfer_type.is_service();
@@ -151,7 +164,7 @@ impl Found {
             Answer::OutputTooSmall if self.room == 511 => "8: 511 lent",
             Answer::TableFull if self.oldest == TIMEOUT => "9: oldest session of age 2,000,000",
             Answer::TableFull => "9: all sessions younger",
-            Answer::PassedOver => self.passed_over(),
+            Answer::PassedOver(reason) => self.passed_over(*reason),
             Answer::PayloadTooLong if self.tail.end => "11: at an end",
             Answer::PayloadTooLong => "11: before an end",
             Answer::ChecksumDiffers => "12: checksum differs",
@@ -200,15 +213,40 @@ impl Found {
         }
     }
 
-    fn passed_over(&self) -> &'static str {
-        match &self.session {
-            None => "10: no session, no start",
-            Some(seen) if seen.is_old() => "10: old session, no start",
-            Some(seen) if seen.follows != self.interface => "10: another interface",
-            Some(seen) if seen.toggle != self.tail.toggle => "10: toggle differs",
-            Some(seen) if seen.expected_id != self.tail.transfer_id => "10: transfer ID differs",
-            Some(_) if self.tail.start => "10: start with bytes in hand",
-            Some(_) => "10: no start with nothing in hand",
+    /// Which of a reason's cases, those apart in which a later reason applies as well.
+    fn passed_over(&self, reason: Reason) -> &'static str {
+        let Some(seen) = &self.session else {
+            return "30: no session";
+        };
+        let (start, in_hand) = (self.tail.start, seen.in_hand > 0);
+        let id_fits = seen.expected_id == self.tail.transfer_id;
+        let toggle_fits = seen.toggle == self.tail.toggle;
+        match reason {
+            Reason::NoTransfer => self.without_transfer(seen, id_fits),
+            Reason::WrongToggle if self.tail.end => "31: an end",
+            Reason::WrongToggle => "31: not an end",
+            Reason::WrongTransfer if start && in_hand => "32: start, bytes in hand",
+            Reason::WrongTransfer if start => "32: start, nothing in hand",
+            Reason::WrongTransfer if toggle_fits => "32: no start, right toggle",
+            Reason::WrongTransfer => "32: no start, wrong toggle",
+            Reason::RepeatedStart if self.tail.end => "33: single frame",
+            Reason::RepeatedStart if seen.toggle => "33: toggle 1 in hand",
+            Reason::RepeatedStart => "33: toggle 0 in hand",
+            Reason::OtherInterface if start && !id_fits => "34: start, another ID",
+            Reason::OtherInterface if start && in_hand => "34: start, expected ID, bytes in hand",
+            Reason::OtherInterface if start => "34: start, expected ID, nothing in hand",
+            Reason::OtherInterface if !in_hand => "34: no start, nothing in hand",
+            Reason::OtherInterface if id_fits && toggle_fits => "34: no start, all else fits",
+            Reason::OtherInterface => "34: no start, another ID or toggle",
+        }
+    }
+
+    fn without_transfer(&self, seen: &Seen, id_fits: bool) -> &'static str {
+        match (seen.is_old(), id_fits) {
+            (true, _) if seen.follows != self.interface => "30: old session, another interface",
+            (true, _) => "30: old session",
+            (false, true) => "30: nothing in hand, expected ID",
+            (false, false) => "30: nothing in hand, another ID",
         }
     }
 
@@ -266,6 +304,11 @@ impl Found {
             _ => "",
         }
     }
+}
+
+/// Whether the frame came to the session rules.
+fn past_the_checks(answer: &Answer) -> bool {
+    matches!(answer.number(), 0 | 1 | 11 | 12 | 30..=34)
 }
 
 fn oldest_age(receiver: &Receiver, time: u64) -> u64 {

@@ -6,6 +6,7 @@ use reference::state::{
     CONTROLS, COUNT, GATHERED, OWN, SIGNATURES, SIZE, STREAM_KEYS, SUBSCRIPTION_KEYS, TIMES,
 };
 use std::collections::BTreeMap;
+use std::ops::RangeInclusive;
 
 /// What was seen of one call. Numbers and cases that can occur begin at zero, so that one never
 /// seen shows.
@@ -15,6 +16,10 @@ pub struct Tally {
     numbers: BTreeMap<u32, u64>,
     cases: BTreeMap<&'static str, u64>,
 }
+
+/// Why a frame is passed over: these numbers must be seen `OFTEN` times as often as all else.
+const REASONS: RangeInclusive<u32> = 30..=34;
+const OFTEN: u64 = 10;
 
 impl Tally {
     pub fn new(call: &'static str, numbers: &[u32], cases: &[&'static str]) -> Tally {
@@ -60,20 +65,20 @@ impl Tally {
         }
     }
 
-    /// What was seen fewer than `minimum` times.
+    /// What was seen fewer than `minimum` times, or than its own minimum.
     pub fn short_of(&self, minimum: u64) -> Vec<String> {
-        let numbers = self
-            .numbers
-            .iter()
-            .map(|(number, count)| (number.to_string(), count));
+        let numbers = self.numbers.iter().map(|(number, count)| {
+            let often = if REASONS.contains(number) { OFTEN } else { 1 };
+            (number.to_string(), count, often * minimum)
+        });
         let cases = self
             .cases
             .iter()
-            .map(|(case, count)| (case.to_string(), count));
+            .map(|(case, count)| (case.to_string(), count, minimum));
         numbers
             .chain(cases)
-            .filter(|(_, count)| **count < minimum)
-            .map(|(what, count)| format!("{} {what}: {count} times", self.call))
+            .filter(|(_, count, wanted)| *count < wanted)
+            .map(|(what, count, _)| format!("{} {what}: {count} times", self.call))
             .collect()
     }
 }

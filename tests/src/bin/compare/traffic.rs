@@ -301,6 +301,9 @@ fn aimed_count(random: &mut Random, tail: Tail, session: &Session) -> usize {
 }
 
 fn aimed_tail(random: &mut Random, session: &Session) -> Tail {
+    if random.once_in(16) {
+        return repeated_start(random, session);
+    }
     let fitting = !random.once_in(4);
     Tail {
         start: if fitting {
@@ -320,6 +323,17 @@ fn aimed_tail(random: &mut Random, session: &Session) -> Tail {
             3..=5 => (session.expected_id + FAR_AHEAD - 1 + random.below(3) as u8) % 32,
             _ => session.expected_id,
         },
+    }
+}
+
+/// A start of the expected transfer, in hand or not, or of the one before.
+fn repeated_start(random: &mut Random, session: &Session) -> Tail {
+    let behind = u8::from(random.once_in(4));
+    Tail {
+        start: true,
+        end: random.coin(),
+        toggle: false,
+        transfer_id: (session.expected_id + 32 - behind) % 32,
     }
 }
 

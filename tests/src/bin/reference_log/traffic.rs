@@ -32,6 +32,7 @@ pub fn log(random: &mut Random, lines: u64) -> Vec<u8> {
         }
         let (id, data) = match random.below(16) {
             0 => wild(random),
+            1 if talker.next > 0 && random.once_in(8) => talker.start_again(random),
             _ => talker.speak(random, trouble),
         };
         let line = text(clock, id, &data);
@@ -172,13 +173,22 @@ impl Talker {
             }
             _ => self.next += 1,
         }
-        let mut id = self
-            .stream
-            .id(random.below(32) as u8, random.below(16384) as u16);
+        (self.id(random), data)
+    }
+
+    /// The start of the transfer once more, before what comes next.
+    fn start_again(&self, random: &mut Random) -> (u32, Vec<u8>) {
+        (self.id(random), self.frames[0].clone())
+    }
+
+    fn id(&self, random: &mut Random) -> u32 {
+        let (priority, discriminator) = (random.below(32) as u8, random.below(16384) as u16);
+        let id = self.stream.id(priority, discriminator);
         if self.anonymous {
-            id &= !0x7F;
+            id & !0x7F
+        } else {
+            id
         }
-        (id, data)
     }
 
     /// The next transfer, and at times another stream.

@@ -8,7 +8,6 @@ use Rattle.rules.specs.Session.{Session, Out, takes}
 use Rattle.receiver.specs.inside.Place.{entered}
 use Rattle.answers.specs.Reception.{told, outAfter}
 use Rattle.session.specs.inside.Session.{sessionOf, streamOf, parsedOf, added, InRange}
-use Rattle.session.specs.declared.Session as coded
 use Rattle.session.proofs.Rules.{shut-range, takes-on, takes-last}
 use Rattle.frame.specs.Key.{streamOfKey}
 use Rattle.state.proofs.Faultless.{long}

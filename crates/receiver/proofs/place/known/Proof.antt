@@ -17,8 +17,8 @@ use Rattle.state.specs.Layout.{keyAt, sessionAt, placesOf}
 use Rattle.frame.specs.Key.{streamOfKey}
 use Rattle.state.specs.Place.{withPlace}
 use Rattle.state.specs.Sound.{soundState}
-use Rattle.state.proofs.Faultless.{long, count-le, expected-lt, follows-lt}
-use Rattle.receiver.proofs.Enter.{held-key, held-few, restarts-at, awaited-at}
+use Rattle.state.proofs.Faultless.{long, count-le, expected-lt, follows-lt, toggle-fits}
+use Rattle.receiver.proofs.Enter.{held-key, held-few, restarts-at, awaited-at, reason-at, toggle-at}
 use Rattle.receiver.proofs.Lent.{head-key, stored, kept}
 use borrow.Author.Needs.{needs}
 use Rattle.receiver.proofs.place.known.Statement.{statement}
@@ -265,12 +265,27 @@ returns-4 c =
     let i = awaited-at t p (g .progress .ensures) (a .f) (a .p .now) (w .awaited .result) (w .awaited .ensures) true (k .before .before .if3 .taken) in
     n .enter2 .ensures ∙ ap (λ (x : Out). lent m (a .out .now) (store (placesOf m) (a .i) (streamOf (a .f)) x)) (sym (reacts-take t (a .f) (a .p .now) y i))
 
+reason-requires : tie.Need-reason-requires
+reason-requires c κs =
+    let w = c .before in
+    let g = w .before .before .before in
+    let s = g .before .before .before .before .before in
+    let a = s .args in
+    let m = a .state .now in
+    let q = s .pre .0 in
+    let z = held-key (a .f) m (a .i) (a .k) (q .named) (s .pre .1 .1 .0) (s .pre .1 .1 .1) in
+    record {
+      over = sym (w .awaited .ensures) ∙ c .if3 .left;
+      start = q .start;
+      toggle = toggle-at (sessionAt m (a .i)) (g .progress .result) (g .progress .ensures) (toggle-fits m (q .sound) (a .i) (s .pre .1 .0) z);
+    }
+
 same-length-7 : tie.Need-same-length-7
 same-length-7 c = search needs
 
 returns-5 : tie.Need-returns-5
 returns-5 c =
-    let w = c .before in
+    let w = c .before .before in
     let r = w .before .before in
     let g = r .before in
     let b = g .before .before .before .before in
@@ -282,9 +297,8 @@ returns-5 c =
     let t = sessionAt m (a .i) in
     let p = g .progress .result in
     let y = restarts-at t p (g .progress .ensures) (a .f) (a .p .now) (r .restarts .result) (r .restarts .ensures) false (w .before .if1 .left) in
-    let i = awaited-at t p (g .progress .ensures) (a .f) (a .p .now) (w .awaited .result) (w .awaited .ensures) false (c .if3 .left) in
     let o = react t (parsedOf (a .f) (a .p .now)) in
-    let x = reacts-pass t (a .f) (a .p .now) y i in
+    let x = reacts-pass t (a .f) (a .p .now) y (c .reason .result) (reason-at t p (g .progress .ensures) (a .f) (a .p .now) (c .reason .result) (c .reason .ensures)) in
     let e = ap streamOfKey (s .pre .1 .1 .1 ∙ s .pre .1 .1 .0) ∙ head-key (streamOf (a .f)) (q .transferType) (q .type) (q .source) (q .destination) in
     kept m (q .sound) (octets-all m (λ i. omega (arith, b .slice-known .given i))) (a .i) (s .pre .1 .0) (a .out .now) (streamOf (a .f)) o (rw (x .1 .0) (held-few m (q .sound) (a .i) (s .pre .1 .0) z)) z e (x .1 .0) _ _
     (sym (x .0)) (sym (x .1 .1 (a .out .now)))
@@ -313,5 +327,6 @@ known-spec =
     same-length-5
     same-length-6
     returns-4
+    reason-requires
     same-length-7
     returns-5)
