@@ -3,9 +3,9 @@
  * The functions are in libtecelume.a, which is for x86-64 Linux only, and in tecelume.c, the same library as one file of portable C. This
  * header goes with both. At the start of your program compare tecelume_version() with TECELUME_VERSION.
  *
- * A receiver is a block of bytes that the caller lends to every call, and so is the map in which a sender counts its transfers. The library
- * allocates nothing, has no globals and keeps no pointer after a call. Every call accepts every input and ends; what it cannot take it
- * answers by a number.
+ * A receiver is a block of bytes that the caller lends to every call, and so are the map in which a sender counts its transfers and the
+ * state of an allocator, which hands out node IDs. The library takes no memory from the system, has no globals and keeps no pointer after
+ * a call. Every call accepts every input and ends; what it cannot take it answers by a number.
  *
  * A slice is two arguments, a pointer and a length in bytes. An empty slice may be (NULL, 0). No buffer needs an alignment.
  *
@@ -16,12 +16,13 @@
  * - One call at a time on one state or map. Calls on different ones do not touch each other.
  * - From setup on, nothing but the library writes the state or the map. Neither holds pointers, so a copy of the whole works as well.
  *
- * Answer 20 helps where the last rule is broken. tecelume_receive and tecelume_send first check that the state or map is long enough, that
- * no value in it is out of range, that no session has toggle 1 with nothing gathered, and that no two entries are alike. If the check fails
- * they refuse and leave it as it was. So no call reaches outside the lent buffers, whatever was written there. A write that leaves every
- * value in range is not noticed: it counts as what was received or sent before. A stream recovers from it at its next start that is taken;
- * the own ID and the subscriptions do not recover. All zeros are in range: as a state they are a receiver without an ID or subscriptions,
- * so memory that was never set up may answer 7 and not 20; as a map they are a map without entries.
+ * Answer 20 helps where the last rule is broken. tecelume_receive, tecelume_send and tecelume_allocate first check that the state or map is
+ * long enough, that no value in it is out of range, that no session has toggle 1 with nothing gathered, that no two entries are alike, and
+ * that an allocator's table is in order. If the check fails they refuse and leave it as it was. So no call reaches outside the lent
+ * buffers, whatever was written there. A write that leaves every value in range is not noticed: it counts as what was received, sent or
+ * handed out before. A stream recovers from it at its next start that is taken; the own ID and the subscriptions do not recover, nor does
+ * an allocator's table. All zeros are in range: as a state they are a receiver without an ID or subscriptions, so memory that was never set
+ * up may answer 7 and not 20; as a map they are a map without entries, and as an allocator's state one with an empty table.
  *
  * docs/RULES.md in the repository has all rules in numbered sections; "RULES 4.5" below is one of them. */
 #ifndef TECELUME_H
@@ -51,6 +52,9 @@ uint32_t tecelume_version(void);
 #define TECELUME_MAP_SIZE 416          /* the transfer-ID map of a sender */
 #define TECELUME_RECORD_SIZE 13        /* a frame from tecelume_send: ID (4, low byte first), data length (1), data (8) */
 #define TECELUME_SUBSCRIPTION_SIZE 13  /* a subscription record: kind (1), type ID (4), signature (8), low bytes first */
+#define TECELUME_ALLOCATOR_SIZE 2151   /* the state of an allocator */
+#define TECELUME_REPLY_SIZE 17         /* the output buffer of tecelume_allocate: the longest reply */
+#define TECELUME_UNIQUE_ID_SIZE 16     /* a node's unique ID */
 
 /* The output buffer of tecelume_send for a payload of n bytes, at most TECELUME_PAYLOAD_MAX. It is a constant if n is one, and evaluates n
  * more than once. */
@@ -64,12 +68,14 @@ uint32_t tecelume_version(void);
 #define TECELUME_INTERFACES 3        /* buses that carry the same transfers; a frame comes by interface 0, 1 or 2 */
 #define TECELUME_PAYLOAD_MAX 512
 #define TECELUME_FRAMES_MAX 74       /* what a payload of that length is sent as */
+#define TECELUME_ALLOCATIONS_MAX 125 /* nodes in an allocator's table; their IDs are 1 to 125 */
 
 /* ---- the numbers answered ---- */
 
 /*  no.  meaning                                                                  what to do
  *
  *   0   setup, send: success                                                     -
+ *       allocate: a reply is in out, or there is none, the message is ignored    send the reply, if it has a length
  *       receive: frame taken, its transfer is not finished                       go on with the next frame
  *   1   receive: a transfer is complete, its payload is in out                   use the payload before the next call
  *   2   receive: CAN ID of 2^29 or more                                          mask the driver's flags off: id & 0x1FFFFFFF
@@ -82,6 +88,7 @@ uint32_t tecelume_version(void);
  *   7   receive: no subscription                                                 nothing; if it is wanted, set up with it
  *   8   receive: out has under TECELUME_OUTPUT_SIZE bytes                        call again with more room
  *       send: out has under TECELUME_SEND_SIZE(payload_len) bytes                the same
+ *       allocate: the reply is longer than out                                   the same; TECELUME_REPLY_SIZE bytes always do
  *   9   receive: start of a new stream, 32 sessions in use and none is old       subscribe to less; a later start may be taken
  *       send: new topic, 32 entries in use, none unused for 2,000,000 or more    use fewer topics, or call again later
  *  11   receive: payload over 512 bytes; the transfer is dropped                 nothing: too long for this library
@@ -89,11 +96,18 @@ uint32_t tecelume_version(void);
  *  12   receive: the checksum differs; the transfer is dropped                   nothing; after a 31 a frame was lost; if always
  *                                                                                for one type, correct its signature
  *  13   setup: own ID or subscriptions not allowed                               correct the arguments
+ *       allocate: own ID 0 or over 127                                           give the allocator's node an ID by hand
  *  14   send: a value out of range, or an anonymous transfer that cannot be      correct the arguments
+ *  15   allocate: the payload is empty, so no Allocation message                 nothing: a faulty node
+ *  16   allocate: the payload is over 17 bytes, so no Allocation message         nothing: a faulty node
  *  19   receive: interface number of 3 or more                                   number your interfaces from 0; with one, give 0
  *  20   setup: state or map too short                                            lend more
  *       receive, send: state or map too short, or it holds a value out of        set it up again, and look for what wrote over it
  *       range, toggle 1 with nothing gathered, or two like entries
+ *       allocate: state too short, or it holds a value out of range, a unique    take the last good copy of it. Setup would lose the
+ *       or node ID twice, or unique IDs out of order                             table, and with it whose the node IDs are
+ *  21   allocate: a new node, and none of the IDs 1 to 125 is free               clear marks of nodes that are gone; known nodes still
+ *                                                                                get their IDs
  *  30   receive: passed over, no start and no transfer in hand. The start was    nothing, if it is rare or follows an 11; if often,
  *       lost, refused or is more than 2,000,000 back; or a repeat of the last    frames are lost before this call: look at the bus
  *       frame; or the rest of a transfer that 11 dropped                         and at the driver's queue; after 8 or 9 see there
@@ -109,11 +123,12 @@ uint32_t tecelume_version(void);
  *       stream follows                                                           has no other answer, the cable that it follows
  *                                                                                has failed: see interfaces, below
  *
- * Under 2 to 9, 13, 14, 19, 20 and 31 to 34 a call leaves state or map and out byte for byte as they were. Under 11, 12 and 30
+ * Under 2 to 9, 13 to 16, 19, 20 and 31 to 34 a call leaves state or map and out byte for byte as they were. Under 11, 12 and 30
  * tecelume_receive leaves out as it was and changes at most the session of the frame's stream, under 30 only an old one; a tecelume_send
- * that answers 11 changes nothing. 10 is no answer any more: version 0.1 gave it for 30 to 33. */
+ * that answers 11 changes nothing. Under 21 tecelume_allocate leaves out as it was and drops the gathered bytes of the unique ID. 10 is no
+ * answer any more: version 0.1 gave it for 30 to 33. */
 enum tecelume_answer {
-    TECELUME_SUCCESS = 0, /* of setup and sending */
+    TECELUME_SUCCESS = 0, /* of setup, sending and handing out node IDs */
     TECELUME_TAKEN = 0,   /* of tecelume_receive */
     TECELUME_HANDED_OUT = 1,
     TECELUME_ID_TOO_LARGE = 2,
@@ -128,8 +143,11 @@ enum tecelume_answer {
     TECELUME_CHECKSUM_DIFFERS = 12,
     TECELUME_SETUP_REFUSED = 13,
     TECELUME_NOT_SENDABLE = 14,
+    TECELUME_PAYLOAD_ENDS = 15,
+    TECELUME_TOO_MANY = 16,
     TECELUME_NO_INTERFACE = 19,
     TECELUME_STATE_FAULT = 20,
+    TECELUME_NONE_FREE = 21,
     TECELUME_NO_TRANSFER = 30, /* this and the next four: passed over */
     TECELUME_WRONG_TOGGLE = 31,
     TECELUME_WRONG_TRANSFER = 32,
@@ -161,6 +179,7 @@ static inline const char *tecelume_text(uint32_t number)
     case 18: return "log line not well formed";
     case 19: return "interface number of 3 or more";
     case 20: return "state or map too short or at fault";
+    case 21: return "no node ID is free";
     case 25: return "padding not zero";
     case 30: return "passed over, no transfer in hand: its start was lost, or it is over already";
     case 31: return "passed over, wrong toggle: a repeat of a frame already taken, or a frame before this one was lost";
@@ -173,8 +192,8 @@ static inline const char *tecelume_text(uint32_t number)
 
 /* ---- results ---- */
 
-/* What tecelume_receive and tecelume_send give. It is a struct so that a comparison with a number does not compile: the number answered is
- * only a part of it. The functions below read it. */
+/* What tecelume_receive, tecelume_send and tecelume_allocate give. It is a struct so that a comparison with a number does not compile: the
+ * number answered is only a part of it. The functions below read it. */
 typedef struct {
     uint64_t word;
 } tecelume_result;
@@ -241,9 +260,10 @@ uint32_t tecelume_setup(uint8_t *state, size_t state_len, uint32_t own, const ui
 
 /* ---- time ---- */
 
-/* tecelume_receive and tecelume_send take the time in microseconds of any clock; every value is allowed. The age of a session or map entry
- * is the call's time less the stored one, and 0 if the stored one is later. So a clock that runs back makes them seem younger. What is
- * proved of the delivery of a stream asks for a clock that does not run back (RULES 14.6).
+/* tecelume_receive, tecelume_send and tecelume_allocate take the time in microseconds of any clock; every value is allowed. The age of a
+ * session, a map entry or an allocator's gathered bytes is the call's time less the stored one, and 0 if the stored one is later. So a
+ * clock that runs back makes them seem younger. What is proved of the delivery of a stream asks for a clock that does not run back
+ * (RULES 14.6).
  *
  * A 32-bit timer of microseconds runs back when it wraps, after 71 minutes. What was stored before the wrap has age 0 for up to 71 minutes
  * after it, and what was stored in the last two seconds before it never grows old; for a stream this ends with its next start that is
@@ -427,6 +447,103 @@ static inline size_t tecelume_record_length(const uint8_t *record)
 static inline const uint8_t *tecelume_record_data(const uint8_t *record)
 {
     return record + 5;
+}
+
+/* ---- handing out node IDs ---- */
+
+/* An allocator is the one node on a bus that gives other nodes their IDs (RULES 16). A node without an ID, the allocatee, sends its unique
+ * ID of TECELUME_UNIQUE_ID_SIZE bytes in three anonymous Allocation messages, of 6, 6 and 4 bytes, and the allocator confirms each with
+ * all bytes so far; the last reply has the node ID. Call tecelume_allocate with each Allocation message that tecelume_receive hands out,
+ * message 1, those of named sources too, and send each reply as message 1 from the own ID, for one with the priority of its request.
+ *
+ * A node that is in the table gets the same ID again, always: the table only grows. Any other gets the lowest ID from the one that its last
+ * message prefers up to 125 that is free, or else the highest free one below; who prefers 0, 126 or 127 gets the highest free one. An ID of
+ * 1 to 125 is free if it is not in the table, not the own one and not marked. Mark the IDs of static nodes, which have theirs by hand: all
+ * that were heard of, from their NodeStatus, but for those in the table. The marks are given with each call, and the library keeps none;
+ * so after a start listen for a few seconds before the first call, as nodes send their NodeStatus each second.
+ *
+ * After a message that got a reply an allocatee has 500,000 microseconds for the next one, exactly 500,000 included; a later message finds
+ * what was gathered dropped. While bytes of one node are gathered, the first message of another is ignored; that node asks again. In that
+ * time a copy of a message that got a reply is ignored, so messages may come by several cables.
+ *
+ * The state may be kept in a file, as it is, and used again after a start: the table is all that counts in it if it was kept when a reply
+ * of TECELUME_REPLY_SIZE bytes was given, as nothing is gathered then. Keep it whenever tecelume_allocations of it has risen, and send the
+ * reply only when it is safely kept: an ID that was told and forgotten would be given to another node. To see whether what a file holds is a
+ * state, call tecelume_allocate with it, a source other than 0 and a payload of one byte: it changes nothing, and answers 20 if it is not. */
+
+/* The bytes of an allocator's state, TECELUME_ALLOCATOR_SIZE. */
+uint64_t tecelume_allocator_size(void);
+
+/* Sets an allocator up, with an empty table.
+ *
+ * Takes    state  at least TECELUME_ALLOCATOR_SIZE bytes, with any content
+ * Gives    0: the first TECELUME_ALLOCATOR_SIZE bytes of state are an allocator without entries; bytes after them stay.
+ * Refuses  20, state too short; it stays as it was.
+ * Costs    writes the state once. */
+uint32_t tecelume_allocator_setup(uint8_t *state, size_t state_len);
+
+/* Marks a node ID as taken by a static node: in marks[0] those up to 63, in marks[1] the others. Begin with both 0. An ID that is never
+ * given has no effect: 0, 126 and above. */
+static inline void tecelume_mark(uint64_t marks[2], uint32_t node_id)
+{
+    if (node_id < 128)
+        marks[node_id / 64] |= (uint64_t)1 << node_id % 64;
+}
+
+/* Answers an Allocation message as a result word (RULES 13.3), for callers in other languages. C programs call tecelume_allocate. */
+uint64_t tecelume_allocate_word(uint8_t *state, size_t state_len, uint32_t own, uint64_t marks_low, uint64_t marks_high, uint32_t source,
+                                const uint8_t *payload, size_t payload_len, uint64_t time, uint8_t *out, size_t out_len);
+
+/* Answers an Allocation message.
+ *
+ * Takes    state                  as setup and earlier calls left it
+ *          own                    the own node ID, 1 to 127
+ *          marks_low, marks_high  the marks of static nodes: see tecelume_mark; 0 and 0 for none
+ *          source                 tecelume_source of the message; any other than 0 is named
+ *          payload                the message
+ *          time                   when the message came, in microseconds: see above
+ *          out                    TECELUME_REPLY_SIZE bytes do for every reply; a message that gets none needs no room
+ * Gives    a result: 0, with tecelume_reply_length of it bytes at the front of out, the payload of an Allocation message to be sent. Bytes
+ *          after it stay. A length of 0 is no reply: the message is ignored. Ignored are messages of a named source, other lengths than an
+ *          allocatee sends, and those out of turn. They leave the state as it was, but that an anonymous one drops gathered bytes that are
+ *          too old.
+ * Refuses  first match of 20, 13, 15, 16, 21 and 8 (RULES 16.3). All leave out as it was, and state too, but that 21 drops the gathered
+ *          bytes.
+ * Costs    the check for 20, which grows with the table; a search of the table; for a new node, a search for a free ID and moving the entries
+ *          after it. In libtecelume.a at most 1024 bytes of stack, besides what memcpy and its like take. */
+static inline tecelume_result tecelume_allocate(uint8_t *state, size_t state_len, uint32_t own, uint64_t marks_low, uint64_t marks_high,
+                                                uint32_t source, const uint8_t *payload, size_t payload_len, uint64_t time, uint8_t *out,
+                                                size_t out_len)
+{
+    tecelume_result result;
+    result.word = tecelume_allocate_word(state, state_len, own, marks_low, marks_high, source, payload, payload_len, time, out, out_len);
+    return result;
+}
+
+/* Bytes of the reply in out, 1 to 17; 0 if there is none, and with a number other than 0. */
+static inline size_t tecelume_reply_length(tecelume_result result)
+{
+    return (size_t)(result.word >> 8 & 31);
+}
+
+/* ---- the table of an allocator (RULES 16.10), of a state that does not answer 20 ---- */
+
+/* The number of entries, at most TECELUME_ALLOCATIONS_MAX. */
+static inline size_t tecelume_allocations(const uint8_t *state)
+{
+    return state[9];
+}
+
+/* The unique ID of an entry, counted from 0. Entries are in the order of their unique IDs, so a new one may move others. */
+static inline const uint8_t *tecelume_allocation_unique_id(const uint8_t *state, size_t entry)
+{
+    return state + 26 + entry * (TECELUME_UNIQUE_ID_SIZE + 1);
+}
+
+/* The node ID of an entry, 1 to 125. */
+static inline uint32_t tecelume_allocation_node_id(const uint8_t *state, size_t entry)
+{
+    return tecelume_allocation_unique_id(state, entry)[TECELUME_UNIQUE_ID_SIZE];
 }
 
 #ifdef __cplusplus

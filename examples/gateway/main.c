@@ -4,24 +4,33 @@
  *     gateway                                frames come as lines on standard input (line.h), all by interface 0
  *     gateway --lines FILE [FILE [FILE]]     frames come as lines of files or pipes, a file for each interface
  *     gateway NAME [NAME [NAME]]             frames come from CAN interfaces of Linux
+ *     gateway --allocate FILE ...            the same, and it hands out node IDs; FILE keeps whose they are
  *
  * Interfaces are numbered in this order, from 0. A frame to send goes out as a line on standard output, and by every CAN interface.
  *
+ * FILE is made with the first ID that is given, and read at every start. No node is told an ID that is not in it (table.h). IDs of nodes
+ * whose NodeStatus was heard are not given to others; which these are is not kept, so give it some seconds to hear them before nodes that
+ * want an ID are started.
+ *
  * It is built from the C files of this folder and libtecelume.a, as examples/run does. node.c has all that concerns the library. A run over
  * lines is in traffic.input, traffic.sent and traffic.told. Another is in cables.0, cables.1, cables.sent and cables.told: two pipes that
- * carry the same frames, the first with a gap of two seconds. */
+ * carry the same frames, the first with a gap of two seconds. With --allocate it is the allocator of examples/logs/allocation.log; a run
+ * after that one is in nodes.input, nodes.sent and nodes.told. */
 #include <stdio.h>
 #include <string.h>
 
 #include "can.h"
 #include "line.h"
 #include "node.h"
+#include "table.h"
 
 enum { OWN_ID = 1, NO_BUS = -1 };
 
 static struct node node; /* static, since it is too large for a small stack */
 static int buses[TECELUME_INTERFACES];
 static unsigned bus_count;
+static const char *table_name;
+static size_t kept; /* entries of the table that are in its file; as it only grows, their number says whether all are */
 
 static void tell(void *self, uint32_t source, const struct node_status *s)
 {
@@ -39,6 +48,26 @@ static void send_frame(void *self, const struct frame *f)
     for (unsigned i = 0; i < bus_count; i++)
         if (buses[i] != NO_BUS && !can_write(buses[i], f))
             perror("frame not sent");
+}
+
+static bool keep(void *self, uint32_t node_id, const uint8_t *unique_id)
+{
+    size_t entries = tecelume_allocations(node.allocator);
+    (void)self;
+    if (entries != kept && !table_store(table_name, node.allocator))
+        return false;
+    kept = entries;
+    fprintf(stderr, "node ID %u is for ", (unsigned)node_id);
+    for (int i = 0; i < TECELUME_UNIQUE_ID_SIZE; i++)
+        fprintf(stderr, "%02X", (unsigned)unique_id[i]);
+    fprintf(stderr, "\n");
+    return true;
+}
+
+static void receive(unsigned interface_number, const struct frame *f)
+{
+    node_receive(&node, interface_number, f);
+    fflush(stdout);
 }
 
 /* ---- lines ---- */
@@ -88,7 +117,7 @@ static void run_on_lines(FILE *const *files, unsigned count)
                 first = i;
         if (first == count)
             return;
-        node_receive(&node, first, &next[first]);
+        receive(first, &next[first]);
         there[first] = read_frame(files[first], &next[first]);
     }
 }
@@ -120,8 +149,7 @@ static void run_on_buses(char **names)
         struct frame f;
         switch (can_read(buses[i], &f)) {
         case CAN_DATA:
-            node_receive(&node, (uint32_t)i, &f);
-            fflush(stdout);
+            receive((unsigned)i, &f);
             break;
         case CAN_FAILED:
             perror(names[i]);
@@ -155,7 +183,10 @@ static void sum_up(void)
     for (unsigned i = 0; i < NODE_ANSWERS; i++)
         if (node.answers[i] > 0)
             fprintf(stderr, " %u: %lu", i, (unsigned long)node.answers[i]);
-    fprintf(stderr, ", transfers not understood: %lu\n", (unsigned long)node.refused);
+    fprintf(stderr, ", transfers not understood: %lu", (unsigned long)node.refused);
+    if (table_name != NULL)
+        fprintf(stderr, ", nodes in the table: %u, turned away: %lu", (unsigned)kept, (unsigned long)node.turned_away);
+    fprintf(stderr, "\n");
 }
 
 static bool run(char **words, unsigned count)
@@ -164,21 +195,37 @@ static bool run(char **words, unsigned count)
     bool lines = count > 0 && strcmp(words[0], "--lines") == 0;
     if (lines && count > 1 && count - 1 <= TECELUME_INTERFACES)
         return open_files(words + 1, count - 1);
-    if (!lines && count > 0 && count <= TECELUME_INTERFACES)
+    if (!lines && count > 0 && count <= TECELUME_INTERFACES && words[0][0] != '-')
         return open_buses(words, count);
     if (count == 0) {
         run_on_lines(&input, 1);
         return true;
     }
-    fprintf(stderr, "usage: gateway [--lines FILE [FILE [FILE]] | NAME [NAME [NAME]]]\n");
+    fprintf(stderr, "usage: gateway [--allocate FILE] [--lines FILE [FILE [FILE]] | NAME [NAME [NAME]]]\n");
     return false;
+}
+
+static bool load(void)
+{
+    if (table_name == NULL)
+        return true;
+    if (!table_load(table_name, node.allocator))
+        return false;
+    kept = tecelume_allocations(node.allocator);
+    return true;
 }
 
 int main(int count, char **words)
 {
     struct owner owner;
+    int first = 1;
+    if (count > 2 && strcmp(words[1], "--allocate") == 0) {
+        table_name = words[2];
+        first = 3;
+    }
     owner.told = tell;
     owner.sent = send_frame;
+    owner.given = table_name == NULL ? NULL : keep;
     owner.self = NULL;
     if (tecelume_version() != TECELUME_VERSION) {
         fprintf(stderr, "header and library do not go together\n");
@@ -189,7 +236,7 @@ int main(int count, char **words)
         fprintf(stderr, "setup: %u, %s\n", (unsigned)number, tecelume_text(number));
         return 1;
     }
-    if (!run(words + 1, (unsigned)(count - 1)))
+    if (!load() || !run(words + first, (unsigned)(count - first)))
         return 1;
     sum_up();
     return 0;

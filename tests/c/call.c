@@ -40,7 +40,7 @@ void fill(uint8_t *bytes, size_t n)
 
 /* ---- a call ---- */
 
-static const char *const entry_names[ENTRIES] = {"setup", "receive", "map setup", "send"};
+static const char *const entry_names[ENTRIES] = {"setup", "receive", "map setup", "send", "allocator setup", "allocate"};
 
 static uint64_t calls, seen[ENTRIES][256];
 
@@ -64,6 +64,12 @@ static tecelume_result make(const struct call *c, const struct lent *state, cons
     case MAP_SETUP:
         number.word = tecelume_map_setup(state->bytes, state->length);
         return number;
+    case ALLOCATOR_SETUP:
+        number.word = tecelume_allocator_setup(state->bytes, state->length);
+        return number;
+    case ALLOCATE:
+        return tecelume_allocate(state->bytes, state->length, c->own, c->marks[0], c->marks[1], c->source, input->bytes, input->length,
+                                 c->time, out->bytes, out->length);
     default:
         return tecelume_send(state->bytes, state->length, c->own, c->transfer_type, c->type_id, c->destination, c->priority, input->bytes,
                              input->length, c->signature, c->time, c->transfer_id, c->discriminator, out->bytes, out->length);
@@ -104,7 +110,7 @@ static size_t written(const struct call *c, tecelume_result result)
         return tecelume_length(result);
     if (c->entry == SEND && tecelume_number(result) == TECELUME_SUCCESS)
         return tecelume_frames(result) * TECELUME_RECORD_SIZE;
-    return 0;
+    return c->entry == ALLOCATE && tecelume_number(result) == TECELUME_SUCCESS ? tecelume_reply_length(result) : 0;
 }
 
 /* Whether the word of a send has its frames and the transfer ID of each frame's tail byte, and nothing else. */
@@ -121,8 +127,20 @@ static bool tells_frames(const struct call *c, const struct call *after, tecelum
     return true;
 }
 
+/* Whether the word of an allocation has the length of its reply and nothing else, and the reply is one: a node ID if the unique ID is whole. */
+static bool tells_reply(const struct call *after, tecelume_result result)
+{
+    size_t length = tecelume_reply_length(result);
+    uint8_t head = after->out.bytes[0];
+    if (result.word != length << 8 || length > TECELUME_REPLY_SIZE)
+        return false;
+    return length == 0 || (length < TECELUME_REPLY_SIZE ? head == 0 : head % 2 == 0 && head >= 2 && head <= 2 * TECELUME_ALLOCATIONS_MAX);
+}
+
 static bool may_change_state(enum entry entry, uint32_t number)
 {
+    if (entry == ALLOCATE && number == TECELUME_NONE_FREE)
+        return true;
     if (entry != RECEIVE)
         return number == TECELUME_SUCCESS;
     return number <= TECELUME_HANDED_OUT || number == TECELUME_PAYLOAD_TOO_LONG || number == TECELUME_CHECKSUM_DIFFERS ||
@@ -138,13 +156,19 @@ static const uint64_t answers[ENTRIES] = {
     (BIT(10) - 1) | BIT(11) | BIT(12) | BIT(19) | BIT(20) | (BIT(35) - BIT(30)),
     BIT(0) | BIT(20),
     BIT(0) | BIT(8) | BIT(9) | BIT(11) | BIT(14) | BIT(20),
+    BIT(0) | BIT(20),
+    BIT(0) | BIT(8) | BIT(13) | BIT(15) | BIT(16) | BIT(20) | BIT(21),
 };
+
+static const size_t sizes[ENTRIES] = {TECELUME_RECEIVER_SIZE, TECELUME_RECEIVER_SIZE, TECELUME_MAP_SIZE,
+                                      TECELUME_MAP_SIZE,      TECELUME_ALLOCATOR_SIZE, TECELUME_ALLOCATOR_SIZE};
 
 static void judge(const struct call *c, const struct call *after, tecelume_result result)
 {
     uint32_t number = tecelume_number(result);
-    bool detailed = (c->entry == RECEIVE && number == TECELUME_HANDED_OUT) || (c->entry == SEND && number == TECELUME_SUCCESS);
-    size_t size = c->entry == SETUP || c->entry == RECEIVE ? TECELUME_RECEIVER_SIZE : TECELUME_MAP_SIZE;
+    bool detailed = (c->entry == RECEIVE && number == TECELUME_HANDED_OUT) ||
+                    ((c->entry == SEND || c->entry == ALLOCATE) && number == TECELUME_SUCCESS);
+    size_t size = sizes[c->entry];
     if (number >= NUMBERS || (answers[c->entry] >> number & 1) == 0)
         fail(c, "a number that this call does not answer");
     if (!detailed && result.word != number)
@@ -158,6 +182,8 @@ static void judge(const struct call *c, const struct call *after, tecelume_resul
         fail(c, "a transfer that cannot be");
     if (c->entry == SEND && detailed && !tells_frames(c, after, result))
         fail(c, "a result that does not tell the frames");
+    if (c->entry == ALLOCATE && detailed && !tells_reply(after, result))
+        fail(c, "a result that does not tell the reply");
     if (!stays(&c->state, &after->state, may_change_state(c->entry, number) ? size : 0))
         fail(c, "bytes of the state that must stay were written");
     if (!stays(&c->out, &after->out, written(c, result)))
@@ -188,7 +214,7 @@ bool show_answers(void)
 {
     bool all = true;
     for (int e = 0; e < ENTRIES; e++) {
-        printf("%-10s", entry_names[e]);
+        printf("%-15s", entry_names[e]);
         for (int n = 0; n < NUMBERS; n++) {
             if (answers[e] >> n & 1) {
                 printf(" %d: %" PRIu64, n, seen[e][n]);

@@ -16,18 +16,18 @@ void fill(uint8_t *bytes, size_t n);
 
 /* ---- a call ---- */
 
-enum entry { SETUP, RECEIVE, MAP_SETUP, SEND, ENTRIES };
+enum entry { SETUP, RECEIVE, MAP_SETUP, SEND, ALLOCATOR_SETUP, ALLOCATE, ENTRIES };
 
 struct buffer {
     uint8_t bytes[LENT_MAX];
     size_t length;
 };
 
-/* `state` is a receiver's or a map, `input` the subscriptions, the frame or the payload. */
+/* `state` is a receiver's, a map or an allocator's, `input` the subscriptions, the frame or the payload. */
 struct call {
     enum entry entry;
-    uint32_t own, id, interface_number, transfer_type, type_id, destination, priority, transfer_id, discriminator;
-    uint64_t signature, time;
+    uint32_t own, id, interface_number, transfer_type, type_id, destination, priority, transfer_id, discriminator, source;
+    uint64_t signature, marks[2], time;
     struct buffer state, input, out;
 };
 

@@ -5,9 +5,10 @@
  *
  * Each call is made twice, on equal buffers placed differently, and must give the same word and the same bytes: so nothing but the
  * arguments counts. Then what include/tecelume.h promises is checked (call.c): const inputs stay, a refusal leaves every buffer as it
- * was and all other bits of the word 0, success writes only where it may. A payload sent comes out as it went in, and a frame that was
- * taken comes again, by its own interface or by another, and is passed over for the right reason. What the answers must be otherwise is the
- * business of the comparison with the second implementation.
+ * was and all other bits of the word 0, success writes only where it may. A payload sent comes out as it went in, a frame that was
+ * taken comes again, by its own interface or by another, and is passed over for the right reason, and a node that was told an ID is told
+ * the same one again and shares it with no other. What the answers must be otherwise is the business of the comparison with the second
+ * implementation.
  *
  * --selftest makes one call that says one byte too many of a buffer. Something must notice, or the runs without it show nothing. */
 #include <inttypes.h>
@@ -25,6 +26,7 @@ enum { RECORDS_MAX = TECELUME_SEND_SIZE(TECELUME_PAYLOAD_MAX) };
 
 static uint64_t seed = 1;
 static uint64_t through; /* transfers sent, received and compared */
+static uint64_t told_again; /* nodes that got the ID that they had */
 
 /* ---- arguments ---- */
 
@@ -350,6 +352,88 @@ static void crowd_map(void)
     }
 }
 
+/* ---- handing out node IDs ---- */
+
+enum { ALLOCATEES = 140, PART = 6 };
+
+static struct call allocator;
+static uint8_t unique_ids[ALLOCATEES][TECELUME_UNIQUE_ID_SIZE];
+static uint32_t node_ids[ALLOCATEES]; /* what each was told since setup; 0 if nothing */
+static uint32_t asking;               /* which of them is asking, */
+static size_t asked;                  /* and how many of its bytes were confirmed */
+static uint64_t waited;               /* before messages that were ignored came again */
+
+static void setup_allocator(void)
+{
+    allocator.entry = ALLOCATOR_SETUP;
+    allocator.state.length = state_length(TECELUME_ALLOCATOR_SIZE);
+    fill(allocator.state.bytes, allocator.state.length);
+    run(&allocator);
+    fill(unique_ids[0], sizeof unique_ids);
+    memset(node_ids, 0, sizeof node_ids);
+    asked = 0;
+}
+
+static void judge_node_id(uint32_t node_id)
+{
+    uint32_t node = 0;
+    while (node < ALLOCATEES && memcmp(unique_ids[node], allocator.out.bytes + 1, TECELUME_UNIQUE_ID_SIZE) != 0)
+        node++;
+    if (node == ALLOCATEES)
+        return; /* parts of two nodes */
+    if (node_ids[node] != 0 && node_ids[node] != node_id)
+        fail(&allocator, "a node was told another ID than before");
+    for (uint32_t i = 0; i < ALLOCATEES; i++)
+        if (i != node && node_ids[i] == node_id)
+            fail(&allocator, "two nodes were told one ID");
+    told_again += node_ids[node] == node_id;
+    node_ids[node] = node_id;
+}
+
+static void choose_message(void)
+{
+    size_t left = TECELUME_UNIQUE_ID_SIZE - asked, length = left < PART ? left : PART;
+    allocator.entry = ALLOCATE;
+    allocator.own = once_in(8) ? number_to(127) : 1;
+    allocator.marks[0] = allocator.marks[1] = once_in(10) ? UINT64_MAX : 0;
+    if (once_in(10))
+        allocator.marks[below(2)] = next_random();
+    allocator.source = once_in(20) ? number_to(127) : 0;
+    allocator.time = now + waited;
+    allocator.input.length = 1 + length;
+    allocator.input.bytes[0] = (uint8_t)(below(128) << 1 | (asked == 0));
+    memcpy(allocator.input.bytes + 1, unique_ids[asking] + asked, length);
+    if (once_in(20)) {
+        allocator.input.length = below(FRAME_LENGTH_MAX);
+        fill(allocator.input.bytes, allocator.input.length);
+    }
+    allocator.out.length = once_in(10) ? below(TECELUME_REPLY_SIZE) : TECELUME_REPLY_SIZE + below(4);
+    fill(allocator.out.bytes, allocator.out.length);
+}
+
+/* The call, and perhaps the same before it on a state that was damaged. */
+static void ask(void)
+{
+    static struct buffer good;
+    choose_message();
+    if (once_in(10)) {
+        good = allocator.state;
+        damage(&allocator.state);
+        if (once_in(4))
+            allocator.state.length = below(TECELUME_ALLOCATOR_SIZE);
+        run(&allocator);
+        allocator.state = good;
+    }
+    tecelume_result result = run(&allocator);
+    size_t length = tecelume_reply_length(result);
+    if (length == TECELUME_REPLY_SIZE)
+        judge_node_id(allocator.out.bytes[0] >> 1);
+    waited += length == 0 ? 200000 : 0;
+    asked = length > 1 && length < TECELUME_REPLY_SIZE ? length - 1 : 0;
+    if (asked == 0)
+        asking = below(ALLOCATEES);
+}
+
 static void one_step(void)
 {
     now += once_in(500) ? below(3000000) : below(2000);
@@ -359,6 +443,10 @@ static void one_step(void)
         setup_map();
     if (once_in(1000))
         crowd_map();
+    if (once_in(5000) || allocator.state.length < TECELUME_ALLOCATOR_SIZE)
+        setup_allocator();
+    if (once_in(5))
+        ask();
     struct lane *lane = &lanes[below(LANES)];
     if (once_in(20))
         receive_wild();
@@ -410,6 +498,20 @@ static void sweep_sending(void)
     sweep(&sender, &sender.state.length, TECELUME_MAP_SIZE + STATE_EXTRA);
 }
 
+static void sweep_allocation(size_t state_steps)
+{
+    do
+        setup_allocator();
+    while (allocator.state.length < TECELUME_ALLOCATOR_SIZE);
+    sweep(&allocator, &allocator.state.length, state_steps);
+    for (int i = 0; i < 9; i++) /* three nodes */
+        ask();
+    choose_message();
+    sweep(&allocator, &allocator.input.length, FRAME_LENGTH_MAX);
+    sweep(&allocator, &allocator.out.length, FRAME_LENGTH_MAX);
+    sweep(&allocator, &allocator.state.length, state_steps);
+}
+
 /* ---- memory that nobody wrote before: valgrind sees it if a call decides on such a byte ---- */
 
 static bool goes_through(uint8_t *map, uint8_t *state, uint8_t *records, uint8_t *out)
@@ -430,16 +532,32 @@ static bool goes_through(uint8_t *map, uint8_t *state, uint8_t *records, uint8_t
     return tecelume_length(last) == sizeof payload && memcmp(out, payload, sizeof payload) == 0;
 }
 
+/* A whole unique ID in one message gets an ID. */
+static bool hands_out(uint8_t *state, uint8_t *out)
+{
+    static const uint8_t payload[1 + TECELUME_UNIQUE_ID_SIZE] = {1};
+    return tecelume_allocator_setup(state, TECELUME_ALLOCATOR_SIZE) == 0 &&
+           tecelume_reply_length(tecelume_allocate(state, TECELUME_ALLOCATOR_SIZE, 1, 0, 0, 0, payload, sizeof payload, 0, out,
+                                                   TECELUME_REPLY_SIZE)) == TECELUME_REPLY_SIZE &&
+           out[0] == 2 * TECELUME_ALLOCATIONS_MAX;
+}
+
 static void use_fresh_memory(void)
 {
     uint8_t *map = (uint8_t *)malloc(TECELUME_MAP_SIZE), *state = (uint8_t *)malloc(TECELUME_RECEIVER_SIZE);
     uint8_t *records = (uint8_t *)malloc(RECORDS_MAX), *out = (uint8_t *)malloc(TECELUME_OUTPUT_SIZE);
+    /* the reply's first byte is put together in place from seven bits and one, bit arithmetic that valgrind does not follow */
+    uint8_t *table = (uint8_t *)malloc(TECELUME_ALLOCATOR_SIZE), *reply = (uint8_t *)calloc(TECELUME_REPLY_SIZE, 1);
     if (map == NULL || state == NULL || records == NULL || out == NULL || !goes_through(map, state, records, out))
         fail(&receiver, "on fresh memory nothing goes through");
+    if (table == NULL || reply == NULL || !hands_out(table, reply))
+        fail(&allocator, "on fresh memory no node ID is given");
     free(map);
     free(state);
     free(records);
     free(out);
+    free(table);
+    free(reply);
 }
 
 /* ---- a lie, and all the rest ---- */
@@ -491,9 +609,11 @@ int main(int count, char **words)
     use_fresh_memory();
     sweep_reception(most < SHORT ? 100 : TECELUME_RECEIVER_SIZE + STATE_EXTRA);
     sweep_sending();
+    sweep_allocation(most < SHORT ? 100 : TECELUME_ALLOCATOR_SIZE + STATE_EXTRA);
     for (uint64_t swept = calls_made(); calls_made() - swept < most;)
         one_step();
-    printf("seed %" PRIu64 ": %" PRIu64 " calls, each made twice; %" PRIu64 " transfers went through\n", seed, calls_made(), through);
+    printf("seed %" PRIu64 ": %" PRIu64 " calls, each made twice; %" PRIu64 " transfers went through, %" PRIu64 " nodes got their ID again\n",
+           seed, calls_made(), through, told_again);
     if (show_answers() || most < SHORT)
         return 0;
     printf("an answer was never seen\n");

@@ -4,12 +4,14 @@
  *     header SENTENCE    the one of that name
  *     header --list      their names
  *
- * The first that does not hold is printed, with status 1. wrong.c makes libraries that break them. */
+ * The first that does not hold is printed, with status 1. Those of handing out node IDs are in allocator.c. wrong.c makes libraries that
+ * break them. */
 #include <stdbool.h>
 #include <stdio.h>
 #include <stdlib.h>
 #include <string.h>
 
+#include "sentence.h"
 #include "tecelume.h"
 
 enum { START = 0x80, END = 0x40, TOGGLE = 0x20, SINGLE = START | END, TRANSFER_ID = 31 };
@@ -23,15 +25,13 @@ static uint8_t out[TECELUME_OUTPUT_SIZE], records[TECELUME_SEND_SIZE(LONGEST)];
 
 static const char *sentence;
 
-static void check(bool holds, const char *what, int line)
+void check(bool holds, const char *what, int line)
 {
     if (holds)
         return;
     printf("%s: does not hold in line %d: %s\n", sentence, line, what);
     exit(1);
 }
-
-#define CHECK(condition) check((condition), #condition, __LINE__)
 
 /* ---- calls, each with what is said of every one: what a number leaves as it was ---- */
 
@@ -348,11 +348,12 @@ static void reasons_in_order(void)
 static void texts(void)
 {
     for (uint32_t number = 0; number < 40; number++) {
-        bool known = (number <= TECELUME_STATE_FAULT && number != 10) || number == 25 ||
+        bool known = (number <= TECELUME_NONE_FREE && number != 10) || number == 25 ||
                      (number >= TECELUME_NO_TRANSFER && number <= TECELUME_OTHER_INTERFACE);
         CHECK(known == (strcmp(tecelume_text(number), "unknown number") != 0));
         CHECK((number >= TECELUME_NO_TRANSFER && known) == (strncmp(tecelume_text(number), "passed over", 11) == 0));
     }
+    CHECK(strcmp(tecelume_text(25), "padding not zero") == 0);
 }
 
 static void entry_at_two_seconds(void)
@@ -691,6 +692,21 @@ static const struct {
     {"faults", faults},
     {"new_setup", new_setup},
     {"order_of_subscriptions", order_of_subscriptions},
+    {"allocator_and_library", allocator_and_library},
+    {"dialog_of_an_allocatee", dialog_of_an_allocatee},
+    {"same_node_id_again", same_node_id_again},
+    {"which_node_id", which_node_id},
+    {"marks_are_given_anew", marks_are_given_anew},
+    {"only_one_unmarked", only_one_unmarked},
+    {"next_message_in_time", next_message_in_time},
+    {"one_node_at_a_time", one_node_at_a_time},
+    {"copy_of_a_message", copy_of_a_message},
+    {"ignored_messages", ignored_messages},
+    {"no_node_id_free", no_node_id_free},
+    {"refused_allocations", refused_allocations},
+    {"allocator_kept", allocator_kept},
+    {"table_of_an_allocator", table_of_an_allocator},
+    {"allocator_faults", allocator_faults},
 };
 
 int main(int count, char **words)

@@ -7,6 +7,7 @@
 
 #include "tecelume.h"
 
+enum { GATHERED_COUNT = 8, TIME_SIZE = 8, ENTRIES = 9, TABLE = 26, ENTRY = 17 }; /* places in an allocator's state */
 enum { START = 0x80, TOGGLE = 0x20, TRANSFER_ID = 31, ID_AT = 55, SWITCH_DELAY = 1000000, OTHER = 99 /* a number that no call answers */ };
 /* of the first session: how many bytes it has gathered, the transfer ID that it expects, the toggle and twice the interface */
 enum { GATHERED = 1160, EXPECTED = 1162, FLAGS = 1163 };
@@ -64,6 +65,13 @@ uint64_t __real_tecelume_map_size(void);
 uint64_t __wrap_tecelume_map_size(void)
 {
     uint64_t size = __real_tecelume_map_size();
+    return answer(size, size + 1);
+}
+
+uint64_t __real_tecelume_allocator_size(void);
+uint64_t __wrap_tecelume_allocator_size(void)
+{
+    uint64_t size = __real_tecelume_allocator_size();
     return answer(size, size + 1);
 }
 
@@ -297,4 +305,165 @@ uint64_t __wrap_tecelume_send_word(uint8_t *map, size_t map_len, uint32_t own, u
     uint64_t word = __real_tecelume_send_word(map, map_len, own, transfer_type, type_id, destination, priority, payload, payload_len,
                                               signature, seen, transfer_id, discriminator, out, out_len + is("less-room-asked"));
     return answer(dispatch(word, type_id, was_empty, map, out, out_len), OTHER);
+}
+
+/* ---- handing out node IDs ---- */
+
+uint32_t __real_tecelume_allocator_setup(uint8_t *state, size_t state_len);
+uint32_t __wrap_tecelume_allocator_setup(uint8_t *state, size_t state_len)
+{
+    uint32_t number = __real_tecelume_allocator_setup(state, state_len + is("short-allocator-set-up"));
+    return (uint32_t)answer(number, OTHER);
+}
+
+uint64_t __real_tecelume_allocate_word(uint8_t *state, size_t state_len, uint32_t own, uint64_t marks_low, uint64_t marks_high,
+                                       uint32_t source, const uint8_t *payload, size_t payload_len, uint64_t time, uint8_t *out,
+                                       size_t out_len);
+
+/* What an allocation takes. */
+struct question {
+    uint8_t *state;
+    uint32_t own;
+    uint64_t marks[2];
+    uint32_t source;
+    uint8_t payload[TECELUME_REPLY_SIZE + 1];
+    size_t payload_len;
+    uint64_t time;
+    uint8_t *out;
+    size_t out_len;
+};
+
+static uint64_t allocate(const struct question *q)
+{
+    return __real_tecelume_allocate_word(q->state, TECELUME_ALLOCATOR_SIZE, q->own, q->marks[0], q->marks[1], q->source, q->payload,
+                                         q->payload_len, q->time, q->out, q->out_len);
+}
+
+static bool is_marked(const struct question *q, uint32_t node_id)
+{
+    return (q->marks[node_id / 64] >> node_id % 64 & 1) != 0;
+}
+
+/* The time of the last message processed. */
+static uint64_t kept_time(const uint8_t *state)
+{
+    uint64_t time = 0;
+    for (int i = 0; i < TIME_SIZE; i++)
+        time |= (uint64_t)state[i] << (8 * i);
+    return time;
+}
+
+/* Changes what the call is about. */
+static void misread_marks(struct question *q)
+{
+    static uint64_t kept[2];
+    for (int i = 0; i < 2; i++) {
+        kept[i] |= q->marks[i];
+        if (is("marks-kept"))
+            q->marks[i] = kept[i];
+        if (is("marks-ignored") && q->marks[i] != UINT64_MAX)
+            q->marks[i] = 0;
+    }
+    if (is("marks-of-64-ignored"))
+        q->marks[1] &= ~(uint64_t)1;
+    if (is("marks-swapped")) {
+        uint64_t low = q->marks[0];
+        q->marks[0] = q->marks[1];
+        q->marks[1] = low;
+    }
+}
+
+static void misread(struct question *q)
+{
+    bool last = q->payload_len == 5, first = q->payload_len == 7 && (q->payload[0] & 1) != 0;
+    misread_marks(q);
+    if (is("own-id-given") && q->own >= 1 && q->own <= 127)
+        q->own = 127;
+    if (is("own-id-cut"))
+        q->own &= 255;
+    if (is("source-cut"))
+        q->source &= 255;
+    if (is("named-source-answered"))
+        q->source = 0;
+    if (is("preference-ignored"))
+        q->payload[0] &= 1;
+    if (is("follow-up-too-early") && q->time == kept_time(q->state) + 500000)
+        q->time++;
+    if (is("follow-up-too-late") && q->time == kept_time(q->state) + 500001)
+        q->time--;
+    if ((is("earlier-is-late") && q->time < kept_time(q->state)) || (is("other-node-taken") && first))
+        q->state[GATHERED_COUNT] = 0;
+    if (is("table-forgotten") && last)
+        q->state[ENTRIES] = 0;
+    if (is("marked-entry-forgotten") && last && q->state[ENTRIES] > 0 && is_marked(q, q->state[TABLE + ENTRY - 1]))
+        q->state[ENTRIES] = 0;
+}
+
+/* The number in place of the call; OTHER for none. */
+static uint32_t refused(const struct question *q)
+{
+    static const uint8_t zero[TECELUME_ALLOCATOR_SIZE];
+    bool whole = q->payload_len == 5;
+    if (is("zero-allocator-at-fault") && memcmp(q->state, zero, sizeof zero) == 0)
+        return TECELUME_STATE_FAULT;
+    if (is("most-room-asked") && q->out_len < TECELUME_REPLY_SIZE)
+        return TECELUME_OUTPUT_TOO_SMALL;
+    if (is("room-before-21") && whole && q->out_len == 0)
+        return TECELUME_OUTPUT_TOO_SMALL;
+    if (is("none-free-for-known") && whole && q->marks[0] == UINT64_MAX)
+        return TECELUME_NONE_FREE;
+    if (is("named-source-before-15") && q->source != 0 && q->payload_len == 0)
+        return TECELUME_SUCCESS;
+    if (is("node-id-guarded") && q->state[TABLE + ENTRY - 1] == 99)
+        return TECELUME_STATE_FAULT;
+    return OTHER;
+}
+
+/* Answers a message that comes twice as it did at first. */
+static uint64_t allocate_again(const struct question *q)
+{
+    static uint8_t before[TECELUME_ALLOCATOR_SIZE], last[sizeof q->payload];
+    if (memcmp(last, q->payload, sizeof last) == 0)
+        memcpy(q->state, before, sizeof before);
+    memcpy(last, q->payload, sizeof last);
+    memcpy(before, q->state, sizeof before);
+    return allocate(q);
+}
+
+/* Changes what the call leaves. */
+static void touch_allocation(const struct question *q, const uint8_t *before, uint64_t word)
+{
+    uint32_t number = (uint32_t)(word & 255);
+    size_t entries = q->state[ENTRIES];
+    if (is("none-free-keeps-gathered") && number == TECELUME_NONE_FREE)
+        q->state[GATHERED_COUNT] = before[GATHERED_COUNT];
+    if (is("refused-allocation-touches-state") && number != TECELUME_SUCCESS)
+        q->state[TECELUME_ALLOCATOR_SIZE - 1] ^= 1;
+    if (is("refused-allocation-touches-output") && number != TECELUME_SUCCESS && q->out_len > 0)
+        q->out[0] ^= 1;
+    if (is("output-touched-after-reply") && number == TECELUME_SUCCESS)
+        q->out[q->out_len] ^= 1;
+    if (is("ignored-touches-state") && word == TECELUME_SUCCESS)
+        q->state[0] ^= 1;
+    if (is("id-given-twice") && entries > before[ENTRIES] && before[ENTRIES] > 0)
+        q->out[0] = (uint8_t)(before[TABLE + ENTRY - 1] << 1);
+    if (is("entries-as-they-come") && entries > before[ENTRIES])
+        memmove(q->state + TABLE, before + TABLE, ENTRY * before[ENTRIES]);
+}
+
+uint64_t __wrap_tecelume_allocate_word(uint8_t *state, size_t state_len, uint32_t own, uint64_t marks_low, uint64_t marks_high,
+                                       uint32_t source, const uint8_t *payload, size_t payload_len, uint64_t time, uint8_t *out,
+                                       size_t out_len)
+{
+    uint8_t before[TECELUME_ALLOCATOR_SIZE];
+    struct question q = {state, own, {marks_low, marks_high}, source, {0}, payload_len, time, out, out_len};
+    memcpy(before, state, state_len < sizeof before ? state_len : sizeof before);
+    memcpy(q.payload, payload, payload_len < sizeof q.payload ? payload_len : sizeof q.payload);
+    misread(&q);
+    uint32_t number = refused(&q);
+    uint64_t word = number != OTHER ? number : is("copy-answered") ? allocate_again(&q) : allocate(&q);
+    touch_allocation(&q, before, word);
+    if (is("allocator-fault-not-seen") && word == TECELUME_STATE_FAULT)
+        word = TECELUME_SUCCESS;
+    return answer(word, OTHER);
 }

@@ -10,22 +10,25 @@
 
 #include "tecelume.h"
 
-enum { CALLS = 100000, FOLD = 1000, LANES = 6, NODES = 2, TYPES = 6, NUMBERS = TECELUME_OTHER_INTERFACE + 1 };
-enum { GATHERED_AT = 1288 }; /* where the gathered bytes of a receiver start */
-enum entry { SETUP, RECEIVE, MAP_SETUP, SEND, OTHERS, ENTRIES };
+enum { CALLS = 100000, FOLD = 1000, LANES = 6, NODES = 2, TYPES = 6, NUMBERS = TECELUME_OTHER_INTERFACE + 1, ALLOCATEES = 140 };
+enum { GATHERED_AT = 1288, FIRST_ENTRIES = 60 }; /* where the gathered bytes of a receiver start; of an allocator, counts and two entries */
+enum entry { SETUP, RECEIVE, MAP_SETUP, SEND, ALLOCATOR_SETUP, ALLOCATE, OTHERS, ENTRIES };
 
-static const char *const names[ENTRIES] = {"setup", "receive", "map_setup", "send", "others"};
+static const char *const names[ENTRIES] = {"setup", "receive", "map_setup", "send", "allocator_setup", "allocate", "others"};
 #define BIT(number) ((uint64_t)1 << (number))
 static const uint64_t must[ENTRIES] = {
     BIT(0) | BIT(13) | BIT(20),
     (BIT(10) - 1) | BIT(11) | BIT(12) | BIT(19) | BIT(20) | (BIT(35) - BIT(30)),
     BIT(0) | BIT(20),
     BIT(0) | BIT(8) | BIT(9) | BIT(11) | BIT(14) | BIT(20),
+    BIT(0) | BIT(20),
+    BIT(0) | BIT(8) | BIT(13) | BIT(15) | BIT(16) | BIT(20) | BIT(21),
     BIT(0),
 };
 
 static uint8_t state[TECELUME_RECEIVER_SIZE];
 static uint8_t maps[NODES][TECELUME_MAP_SIZE];
+static uint8_t allocator[TECELUME_ALLOCATOR_SIZE];
 static uint8_t out[TECELUME_FRAMES_MAX * TECELUME_RECORD_SIZE];
 static uint8_t payload[600];
 static uint64_t now;
@@ -73,6 +76,7 @@ static void answered(enum entry entry, uint64_t word, size_t left)
     if (++calls % FOLD == 0) {
         add(state, sizeof state);
         add(maps[0], sizeof maps);
+        add(allocator, sizeof allocator);
         printf("%6lu %08lx%08lx\n", (unsigned long)calls, (unsigned long)(digest >> 32), (unsigned long)(digest & 0xFFFFFFFFu));
     }
 }
@@ -161,6 +165,38 @@ static void pass_on(struct lane *lane)
         lane->next++;
 }
 
+static void set_up_allocator(void)
+{
+    answered(ALLOCATOR_SETUP, tecelume_allocator_setup(allocator, sizeof allocator - once_in(5)), 0);
+}
+
+/* The next message of the node that is asking; a node's unique ID is its number in each byte. Now and then it is another message. */
+static void allocate(void)
+{
+    static uint8_t node;
+    static size_t asked;
+    uint64_t marks[2] = {0, 0};
+    size_t length = asked == 12 ? 5 : 7;
+    memset(payload, node, sizeof payload);
+    payload[0] = (uint8_t)(below(128) << 1 | (asked == 0));
+    if (once_in(20))
+        length = below(20);
+    if (once_in(8))
+        marks[0] = marks[1] = UINT64_MAX;
+    for (uint32_t n = below(4); n > 0; n--)
+        tecelume_mark(marks, below(128));
+    uint32_t own = number_to(127);
+    uint32_t source = once_in(20) ? number_to(127) : 0;
+    size_t out_len = once_in(20) ? below(17) : TECELUME_REPLY_SIZE;
+    tecelume_result given =
+        tecelume_allocate(allocator, sizeof allocator, own, marks[0], marks[1], source, payload, length, now, out, out_len);
+    size_t reply = tecelume_reply_length(given);
+    answered(ALLOCATE, given.word, reply);
+    asked = reply > 1 && reply < TECELUME_REPLY_SIZE ? reply - 1 : 0;
+    if (asked == 0)
+        node = (uint8_t)below(ALLOCATEES);
+}
+
 /* Any frame, or a long transfer that never ends. */
 static void receive_any(void)
 {
@@ -185,6 +221,8 @@ static void damage(void)
 {
     uint8_t *byte = once_in(2) ? state + below(once_in(2) ? GATHERED_AT : TECELUME_RECEIVER_SIZE) : maps[0] + below(sizeof maps);
     *byte = (uint8_t)below(256);
+    byte = allocator + below(once_in(2) ? FIRST_ENTRIES : sizeof allocator);
+    *byte = (uint8_t)below(256);
 }
 
 static void ask(void)
@@ -192,7 +230,7 @@ static void ask(void)
     uint32_t kind = below(3);
     uint32_t type_id = once_in(2) ? 341 : below(16400);
     answered(OTHERS, tecelume_signature(kind, type_id), 0);
-    answered(OTHERS, tecelume_receiver_size() + tecelume_map_size(), 0);
+    answered(OTHERS, tecelume_receiver_size() + tecelume_map_size() + tecelume_allocator_size(), 0);
 }
 
 static void step(void)
@@ -208,7 +246,11 @@ static void step(void)
         set_up_map();
     else if (which < 20)
         ask();
-    else if (which < 250)
+    else if (which < 21)
+        set_up_allocator();
+    else if (which < 120)
+        allocate();
+    else if (which < 320)
         receive_any();
     else if (lane->next < lane->count)
         pass_on(lane);

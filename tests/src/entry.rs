@@ -2,8 +2,9 @@
 //!
 //! A result word holds the answer's number in bits 0 to 7 (RULES 13.3). After a transfer handed out
 //! come its length, stream, priority and transfer ID, after a send the number of its frames and
-//! their transfer ID, at the same place.
+//! their transfer ID, at the same place; after an allocator's reply comes its length.
 
+use crate::allocator::{self, Allocator, Request};
 use crate::map::{self, Map};
 use crate::receive::{Answer, Frame, Receiver, Subscription, Transfer};
 use crate::send::{self, Outgoing, RECORD};
@@ -105,4 +106,28 @@ pub fn send(bytes: &mut [u8], outgoing: &Outgoing, out: &mut [u8]) -> u64 {
         }
         Err(refusal) => u64::from(refusal.number()),
     }
+}
+
+pub fn allocator_setup(bytes: &mut [u8]) -> u32 {
+    if bytes.len() < allocator::SIZE {
+        return FAULT;
+    }
+    bytes[..allocator::SIZE].fill(0);
+    0
+}
+
+pub fn allocate(bytes: &mut [u8], request: &Request, out: &mut [u8]) -> u64 {
+    let Some(mut state) = Allocator::read(bytes) else {
+        return u64::from(FAULT);
+    };
+    let answer = state.allocate(request, out.len());
+    state.write(bytes);
+    let length = match &answer {
+        allocator::Answer::Reply(reply) => {
+            out[..reply.len()].copy_from_slice(reply);
+            reply.len()
+        }
+        _ => 0,
+    };
+    u64::from(answer.number()) | (length as u64) << 8
 }

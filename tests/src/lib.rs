@@ -1,6 +1,7 @@
 //! A second implementation of the UAVCAN v0 transport and its messages, written from the rules
 //! alone (docs/RULES.md), to be compared with the proved one.
 
+pub mod allocator;
 pub mod binary16;
 pub mod bits;
 pub mod codec;

@@ -4,9 +4,8 @@ use std::process::Command;
 
 /// The exit status of a short run.
 fn status(options: &[&str]) -> Option<i32> {
-    let short =
-        "--rounds 1 --frames 100000 --setups 3000 --sends 100000 --messages 20000 --lines 20000 \
-        --minimum 1";
+    let short = "--rounds 1 --frames 100000 --setups 3000 --sends 100000 --allocations 100000 \
+        --messages 20000 --lines 20000 --minimum 1";
     Command::new(env!("CARGO_BIN_EXE_compare"))
         .args(short.split(' '))
         .args(options)
@@ -33,6 +32,7 @@ fn difference_fails() {
         status(&["--mutant", "checksum-sent-high-byte-first"]),
         Some(1)
     );
+    assert_eq!(status(&["--mutant", "id-given-twice"]), Some(1));
     assert_eq!(status(&["--mutant", "first-letter-is-length"]), Some(1));
 }
 

@@ -1,2 +1,2 @@
-mod AllocationFacts
-mod Trips
+pub mod AllocationFacts
+pub mod Trips

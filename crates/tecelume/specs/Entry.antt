@@ -2,7 +2,9 @@
 use mathlib.Core.List.{List}
 use Prim.Native.Nat.{ℕ, _+_, _*_, _^_}
 use Rattle.answers.specs.Setup.{numberOf}
-use Rattle.tecelume.specs.Word.{wordOf, sentWord}
+use Rattle.tecelume.specs.Word.{wordOf, sentWord, allocationWord}
+use Rattle.allocator.specs.Allocate as allocate
+use Rattle.allocator.specs.Setup as allocator
 use Rattle.id_map.specs.Setup as map
 use Rattle.receiver.specs.Receive as receive
 use Rattle.sender.specs.Send as send
@@ -24,7 +26,10 @@ numbered r = record { number = numberOf (r .answer); state = r .state }
 abbrev pub numberedMap : map.Result → Numbered
 numberedMap r = record { number = numberOf (r .answer); state = r .map }
 
--- of a reception or a send: the result word, the lent state or map, and the output buffer
+abbrev pub numberedAllocator : allocator.SetUp → Numbered
+numberedAllocator r = record { number = numberOf (r .answer); state = r .state }
+
+-- of any other call: the result word, the lent state or map, and the output buffer
 pub record Called : Type 0 where
   pub word : ℕ
   pub state : List ℕ
@@ -39,3 +44,6 @@ packed r = entry (wordOf (r .answer)) (r .state) (r .out)
 
 abbrev pub packedSend : send.Result → Called
 packedSend r = entry (sentWord (r .answer)) (r .map) (r .out)
+
+abbrev pub packedAllocation : allocate.Result → Called
+packedAllocation r = entry (allocationWord (r .answer)) (r .state) (r .out)

@@ -12,6 +12,9 @@ use Rattle.answers.specs.declared.Answer.{Answer}
 use Rattle.answers.specs.declared.Sent.{Sent}
 use Rattle.answers.specs.declared.Transfer.{Transfer}
 use Rattle.answers.specs.Sending as sending
+use Rattle.allocator.specs.Answer as allocator
+use Rattle.allocator.specs.Calls.{Call, resultOf}
+use Rattle.allocator.specs.declared.answer.Answer as allocator-answer
 use Rattle.rules.specs.Limits.{payloadMax}
 use Rattle.rules.specs.Range.{answered}
 
@@ -66,3 +69,13 @@ pub record WordLaws : Type 0 where
 
 abbrev pub sentWord : Sent → ℕ
 sentWord a = sending.numberOf a + (sending.dispatchIn a .frames * 2 ^ 8 + sending.dispatchIn a .transfer * 2 ^ 55)
+
+-- ── the result word of an allocator: the number in bits 0 to 7, the length of the reply in 8 to 12, where a reception has its length too ──
+
+abbrev pub allocationWord : allocator-answer.Answer → ℕ
+allocationWord a = allocator.numberOf a + allocator.lengthIn a * 2 ^ 8
+
+-- C reads both
+pub record AllocationWordLaws : Type 0 where
+  pub number : (m : List ℕ) (c : Call) → numberIn (allocationWord (resultOf m c .answer)) ≡ allocator.numberOf (resultOf m c .answer)
+  pub len : (m : List ℕ) (c : Call) → lengthIn (allocationWord (resultOf m c .answer)) ≡ allocator.lengthIn (resultOf m c .answer)

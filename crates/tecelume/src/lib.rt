@@ -1,11 +1,16 @@
 // The C interface: extern "C" entry points around the proved calls. include/tecelume.h documents them.
 mod word;
 
+use allocator::Request;
+use allocator_table::free::Reserved;
 use transport::Outgoing;
 ghost use mathlib.Core.Path.{_≡_};
 ghost use Rattle.tecelume.specs.Condition3.{wordBytes};
-ghost use Rattle.tecelume.specs.Entry.{version, numbered, numberedMap, entry, packed, packedSend};
-ghost use Rattle.tecelume.specs.Word.{WordLaws};
+ghost use Rattle.tecelume.specs.Entry.{version, numbered, numberedMap, numberedAllocator, entry, packed, packedSend, packedAllocation};
+ghost use Rattle.tecelume.specs.Word.{WordLaws, AllocationWordLaws};
+ghost use Rattle.allocator.specs.Allocate.{allocated};
+ghost use Rattle.allocator.specs.Setup as allocator;
+ghost use Rattle.allocator_table.specs.Layout as table;
 ghost use Rattle.id_map.specs.Layout as layout;
 ghost use Rattle.id_map.specs.Setup as setting;
 ghost use Rattle.receiver.specs.Receive.{arrivalOf, received};
@@ -110,9 +115,57 @@ pub extern "C" fn tecelume_signature(kind: u32, type_id: u32) -> u64
     types::signature(kind, type_id)
 }
 
+// The bytes of an allocator's state.
+#[no_mangle]
+pub extern "C" fn tecelume_allocator_size() -> u64
+    ensures { λ r. ⌜ r ≡ table.size ⌝ }
+{
+    allocator::size() as u64
+}
+
+// Makes a lent state an allocator with an empty table: 0 or 20.
+#[no_mangle]
+pub extern "C" fn tecelume_allocator_setup(state: &mut [u8]) -> u32
+    ensures { λ r. ⌜ record { number = r; state = now (state .exit) } ≡ numberedAllocator (allocator.afterSetup (now (state .entry))) ⌝ }
+{
+    allocator::setup(state).number()
+}
+
+// One Allocation message on a lent state: the number and, from bit 8 on, the length of the reply's payload.
+#[no_mangle]
+pub extern "C" fn tecelume_allocate_word(
+    state: &mut [u8],
+    own: u32,
+    marks_low: u64,
+    marks_high: u64,
+    source: u32,
+    payload: &[u8],
+    time: u64,
+    out: &mut [u8],
+) -> u64
+    ensures { λ r. ⌜ entry r (now (state .exit)) (now (out .exit)) ≡ packedAllocation (allocated (now (state .entry)) (record { reserved = record { own = own; low = «marks_low»; high = «marks_high» }; source = source; time = time }) (now (payload .entry)) (now (out .entry))) ⌝ }
+{
+    let reserved = Reserved {
+        own,
+        low: marks_low,
+        high: marks_high,
+    };
+    let q = Request {
+        reserved,
+        source,
+        time,
+    };
+    word::of_allocation(allocator::allocate(state, q, payload, out))
+}
+
 // What the result word of a reception holds: a number of RULES 4.10 or 20; and every value that is handed out fits its field and is read back from it.
 pub fn word_fields()
     ensures { λ _. ⌜ WordLaws ⌝ }
+{}
+
+// What the result word of an allocator holds, the same way.
+pub fn allocation_word_fields()
+    ensures { λ _. ⌜ AllocationWordLaws ⌝ }
 {}
 
 // RULES 14.14: condition 3, of what a C program reads.

@@ -1,11 +1,13 @@
 // Answers as numbers (RULES 13.3).
+use allocator::answer;
 use transport::Answer;
 use transport::Sent;
 use transport::Transfer;
 ghost use mathlib.Core.Path.{_≡_};
 ghost use Prim.Native.Nat.{_≤_, _<_};
+ghost use Rattle.allocator.specs.Laws.{Range};
 ghost use Rattle.answers.specs.Sending.{dispatchIn};
-ghost use Rattle.tecelume.specs.Word.{transferWord, wordOf, sentWord, TransferFits, Fits};
+ghost use Rattle.tecelume.specs.Word.{transferWord, wordOf, sentWord, allocationWord, TransferFits, Fits};
 
 fn of_transfer(t: Transfer) -> u64
     requires { ⌜ TransferFits t ⌝ }
@@ -33,4 +35,11 @@ pub fn of_sent(a: Sent) -> u64
 {
     let d = a.dispatch();
     a.number() + (d.frames as u64 * 0x100 + d.transfer as u64 * 0x80000000000000)
+}
+
+pub fn of_allocation(a: answer::Answer) -> u64
+    requires { ⌜ Range a ⌝ }
+    ensures { λ r. ⌜ r ≡ allocationWord a ⌝ }
+{
+    a.number() as u64 + a.length() as u64 * 0x100
 }

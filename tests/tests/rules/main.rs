@@ -1,6 +1,7 @@
 //! The second implementation against the rules (docs/RULES.md): sample values, published examples
 //! and the edges of each rule.
 
+mod allocation;
 mod allocation_log;
 mod checksums;
 mod lent_state;

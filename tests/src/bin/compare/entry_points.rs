@@ -1,6 +1,7 @@
 //! The entry points under comparison as tables of functions, and the reference's own tables.
 
 use crate::lent::Lent;
+use reference::allocator::{self, Request};
 use reference::codec::{Decode, Encode};
 use reference::definitions;
 use reference::entry;
@@ -14,6 +15,7 @@ use reference::state;
 type Setup = fn(&mut Lent, u32, &mut Lent) -> u32;
 pub type Receive = fn(&mut Arrival) -> u64;
 pub type Send = fn(&mut Departure) -> u64;
+pub type Allocate = fn(&mut Question) -> u64;
 /// Kind, type ID.
 pub type Signature = fn(u32, u32) -> u64;
 
@@ -32,6 +34,13 @@ pub struct Sending {
 }
 
 #[derive(Clone, Copy)]
+pub struct Allocating {
+    pub size: fn() -> u64,
+    pub setup: fn(&mut Lent) -> u32,
+    pub allocate: Allocate,
+}
+
+#[derive(Clone, Copy)]
 pub struct Serialization {
     pub decode: Decode,
     pub encode: Encode,
@@ -43,6 +52,7 @@ pub struct EntryPoints {
     pub version: fn() -> u32,
     pub reception: Reception,
     pub sending: Sending,
+    pub allocating: Allocating,
     pub signature: Signature,
     pub serialization: Option<Serialization>,
 }
@@ -96,6 +106,35 @@ impl Numbers {
     }
 }
 
+/// The arguments of allocate.
+pub struct Question<'a> {
+    pub state: &'a mut Lent,
+    pub context: Context,
+    pub payload: &'a mut Lent,
+    pub out: &'a mut Lent,
+}
+
+/// All of an allocate call but its buffers.
+#[derive(Clone, Copy, Debug)]
+pub struct Context {
+    pub own: u32,
+    pub marks: [u64; 2],
+    pub source: u32,
+    pub time: u64,
+}
+
+impl Context {
+    pub fn with_payload<'a>(&self, payload: &'a [u8]) -> Request<'a> {
+        Request {
+            own: self.own,
+            marks: self.marks,
+            source: self.source,
+            payload,
+            time: self.time,
+        }
+    }
+}
+
 /// The reference itself, over lent bytes alone.
 pub const REFERENCE: EntryPoints = EntryPoints {
     version: || entry::VERSION,
@@ -108,6 +147,11 @@ pub const REFERENCE: EntryPoints = EntryPoints {
         size: || map::SIZE as u64,
         setup: |map| entry::map_setup(map.content_mut()),
         send,
+    },
+    allocating: Allocating {
+        size: || allocator::SIZE as u64,
+        setup: |state| entry::allocator_setup(state.content_mut()),
+        allocate,
     },
     signature: definitions::signature,
     serialization: Some(Serialization {
@@ -134,4 +178,9 @@ pub fn frames_in(word: u64) -> u64 {
 pub fn send(call: &mut Departure) -> u64 {
     let outgoing = call.numbers.with_payload(call.payload.content());
     entry::send(call.map.content_mut(), &outgoing, call.out.content_mut())
+}
+
+pub fn allocate(call: &mut Question) -> u64 {
+    let request = call.context.with_payload(call.payload.content());
+    entry::allocate(call.state.content_mut(), &request, call.out.content_mut())
 }

@@ -1,6 +1,8 @@
 //! The archive's entry points, called as C would call them.
 
-use crate::entry_points::{Arrival, Departure, EntryPoints, Reception, Sending};
+use crate::entry_points::{
+    Allocating, Arrival, Departure, EntryPoints, Question, Reception, Sending,
+};
 use crate::lent::Lent;
 
 #[link(name = "tecelume", kind = "static")]
@@ -44,6 +46,21 @@ extern "C" {
         out: *mut u8,
         out_length: usize,
     ) -> u64;
+    fn tecelume_allocator_size() -> u64;
+    fn tecelume_allocator_setup(state: *mut u8, state_length: usize) -> u32;
+    fn tecelume_allocate_word(
+        state: *mut u8,
+        state_length: usize,
+        own: u32,
+        marks_low: u64,
+        marks_high: u64,
+        source: u32,
+        payload: *const u8,
+        payload_length: usize,
+        time: u64,
+        out: *mut u8,
+        out_length: usize,
+    ) -> u64;
     fn tecelume_signature(kind: u32, type_id: u32) -> u64;
 }
 
@@ -58,6 +75,11 @@ pub const ARCHIVE: EntryPoints = EntryPoints {
         size: || unsafe { tecelume_map_size() },
         setup: |map| unsafe { tecelume_map_setup(map.pointer(), map.length()) },
         send,
+    },
+    allocating: Allocating {
+        size: || unsafe { tecelume_allocator_size() },
+        setup: |state| unsafe { tecelume_allocator_setup(state.pointer(), state.length()) },
+        allocate,
     },
     signature: |kind, type_id| unsafe { tecelume_signature(kind, type_id) },
     serialization: None,
@@ -108,6 +130,25 @@ fn send(call: &mut Departure) -> u64 {
             numbers.time,
             numbers.transfer_id,
             numbers.discriminator,
+            call.out.pointer(),
+            call.out.length(),
+        )
+    }
+}
+
+fn allocate(call: &mut Question) -> u64 {
+    let context = &call.context;
+    unsafe {
+        tecelume_allocate_word(
+            call.state.pointer(),
+            call.state.length(),
+            context.own,
+            context.marks[0],
+            context.marks[1],
+            context.source,
+            call.payload.pointer(),
+            call.payload.length(),
+            context.time,
             call.out.pointer(),
             call.out.length(),
         )

@@ -3,6 +3,8 @@
 //! Without `--self`, `--mutant`, `--mutants` or `--codec` the other side is the archive, which the
 //! feature `link` links.
 
+mod allocations;
+mod allocator_mutants;
 mod cables;
 mod entry_points;
 mod faults;
@@ -15,6 +17,7 @@ mod mutants;
 mod options;
 mod outgoing;
 mod payloads;
+mod questions;
 mod random;
 mod reason_mutants;
 mod receptions;
@@ -24,9 +27,11 @@ mod setups;
 mod signatures;
 mod situations;
 mod states;
+mod tables;
 mod tally;
 mod traffic;
 
+use allocations::Allocations;
 use entry_points::{EntryPoints, REFERENCE};
 use mutants::{Mutant, Part};
 use options::{Options, Side};
@@ -148,10 +153,12 @@ fn parts(side: &EntryPoints, options: &Options, seed: u64) -> Result<Vec<Tally>,
     receptions.run(options.frames)?;
     let mut sends = Sends::new(side.sending, seed);
     sends.run(options.sends)?;
+    let mut allocations = Allocations::new(side.allocating, seed);
+    allocations.run(options.allocations)?;
     let mut signatures = Signatures::new(side.signature, seed);
     signatures.run(options.setups)?;
     let mut tallies = vec![setups.tally, receptions.tally, sends.setups, sends.tally];
-    tallies.push(signatures.tally);
+    tallies.extend([allocations.setups, allocations.tally, signatures.tally]);
     if let Some(serialization) = side.serialization {
         let mut payloads = Payloads::new(serialization, seed);
         payloads.run(options.messages)?;
@@ -207,6 +214,9 @@ fn is_caught(mutant: &Mutant, options: &Options) -> bool {
     let result = match mutant.part {
         Part::Receptions => Receptions::new(side.reception, options.seed).run(options.frames),
         Part::Sends => Sends::new(side.sending, options.seed).run(options.sends),
+        Part::Allocations => {
+            Allocations::new(side.allocating, options.seed).run(options.allocations)
+        }
         Part::Payloads => match side.serialization {
             Some(serialization) => Payloads::new(serialization, options.seed).run(options.messages),
             None => Ok(()),

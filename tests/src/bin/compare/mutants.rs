@@ -1,9 +1,10 @@
 //! Wrong variants of the reference: the errors that tempt and some at the edges. Each must
 //! be caught, or the comparison shows nothing.
 
+use crate::allocator_mutants;
 use crate::entry_points::{
-    frames_in, receive, send, Arrival, Departure, EntryPoints, Receive, Reception, Send, Sending,
-    Serialization, REFERENCE,
+    frames_in, receive, send, Allocate, Allocating, Arrival, Departure, EntryPoints, Receive,
+    Reception, Send, Sending, Serialization, REFERENCE,
 };
 use crate::{interface_mutants, reason_mutants};
 use reference::bits::Refusal;
@@ -24,6 +25,7 @@ pub const PASSED_OVER: RangeInclusive<u64> = 30..=34;
 pub enum Part {
     Receptions,
     Sends,
+    Allocations,
     Payloads,
     Requests,
 }
@@ -70,10 +72,12 @@ pub fn all() -> Vec<Mutant> {
         reading("codec-sign-bit-lost", Part::Requests, sign_bit_lost),
         reading("unused-place-not-zero", Part::Payloads, unused_place),
     ];
+    let allocators = allocator_mutants::ALL.map(|(name, allocate)| allocating(name, allocate));
     others
         .into_iter()
         .chain(interfaces)
         .chain(reasons)
+        .chain(allocators)
         .collect()
 }
 
@@ -102,6 +106,21 @@ fn sending(name: &'static str, send: Send) -> Mutant {
         part: Part::Sends,
         side: EntryPoints {
             sending,
+            ..REFERENCE
+        },
+    }
+}
+
+fn allocating(name: &'static str, allocate: Allocate) -> Mutant {
+    let allocating = Allocating {
+        allocate,
+        ..REFERENCE.allocating
+    };
+    Mutant {
+        name,
+        part: Part::Allocations,
+        side: EntryPoints {
+            allocating,
             ..REFERENCE
         },
     }

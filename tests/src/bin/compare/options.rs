@@ -22,6 +22,7 @@ pub struct Options {
     pub setups: u64,
     pub frames: u64,
     pub sends: u64,
+    pub allocations: u64,
     pub messages: u64,
     /// How many lines the codec program gets.
     pub lines: u64,
@@ -31,8 +32,8 @@ pub struct Options {
 
 const USAGE: &str =
     "usage: compare [--self | --mutants | --mutant NAME | --codec PATH] [--seed N] \
-    [--rounds N | --seconds N] [--setups N] [--frames N] [--sends N] [--messages N] [--lines N] \
-    [--minimum N]";
+    [--rounds N | --seconds N] [--setups N] [--frames N] [--sends N] [--allocations N] \
+    [--messages N] [--lines N] [--minimum N]";
 
 impl Options {
     pub fn parse(mut words: impl Iterator<Item = String>) -> Result<Options, String> {
@@ -44,6 +45,7 @@ impl Options {
             setups: 20_000,
             frames: 600_000,
             sends: 200_000,
+            allocations: 100_000,
             messages: 100_000,
             lines: 300_000,
             minimum: 1000,
@@ -71,6 +73,7 @@ impl Options {
             "--setups" => Ok(&mut self.setups),
             "--frames" => Ok(&mut self.frames),
             "--sends" => Ok(&mut self.sends),
+            "--allocations" => Ok(&mut self.allocations),
             "--messages" => Ok(&mut self.messages),
             "--lines" => Ok(&mut self.lines),
             "--minimum" => Ok(&mut self.minimum),

@@ -1,0 +1,10 @@
+pub mod Numbers
+pub mod Walk
+pub mod Soundness
+pub mod Moved
+pub mod Search
+pub mod Tables
+pub mod Room
+pub mod Inserted
+pub mod Views
+pub mod Lasting

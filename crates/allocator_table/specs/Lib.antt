@@ -1,0 +1,4 @@
+pub mod Limits
+pub mod Table
+pub mod Layout
+pub mod inside

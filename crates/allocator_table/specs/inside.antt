@@ -1,0 +1,3 @@
+-- What the code computes: no public contract cites it.
+pub mod Code
+pub mod Sound

@@ -1,0 +1,29 @@
+/* What the sentences of header.c and allocator.c share. */
+#ifndef SENTENCE_H
+#define SENTENCE_H
+
+#include <stdbool.h>
+
+/* Ends the program, with the name of the sentence, if this does not hold. */
+void check(bool holds, const char *what, int line);
+
+#define CHECK(condition) check((condition), #condition, __LINE__)
+
+/* Those of allocator.c. */
+void allocator_and_library(void);
+void dialog_of_an_allocatee(void);
+void same_node_id_again(void);
+void which_node_id(void);
+void marks_are_given_anew(void);
+void only_one_unmarked(void);
+void next_message_in_time(void);
+void one_node_at_a_time(void);
+void copy_of_a_message(void);
+void ignored_messages(void);
+void no_node_id_free(void);
+void refused_allocations(void);
+void allocator_kept(void);
+void table_of_an_allocator(void);
+void allocator_faults(void);
+
+#endif
