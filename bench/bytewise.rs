@@ -1,6 +1,15 @@
 //! A plain codec, byte by byte, as one writes it by hand for one message: the opponent of messages.rs. It answers as the proved one
 //! does, by the same rules, and gives the same numbers through C.
 
+/// The nearest number to the given one that a field of so many bits holds.
+fn clip(number: i64, bits: u32) -> i64 {
+    number.clamp(0, (1 << bits) - 1)
+}
+
+fn byte(number: i64) -> u8 {
+    clip(number, 8) as u8
+}
+
 /// The five numbers of a status. The sub-mode is zero both ways.
 struct Status {
     uptime: u32,
@@ -19,17 +28,13 @@ impl Status {
         }
     }
 
-    /// None for a number that is too large.
-    fn of(v: &[u64; 5]) -> Option<Status> {
-        if v[1] > 3 || v[2] > 7 {
-            return None;
+    fn of(v: &[i64; 5]) -> Status {
+        Status {
+            uptime: clip(v[0], 32) as u32,
+            health: clip(v[1], 2) as u8,
+            mode: clip(v[2], 3) as u8,
+            vendor: clip(v[4], 16) as u16,
         }
-        Some(Status {
-            uptime: v[0].try_into().ok()?,
-            health: v[1] as u8,
-            mode: v[2] as u8,
-            vendor: v[4].try_into().ok()?,
-        })
     }
 
     fn write(&self, out: &mut [u8; 7]) {
@@ -86,8 +91,10 @@ impl<'a> Info<'a> {
         })
     }
 
+    /// None for a list that is not allowed.
     fn of(
-        v: &[u64; 12],
+        v: &[i64; 11],
+        image_crc: u64,
         unique_id: &'a [u8],
         certificate: &'a [u8],
         name: &'a [u8],
@@ -95,13 +102,12 @@ impl<'a> Info<'a> {
         if certificate.len() > 255 || name.len() > 80 || !is_name(name) {
             return None;
         }
-        let byte = |number: u64| u8::try_from(number).ok();
         Some(Info {
-            status: Status::of(v.first_chunk()?)?,
-            software: [byte(v[5])?, byte(v[6])?, byte(v[7])?],
-            commit: v[8].try_into().ok()?,
-            image_crc: v[9],
-            hardware: [byte(v[10])?, byte(v[11])?],
+            status: Status::of(v.first_chunk()?),
+            software: [byte(v[5]), byte(v[6]), byte(v[7])],
+            commit: clip(v[8], 32) as u32,
+            image_crc,
+            hardware: [byte(v[9]), byte(v[10])],
             unique_id: unique_id.try_into().ok()?,
             certificate,
             name,
@@ -208,18 +214,19 @@ impl<'a> Battery<'a> {
         })
     }
 
-    fn of(floats: &[f32; 7], v: &[u64; 6], name: &'a [u8]) -> Option<Battery<'a>> {
-        if v[0] > 2047 || v[1] > 127 || v[2] > 127 || v[3] > 127 || name.len() > 31 {
+    /// None for a name that is too long.
+    fn of(floats: &[f32; 7], v: &[i64; 6], name: &'a [u8]) -> Option<Battery<'a>> {
+        if name.len() > 31 {
             return None;
         }
         Some(Battery {
             floats: *floats,
-            flags: v[0] as u16,
-            health: v[1] as u8,
-            charge: v[2] as u8,
-            deviation: v[3] as u8,
-            id: v[4].try_into().ok()?,
-            model: v[5].try_into().ok()?,
+            flags: clip(v[0], 11) as u16,
+            health: clip(v[1], 7) as u8,
+            charge: clip(v[2], 7) as u8,
+            deviation: clip(v[3], 7) as u8,
+            id: byte(v[4]),
+            model: clip(v[5], 32) as u32,
             name,
         })
     }
@@ -268,13 +275,12 @@ pub unsafe extern "C" fn status_decode(payload: *const u8, length: usize) -> u64
 }
 
 #[inline(never)]
-pub unsafe extern "C" fn status_encode(v: &[u64; 5], out: *mut u8, room: usize) -> u64 {
+pub unsafe extern "C" fn status_encode(v: &[i64; 5], out: *mut u8, room: usize) -> u64 {
     let out = std::slice::from_raw_parts_mut(out, room);
-    word(match (Status::of(v), out.first_chunk_mut()) {
-        (None, _) => Err(17),
-        (_, None) => Err(8),
-        (Some(status), Some(seven)) => {
-            status.write(seven);
+    word(match out.first_chunk_mut() {
+        None => Err(8),
+        Some(seven) => {
+            Status::of(v).write(seven);
             Ok(7)
         }
     })
@@ -287,7 +293,8 @@ pub unsafe extern "C" fn info_decode(payload: *const u8, length: usize) -> u64 {
 
 #[inline(never)]
 pub unsafe extern "C" fn info_encode(
-    v: &[u64; 12],
+    v: &[i64; 11],
+    image_crc: u64,
     unique_id: *const u8,
     unique_id_length: usize,
     certificate: *const u8,
@@ -302,7 +309,7 @@ pub unsafe extern "C" fn info_encode(
         bytes(certificate, certificate_length),
         bytes(name, name_length),
     );
-    let info = Info::of(v, unique_id, certificate, name).ok_or(17);
+    let info = Info::of(v, image_crc, unique_id, certificate, name).ok_or(17);
     word(info.and_then(|info| info.write(std::slice::from_raw_parts_mut(out, room))))
 }
 
@@ -322,7 +329,7 @@ pub unsafe extern "C" fn battery_decode(
 #[inline(never)]
 pub unsafe extern "C" fn battery_encode(
     floats: &[f32; 7],
-    v: &[u64; 6],
+    v: &[i64; 6],
     name: *const u8,
     name_length: usize,
     out: *mut u8,

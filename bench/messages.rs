@@ -10,9 +10,10 @@ use std::hint::black_box;
 use std::time::Instant;
 
 type Decode = unsafe extern "C" fn(*const u8, usize) -> u64;
-type EncodeStatus = unsafe extern "C" fn(&[u64; 5], *mut u8, usize) -> u64;
+type EncodeStatus = unsafe extern "C" fn(&[i64; 5], *mut u8, usize) -> u64;
 type EncodeInfo = unsafe extern "C" fn(
-    &[u64; 12],
+    &[i64; 11],
+    u64,
     *const u8,
     usize,
     *const u8,
@@ -25,23 +26,24 @@ type EncodeInfo = unsafe extern "C" fn(
 
 type DecodeBattery = unsafe extern "C" fn(*const u8, usize, &mut [f32; 7]) -> u64;
 type EncodeBattery =
-    unsafe extern "C" fn(&[f32; 7], &[u64; 6], *const u8, usize, *mut u8, usize) -> u64;
+    unsafe extern "C" fn(&[f32; 7], &[i64; 6], *const u8, usize, *mut u8, usize) -> u64;
 
 extern "C" {
     fn bench_battery_decode(payload: *const u8, length: usize, floats: &mut [f32; 7]) -> u64;
     fn bench_battery_encode(
         floats: &[f32; 7],
-        v: &[u64; 6],
+        v: &[i64; 6],
         name: *const u8,
         name_length: usize,
         out: *mut u8,
         room: usize,
     ) -> u64;
     fn bench_status_decode(payload: *const u8, length: usize) -> u64;
-    fn bench_status_encode(v: &[u64; 5], out: *mut u8, room: usize) -> u64;
+    fn bench_status_encode(v: &[i64; 5], out: *mut u8, room: usize) -> u64;
     fn bench_info_decode(payload: *const u8, length: usize) -> u64;
     fn bench_info_encode(
-        v: &[u64; 12],
+        v: &[i64; 11],
+        image_crc: u64,
         unique_id: *const u8,
         unique_id_length: usize,
         certificate: *const u8,
@@ -59,17 +61,20 @@ const TURNS: usize = 200;
 const ROOM: usize = 512;
 
 /// What a response is made of.
+#[derive(Clone)]
 struct Info {
-    numbers: [u64; 12],
+    numbers: [i64; 11],
+    image_crc: u64,
     unique_id: Vec<u8>,
     certificate: Vec<u8>,
     name: Vec<u8>,
 }
 
 /// What a pack's state is made of.
+#[derive(Clone)]
 struct Battery {
     floats: [f32; 7],
-    numbers: [u64; 6],
+    numbers: [i64; 6],
     name: Vec<u8>,
 }
 
@@ -85,11 +90,15 @@ impl Numbers {
         (self.0 >> 33) % end
     }
 
-    fn bits(&mut self, bits: u32) -> u64 {
-        (self.below(1 << 31) << 33 ^ self.below(1 << 31) << 2) >> (64 - bits)
+    fn bits(&mut self, bits: u32) -> i64 {
+        (self.bits_64() >> (64 - bits)) as i64
     }
 
-    fn status(&mut self) -> [u64; 5] {
+    fn bits_64(&mut self) -> u64 {
+        self.below(1 << 31) << 33 ^ self.below(1 << 31) << 2
+    }
+
+    fn status(&mut self) -> [i64; 5] {
         [self.bits(32), self.bits(2), self.bits(3), 0, self.bits(16)]
     }
 
@@ -106,14 +115,16 @@ impl Numbers {
 
     /// A response as nodes send it: with a certificate or without, and a name like org.example.node.
     fn info(&mut self, certificate: usize) -> Info {
-        let mut numbers = [0; 12];
+        let mut numbers = [0; 11];
         numbers[..5].copy_from_slice(&self.status());
-        for (at, bits) in [(5, 8), (6, 8), (7, 8), (8, 32), (9, 64), (10, 8), (11, 8)] {
+        for (at, bits) in [(5, 8), (6, 8), (7, 8), (8, 32), (9, 8), (10, 8)] {
             numbers[at] = self.bits(bits);
         }
+        let image_crc = self.bits_64();
         let mut list = |length: usize| (0..length).map(|_| self.below(256) as u8).collect();
         Info {
             numbers,
+            image_crc,
             unique_id: list(16),
             certificate: list(certificate),
             name: b"org.example.flight-controller_7"[..16 + numbers[0] as usize % 15].to_vec(),
@@ -144,6 +155,7 @@ fn encode_info(call: EncodeInfo, info: &Info, out: &mut [u8]) -> u64 {
     unsafe {
         call(
             &info.numbers,
+            info.image_crc,
             u.as_ptr(),
             u.len(),
             c.as_ptr(),
@@ -156,7 +168,7 @@ fn encode_info(call: EncodeInfo, info: &Info, out: &mut [u8]) -> u64 {
     }
 }
 
-fn encode_status(call: EncodeStatus, numbers: &[u64; 5], out: &mut [u8]) -> u64 {
+fn encode_status(call: EncodeStatus, numbers: &[i64; 5], out: &mut [u8]) -> u64 {
     unsafe { call(numbers, out.as_mut_ptr(), out.len()) }
 }
 
@@ -183,13 +195,22 @@ fn same_writings(ours: impl Fn(&mut [u8]) -> u64, plain: impl Fn(&mut [u8]) -> u
     assert_eq!(first, second);
 }
 
-fn check(statuses: &[[u64; 5]], infos: &[Info]) {
+/// The numbers themselves, and with each of them outside of its field, to either side.
+fn strange<const N: usize>(numbers: &[i64; N]) -> Vec<[i64; N]> {
+    let mut all = vec![*numbers];
+    for (at, number) in numbers.iter().enumerate() {
+        for outside in [i64::MIN, -1 - number, number + (1 << 32), i64::MAX] {
+            let mut one = *numbers;
+            one[at] = outside;
+            all.push(one);
+        }
+    }
+    all
+}
+
+fn check(statuses: &[[i64; 5]], infos: &[Info]) {
     for numbers in statuses {
-        for at in [0, 1, 2, 3, 4, 5] {
-            let mut strange = *numbers;
-            if let Some(number) = strange.get_mut(at) {
-                *number += 1 << 32;
-            }
+        for strange in strange(numbers) {
             for room in 0..9 {
                 let by = |call| move |out: &mut [u8]| encode_status(call, &strange, out);
                 same_writings(by(bench_status_encode), by(bytewise::status_encode), room);
@@ -200,14 +221,44 @@ fn check(statuses: &[[u64; 5]], infos: &[Info]) {
         same_readings(bench_status_decode, bytewise::status_decode, &out);
     }
     for info in infos {
-        for room in [0, 40, 41, 60, 300, ROOM] {
-            let by = |call| move |out: &mut [u8]| encode_info(call, info, out);
-            same_writings(by(bench_info_encode), by(bytewise::info_encode), room);
+        for strange in infos_like(info) {
+            for room in [0, 40, 41, 60, 300, ROOM] {
+                let by = |call| {
+                    let strange = &strange;
+                    move |out: &mut [u8]| encode_info(call, strange, out)
+                };
+                same_writings(by(bench_info_encode), by(bytewise::info_encode), room);
+            }
         }
         let mut out = [0; ROOM];
         let length = encode_info(bench_info_encode, info, &mut out) as usize;
         same_readings(bench_info_decode, bytewise::info_decode, &out[..length]);
     }
+}
+
+/// The response itself, with strange numbers, and with each list as it is not allowed.
+fn infos_like(info: &Info) -> Vec<Info> {
+    let spoilt: [fn(&mut Info); 5] = [
+        |info| info.unique_id.truncate(15),
+        |info| info.certificate.resize(256, 0),
+        |info| info.name.clear(),
+        |info| info.name.resize(81, b'a'),
+        |info| info.name.push(b'A'),
+    ];
+    let with_numbers = |numbers| Info {
+        numbers,
+        ..info.clone()
+    };
+    let mut all: Vec<_> = strange(&info.numbers)
+        .into_iter()
+        .map(with_numbers)
+        .collect();
+    for spoil in spoilt {
+        let mut one = info.clone();
+        spoil(&mut one);
+        all.push(one);
+    }
+    all
 }
 
 /// Everyday floats, and those at the edges, on both sides.
@@ -233,16 +284,15 @@ fn check_batteries(batteries: &[Battery]) {
         for (place, float) in floats.iter_mut().enumerate().skip(at % 4) {
             *float = f32::from_bits(edges[(at + place) % edges.len()]);
         }
-        for place in 0..7 {
-            let mut strange = Battery {
-                floats,
-                numbers: battery.numbers,
-                name: battery.name.clone(),
+        let edged = Battery {
+            floats,
+            ..battery.clone()
+        };
+        for numbers in strange(&battery.numbers) {
+            let strange = Battery {
+                numbers,
+                ..edged.clone()
             };
-            match strange.numbers.get_mut(place) {
-                Some(number) => *number += 1 << 32,
-                None => (),
-            }
             for room in [0, 22, 23, 40, ROOM] {
                 let by = |call| {
                     let strange = &strange;
@@ -252,12 +302,7 @@ fn check_batteries(batteries: &[Battery]) {
             }
         }
         let mut out = [0; ROOM];
-        let strange = Battery {
-            floats,
-            numbers: battery.numbers,
-            name: battery.name.clone(),
-        };
-        let length = encode_battery(bench_battery_encode, &strange, &mut out) as usize;
+        let length = encode_battery(bench_battery_encode, &edged, &mut out) as usize;
         for end in (0..=length).chain([55]) {
             let (mut first, mut second) = ([1.0; 7], [1.0; 7]);
             let ours = decode_battery(bench_battery_decode, &out[..end], &mut first);
@@ -298,7 +343,7 @@ fn row(name: &str, goal: f64, (ours, plain): (f64, f64)) {
     );
 }
 
-fn status_rows(statuses: &[[u64; 5]]) {
+fn status_rows(statuses: &[[i64; 5]]) {
     let mut out = [0; ROOM];
     let mut payloads = vec![[0; 7]; statuses.len()];
     for (numbers, payload) in statuses.iter().zip(&mut payloads) {

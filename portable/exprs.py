@@ -76,9 +76,21 @@ def arithmetic(c, shift=False, types=('int',)):
     return rule
 
 
+def signed_less(a, b):
+    """With the sign bit turned, signed numbers have the order of unsigned ones."""
+    def turned(e):
+        sign = 1 << e.type[1] - 1
+        if e.constant is not None:
+            return number(e.constant ^ sign, e.type[1])
+        return Expr(f'{e.inner()} ^ {number(sign, e.type[1]).text}', e.type, atom=False)
+    return comparison('<', '>=')(turned(a), turned(b))
+
+
+# A signed number is its bits in two's complement, in the unsigned type of its width: a difference has the same bits as an unsigned one.
 OP2 = {
     ('Add', 'Unsigned'): arithmetic('+'),
     ('Sub', 'Unsigned'): arithmetic('-'),
+    ('Sub', 'Signed'): arithmetic('-'),
     ('Mul', 'Unsigned'): arithmetic('*'),
     ('Div', 'Unsigned'): arithmetic('/'),
     ('Rem', 'Unsigned'): arithmetic('%'),
@@ -90,6 +102,7 @@ OP2 = {
     ('Eq',): comparison('==', '!=', types=('int', 'bool')),
     ('Ne',): comparison('!=', '==', types=('int', 'bool')),
     ('Lt', 'Unsigned'): comparison('<', '>='),
+    ('Lt', 'Signed'): signed_less,
     ('Le', 'Unsigned'): comparison('<=', '>'),
 }
 
@@ -117,10 +130,17 @@ def leading_zeros(a):
     return Expr(f'leading_zeros({a.text}, {a.type[1]}u)', ('int', 32))
 
 
+def same_bits(a):
+    """A cast of 64 bits to another sign. By the proofs the number is in both types."""
+    return a if a.type == ('int', 64) else cast(a, 64)
+
+
 OP1 = {
     ('Not',): negation,
     ('LeadingZeros',): leading_zeros,
     **{('Cast', 'Unsigned', 'Unsigned', width): lambda a, width=width: cast(a, width) for width in (8, 16, 32, 64)},
+    ('Cast', 'Unsigned', 'Signed', 64): same_bits,
+    ('Cast', 'Signed', 'Unsigned', 64): same_bits,
 }
 HELPERS = {('LeadingZeros',): LEADING_ZEROS}
 

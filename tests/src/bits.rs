@@ -1,7 +1,8 @@
 //! Fields of a serialized message, a bit at a time (RULES 9).
 //!
 //! A number is cut into octets from its low end; each, the last one perhaps short, goes highest
-//! bit first into bytes filled from the top.
+//! bit first into bytes filled from the top. Numbers are held in 128 bits, wider than any field, so
+//! that one too large or too small for its field is still known as such.
 
 /// Why a message is not read or written.
 #[derive(Clone, Copy, Debug, PartialEq, Eq)]
@@ -40,9 +41,9 @@ fn octets(bits: u32) -> impl Iterator<Item = (u32, u32)> {
 }
 
 /// The number that so many bits stand for in two's complement.
-pub fn signed(pattern: u64, bits: u32) -> i64 {
+pub fn signed(pattern: i128, bits: u32) -> i128 {
     let negative = pattern >> (bits - 1) & 1 == 1;
-    pattern as i64 - if negative { 1i64 << bits } else { 0 }
+    pattern - if negative { 1 << bits } else { 0 }
 }
 
 pub struct Reader<'a> {
@@ -58,7 +59,7 @@ impl<'a> Reader<'a> {
         }
     }
 
-    pub fn number(&mut self, bits: u32) -> Result<u64, Refusal> {
+    pub fn number(&mut self, bits: u32) -> Result<i128, Refusal> {
         let mut value = 0;
         for (low, width) in octets(bits) {
             for place in (0..width).rev() {
@@ -68,14 +69,14 @@ impl<'a> Reader<'a> {
         Ok(value)
     }
 
-    fn bit(&mut self) -> Result<u64, Refusal> {
+    fn bit(&mut self) -> Result<i128, Refusal> {
         let byte = self
             .payload
             .get(self.position / 8)
             .ok_or(Refusal::PayloadEnds)?;
         let bit = byte >> (7 - self.position % 8) & 1;
         self.position += 1;
-        Ok(u64::from(bit))
+        Ok(bit.into())
     }
 
     /// So many bytes as a part of the payload. Every list of bytes of every type starts at a byte.
@@ -108,7 +109,7 @@ impl<'a> Reader<'a> {
 
     /// A list that ends the transfer, of items of 8 bits or more: as many as the rest of the
     /// payload holds. The bits left over are padding.
-    pub fn last_numbers(&mut self, bits: u32, most: usize) -> Result<Vec<u64>, Refusal> {
+    pub fn last_numbers(&mut self, bits: u32, most: usize) -> Result<Vec<i128>, Refusal> {
         let rest = 8 * self.payload.len() - self.position;
         let (count, left) = (rest / bits as usize, rest % bits as usize);
         if count > most || left >= 8 {
@@ -135,7 +136,7 @@ impl<'a> Reader<'a> {
     }
 }
 
-/// Gathers bits, and whether any field was given a value it does not take.
+/// Gathers bits, and whether any list was given that its field does not take.
 #[derive(Default)]
 pub struct Writer {
     bytes: Vec<u8>,
@@ -144,28 +145,31 @@ pub struct Writer {
 }
 
 impl Writer {
-    /// Writes a number, by its low bits; one that does not fit is refused in the end.
-    pub fn number(&mut self, value: u64, bits: u32) {
-        self.require(bits == 64 || value >> bits == 0);
+    /// Writes a number into a saturated field: the nearest that the field holds.
+    pub fn number(&mut self, value: i128, bits: u32) {
+        self.truncated(value.clamp(0, (1 << bits) - 1), bits);
+    }
+
+    /// Writes a signed number into a saturated field, in two's complement.
+    pub fn signed(&mut self, value: i128, bits: u32) {
+        let half = 1 << (bits - 1);
+        self.truncated(value.clamp(-half, half - 1), bits);
+    }
+
+    /// Writes a number into a truncated field, signed or not: its low bits.
+    pub fn truncated(&mut self, value: i128, bits: u32) {
         for (low, width) in octets(bits) {
             for place in (0..width).rev() {
-                self.bit(value >> (low + place) & 1);
+                self.bit(value >> (low + place) & 1 == 1);
             }
         }
     }
 
-    /// Writes a signed number in two's complement.
-    pub fn signed(&mut self, value: i64, bits: u32) {
-        let half = 1i64 << (bits - 1);
-        self.require((-half..half).contains(&value));
-        self.number(value as u64 & ((1u64 << bits) - 1), bits);
-    }
-
-    fn bit(&mut self, bit: u64) {
+    fn bit(&mut self, bit: bool) {
         if self.bits.is_multiple_of(8) {
             self.bytes.push(0);
         }
-        if bit == 1 {
+        if bit {
             *self.bytes.last_mut().expect("pushed") |= 128 >> (self.bits % 8);
         }
         self.bits += 1;
@@ -177,12 +181,12 @@ impl Writer {
 
     pub fn bytes(&mut self, bytes: &[u8]) {
         for &byte in bytes {
-            self.number(u64::from(byte), 8);
+            self.number(byte.into(), 8);
         }
     }
 
     pub fn list(&mut self, items: &[u8], most: usize) {
-        self.number(items.len() as u64, length_bits(most));
+        self.number(items.len() as i128, length_bits(most));
         self.last_list(items, most);
     }
 

@@ -28,24 +28,44 @@ pub const FLOATS: [&str; 7] = [
     "hours_to_full_charge",
 ];
 
-/// What a field is given as, or comes out as. A number outside of 64 bits is none.
+/// What a field is given as, or comes out as. A number beyond 128 bits is the nearest that is not,
+/// which is as far outside of every field.
 #[derive(Clone, Debug, PartialEq, Eq)]
 pub enum Value {
-    Number(Option<u64>),
+    Number(i128),
     List(Vec<u8>),
-    /// Signed numbers; one beyond 64 bits is the nearest that is not.
-    Numbers(Vec<i64>),
+    Numbers(Vec<i128>),
 }
 
 pub type Fields = Vec<(String, Value)>;
 
+/// What a line asks for: to read a payload, or to write fields into so much room.
+pub enum Asked {
+    Decode(MessageType, Vec<u8>),
+    Encode(MessageType, usize, Given),
+}
+
 /// The answer to a line, with messages read and written by these calls.
 pub fn answer(decode: Decode, encode: Encode, line: &[u8]) -> String {
-    request(decode, encode, line).unwrap_or_else(|| "?".to_string())
+    match asked(line) {
+        None => "?".to_string(),
+        Some(Asked::Decode(message_type, payload)) => decoded(decode(message_type, &payload)),
+        Some(Asked::Encode(message_type, room, given)) => {
+            let mut out = [0; MOST_ROOM];
+            let result = match given.message(message_type) {
+                Some(message) => encode(&message, &mut out[..room]),
+                None => Err(Refusal::NotAllowed),
+            };
+            match result {
+                Ok(length) => format!("0 {}", hex(&out[..length])),
+                Err(refusal) => refusal.number().to_string(),
+            }
+        }
+    }
 }
 
 /// None for a line that is not of the form.
-fn request(decode: Decode, encode: Encode, line: &[u8]) -> Option<String> {
+pub fn asked(line: &[u8]) -> Option<Asked> {
     if line.len() > LONGEST_LINE {
         return None;
     }
@@ -56,23 +76,13 @@ fn request(decode: Decode, encode: Encode, line: &[u8]) -> Option<String> {
     match verb {
         "decode" => {
             let payload = list(third)?;
-            words
-                .next()
-                .is_none()
-                .then(|| decoded(decode(message_type, &payload)))
+            let last = words.next().is_none();
+            last.then_some(Asked::Decode(message_type, payload))
         }
         "encode" => {
-            let room = digits(third)?.map_or(MOST_ROOM, |room| room.min(MOST_ROOM as u64) as usize);
+            let room = digits(third)?.min(MOST_ROOM as i128) as usize;
             let given = Given::read(message_type, words)?;
-            let mut out = [0; MOST_ROOM];
-            let result = match given.message(message_type) {
-                Some(message) => encode(&message, &mut out[..room]),
-                None => Err(Refusal::NotAllowed),
-            };
-            Some(match result {
-                Ok(length) => format!("0 {}", hex(&out[..length])),
-                Err(refusal) => refusal.number().to_string(),
-            })
+            Some(Asked::Encode(message_type, room, given))
         }
         _ => None,
     }
@@ -109,18 +119,14 @@ fn decoded(result: Result<Message, Refusal>) -> String {
 }
 
 impl Value {
-    fn number(number: u64) -> Value {
-        Value::Number(Some(number))
-    }
-
-    /// As a line has it; what is outside of 64 bits is no message's.
+    /// As a line has it.
     pub fn text(&self) -> String {
         match self {
-            Value::Number(number) => number.expect("a message's number").to_string(),
+            Value::Number(number) => number.to_string(),
             Value::List(bytes) => hex(bytes),
             Value::Numbers(numbers) if numbers.is_empty() => "-".to_string(),
             Value::Numbers(numbers) => {
-                let texts: Vec<String> = numbers.iter().map(i64::to_string).collect();
+                let texts: Vec<String> = numbers.iter().map(i128::to_string).collect();
                 texts.join(",")
             }
         }
@@ -137,7 +143,7 @@ pub fn hex(bytes: &[u8]) -> String {
 /// The fields of a message in order.
 pub fn fields(message: &Message) -> Fields {
     let named = |name: &str, value: Value| (name.to_string(), value);
-    let number = |name: &str, value: u64| named(name, Value::number(value));
+    let number = |name: &str, value: i128| named(name, Value::Number(value));
     let list = |name: &str, bytes: &[u8]| named(name, Value::List(bytes.to_vec()));
     match message {
         Message::NodeStatus(one) => status_fields(one, ""),
@@ -196,7 +202,7 @@ pub fn fields(message: &Message) -> Fields {
 }
 
 fn status_fields(status: &NodeStatus, prefix: &str) -> Fields {
-    let number = |name: &str, value| (format!("{prefix}{name}"), Value::number(value));
+    let number = |name: &str, value| (format!("{prefix}{name}"), Value::Number(value));
     vec![
         number("uptime_sec", status.uptime),
         number("health", status.health),
@@ -206,12 +212,22 @@ fn status_fields(status: &NodeStatus, prefix: &str) -> Fields {
     ]
 }
 
+/// The fields of a message of which a line names none.
+pub fn absent(message_type: MessageType) -> Fields {
+    let none = Given::new(vec![]);
+    fields(&none.message(message_type).expect("zeros are floats"))
+}
+
 /// The fields that a line gives, by name.
-struct Given(BTreeMap<String, Value>);
+pub struct Given(BTreeMap<String, Value>);
 
 impl Given {
+    pub fn new(fields: Fields) -> Given {
+        Given(fields.into_iter().collect())
+    }
+
     fn read<'a>(message_type: MessageType, words: impl Iterator<Item = &'a str>) -> Option<Given> {
-        let all = fields(&Given(BTreeMap::new()).message(message_type)?);
+        let all = absent(message_type);
         let mut given = BTreeMap::new();
         for word in words {
             let (name, text) = word.split_once('=')?;
@@ -219,7 +235,7 @@ impl Given {
             let value = match kind {
                 Value::Number(_) => Value::Number(number(text)?),
                 Value::List(_) => Value::List(list(text)?),
-                Value::Numbers(_) => Value::Numbers(signed_numbers(text)?),
+                Value::Numbers(_) => Value::Numbers(numbers(text)?),
             };
             if given.insert(name.to_string(), value).is_some() {
                 return None;
@@ -228,11 +244,27 @@ impl Given {
         Some(Given(given))
     }
 
-    fn number(&self, name: &str) -> Option<u64> {
+    /// All fields of the message.
+    pub fn fields(&self, message_type: MessageType) -> Fields {
+        let mut all = absent(message_type);
+        for (name, value) in &mut all {
+            if let Some(given) = self.0.get(name) {
+                *value = given.clone();
+            }
+        }
+        all
+    }
+
+    fn number(&self, name: &str) -> i128 {
         match self.0.get(name) {
             Some(Value::Number(number)) => *number,
-            _ => Some(0),
+            _ => 0,
         }
+    }
+
+    /// A float is given as its 32 bits. None for a number that 32 bits do not make.
+    fn float(&self, name: &str) -> Option<u32> {
+        self.number(name).try_into().ok()
     }
 
     fn list(&self, name: &str) -> &[u8] {
@@ -242,37 +274,37 @@ impl Given {
         }
     }
 
-    /// None if a number is outside of what any message can hold.
-    fn message(&self, message_type: MessageType) -> Option<Message<'_>> {
+    /// None if a float is given as a number that 32 bits do not make.
+    pub fn message(&self, message_type: MessageType) -> Option<Message<'_>> {
         Some(match message_type {
-            MessageType::NodeStatus => Message::NodeStatus(self.status("")?),
+            MessageType::NodeStatus => Message::NodeStatus(self.status("")),
             MessageType::Allocation => Message::Allocation(Allocation {
-                node_id: self.number("node_id")?,
-                first_part: self.number("first_part_of_unique_id")?,
+                node_id: self.number("node_id"),
+                first_part: self.number("first_part_of_unique_id"),
                 unique_id: self.list("unique_id"),
             }),
             MessageType::KeyValue => Message::KeyValue(KeyValue {
-                value: self.number("value")?.try_into().ok()?,
+                value: self.float("value")?,
                 key: self.list("key"),
             }),
             MessageType::LogMessage => Message::LogMessage(LogMessage {
-                level: self.number("level.value")?,
+                level: self.number("level.value"),
                 source: self.list("source"),
                 text: self.list("text"),
             }),
             MessageType::NodeInfoRequest => Message::NodeInfoRequest,
             MessageType::NodeInfoResponse => Message::NodeInfoResponse(NodeInfo {
-                status: self.status("status.")?,
+                status: self.status("status."),
                 software: SoftwareVersion {
-                    major: self.number("software_version.major")?,
-                    minor: self.number("software_version.minor")?,
-                    flags: self.number("software_version.optional_field_flags")?,
-                    commit: self.number("software_version.vcs_commit")?,
-                    image_crc: self.number("software_version.image_crc")?,
+                    major: self.number("software_version.major"),
+                    minor: self.number("software_version.minor"),
+                    flags: self.number("software_version.optional_field_flags"),
+                    commit: self.number("software_version.vcs_commit"),
+                    image_crc: self.number("software_version.image_crc"),
                 },
                 hardware: HardwareVersion {
-                    major: self.number("hardware_version.major")?,
-                    minor: self.number("hardware_version.minor")?,
+                    major: self.number("hardware_version.major"),
+                    minor: self.number("hardware_version.minor"),
                     unique_id: self.list("hardware_version.unique_id"),
                     certificate: self.list("hardware_version.certificate_of_authenticity"),
                 },
@@ -280,12 +312,12 @@ impl Given {
             }),
             MessageType::BatteryInfo => Message::BatteryInfo(BatteryInfo {
                 floats: self.floats()?,
-                status_flags: self.number("status_flags")?,
-                health: self.number("state_of_health_pct")?,
-                charge: self.number("state_of_charge_pct")?,
-                charge_deviation: self.number("state_of_charge_pct_stdev")?,
-                battery_id: self.number("battery_id")?,
-                model_instance_id: self.number("model_instance_id")?,
+                status_flags: self.number("status_flags"),
+                health: self.number("state_of_health_pct"),
+                charge: self.number("state_of_charge_pct"),
+                charge_deviation: self.number("state_of_charge_pct_stdev"),
+                battery_id: self.number("battery_id"),
+                model_instance_id: self.number("model_instance_id"),
                 model_name: self.list("model_name"),
             }),
             MessageType::RawCommand => Message::RawCommand(self.commands()),
@@ -294,7 +326,7 @@ impl Given {
 
     /// As many as are given, and those that have a place.
     fn commands(&self) -> RawCommand {
-        let numbers: &[i64] = match self.0.get("cmd") {
+        let numbers: &[i128] = match self.0.get("cmd") {
             Some(Value::Numbers(numbers)) => numbers,
             _ => &[],
         };
@@ -308,57 +340,46 @@ impl Given {
         }
     }
 
-    /// Each float is given as its 32 bits.
     fn floats(&self) -> Option<[u32; 7]> {
         let mut floats = [0; 7];
         for (float, name) in floats.iter_mut().zip(FLOATS) {
-            *float = self.number(name)?.try_into().ok()?;
+            *float = self.float(name)?;
         }
         Some(floats)
     }
 
-    /// Sub-mode takes any number.
-    fn status(&self, prefix: &str) -> Option<NodeStatus> {
+    fn status(&self, prefix: &str) -> NodeStatus {
         let number = |name: &str| self.number(&format!("{prefix}{name}"));
-        Some(NodeStatus {
-            uptime: number("uptime_sec")?,
-            health: number("health")?,
-            mode: number("mode")?,
-            sub_mode: number("sub_mode").unwrap_or(0),
-            vendor_code: number("vendor_specific_status_code")?,
-        })
+        NodeStatus {
+            uptime: number("uptime_sec"),
+            health: number("health"),
+            mode: number("mode"),
+            sub_mode: number("sub_mode"),
+            vendor_code: number("vendor_specific_status_code"),
+        }
     }
 }
 
-/// Decimal digits; the inner None for 2^64 and above, the outer for other text.
-fn digits(text: &str) -> Option<Option<u64>> {
+/// Decimal digits, of any length.
+fn digits(text: &str) -> Option<i128> {
     let well_formed = !text.is_empty() && text.bytes().all(|byte| byte.is_ascii_digit());
-    well_formed.then(|| text.parse().ok())
+    well_formed.then(|| text.parse().unwrap_or(i128::MAX))
 }
 
 /// Decimal digits, perhaps after a minus sign.
-fn number(text: &str) -> Option<Option<u64>> {
+fn number(text: &str) -> Option<i128> {
     match text.strip_prefix('-') {
-        Some(below) => digits(below).map(|number| number.filter(|&number| number == 0)),
+        Some(size) => digits(size).map(|size| -size),
         None => digits(text),
     }
 }
 
-/// Signed numbers with a comma between two, or a dash for none.
-fn signed_numbers(text: &str) -> Option<Vec<i64>> {
+/// Numbers with a comma between two, or a dash for none.
+fn numbers(text: &str) -> Option<Vec<i128>> {
     if text == "-" {
         return Some(Vec::new());
     }
-    text.split(',').map(signed_number).collect()
-}
-
-fn signed_number(text: &str) -> Option<i64> {
-    if let Some(size) = text.strip_prefix('-') {
-        let below = |size: u64| 0i64.checked_sub_unsigned(size).unwrap_or(i64::MIN);
-        return digits(size).map(|size| size.map_or(i64::MIN, below));
-    }
-    let above = |number: u64| i64::try_from(number).unwrap_or(i64::MAX);
-    digits(text).map(|number| number.map_or(i64::MAX, above))
+    text.split(',').map(number).collect()
 }
 
 fn list(text: &str) -> Option<Vec<u8>> {

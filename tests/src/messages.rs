@@ -1,23 +1,23 @@
 //! The message types, both ways (RULES 9 and 10).
 //!
-//! Numbers are held wider than their fields, so that a caller's number may be too large.
+//! A number may be outside of its field's range; writing takes the nearest inside.
 
 use crate::binary16::{narrow, widen};
 use crate::bits::{signed, Reader, Refusal, Writer};
 
 #[derive(Clone, Debug, PartialEq, Eq)]
 pub struct NodeStatus {
-    pub uptime: u64,
-    pub health: u64,
-    pub mode: u64,
-    pub sub_mode: u64,
-    pub vendor_code: u64,
+    pub uptime: i128,
+    pub health: i128,
+    pub mode: i128,
+    pub sub_mode: i128,
+    pub vendor_code: i128,
 }
 
 #[derive(Clone, Debug, PartialEq, Eq)]
 pub struct Allocation<'a> {
-    pub node_id: u64,
-    pub first_part: u64,
+    pub node_id: i128,
+    pub first_part: i128,
     pub unique_id: &'a [u8],
 }
 
@@ -30,24 +30,24 @@ pub struct KeyValue<'a> {
 
 #[derive(Clone, Debug, PartialEq, Eq)]
 pub struct LogMessage<'a> {
-    pub level: u64,
+    pub level: i128,
     pub source: &'a [u8],
     pub text: &'a [u8],
 }
 
 #[derive(Clone, Debug, PartialEq, Eq)]
 pub struct SoftwareVersion {
-    pub major: u64,
-    pub minor: u64,
-    pub flags: u64,
-    pub commit: u64,
-    pub image_crc: u64,
+    pub major: i128,
+    pub minor: i128,
+    pub flags: i128,
+    pub commit: i128,
+    pub image_crc: i128,
 }
 
 #[derive(Clone, Debug, PartialEq, Eq)]
 pub struct HardwareVersion<'a> {
-    pub major: u64,
-    pub minor: u64,
+    pub major: i128,
+    pub minor: i128,
     pub unique_id: &'a [u8],
     pub certificate: &'a [u8],
 }
@@ -65,12 +65,12 @@ pub struct BatteryInfo<'a> {
     /// Temperature, voltage, current, average power, remaining and full capacity, hours to full
     /// charge: each as the bits of a binary32.
     pub floats: [u32; 7],
-    pub status_flags: u64,
-    pub health: u64,
-    pub charge: u64,
-    pub charge_deviation: u64,
-    pub battery_id: u64,
-    pub model_instance_id: u64,
+    pub status_flags: i128,
+    pub health: i128,
+    pub charge: i128,
+    pub charge_deviation: i128,
+    pub battery_id: i128,
+    pub model_instance_id: i128,
     pub model_name: &'a [u8],
 }
 
@@ -81,7 +81,7 @@ pub const MOST_COMMANDS: usize = 20;
 pub struct RawCommand {
     /// How many of the places are used, from the first on.
     pub count: usize,
-    pub places: [i64; MOST_COMMANDS],
+    pub places: [i128; MOST_COMMANDS],
 }
 
 #[derive(Clone, Debug, PartialEq, Eq)]
@@ -119,6 +119,21 @@ impl MessageType {
         MessageType::BatteryInfo,
         MessageType::RawCommand,
     ];
+}
+
+impl Message<'_> {
+    pub fn message_type(&self) -> MessageType {
+        match self {
+            Message::NodeStatus(_) => MessageType::NodeStatus,
+            Message::Allocation(_) => MessageType::Allocation,
+            Message::KeyValue(_) => MessageType::KeyValue,
+            Message::LogMessage(_) => MessageType::LogMessage,
+            Message::NodeInfoRequest => MessageType::NodeInfoRequest,
+            Message::NodeInfoResponse(_) => MessageType::NodeInfoResponse,
+            Message::BatteryInfo(_) => MessageType::BatteryInfo,
+            Message::RawCommand(_) => MessageType::RawCommand,
+        }
+    }
 }
 
 /// Reads a payload field by field; the first failing field decides the refusal.
@@ -201,7 +216,7 @@ impl<'a> KeyValue<'a> {
     }
 
     fn write(&self, writer: &mut Writer) {
-        writer.number(u64::from(self.value), 32);
+        writer.number(self.value.into(), 32);
         writer.last_list(self.key, 58);
     }
 }
@@ -304,7 +319,7 @@ impl<'a> BatteryInfo<'a> {
 
     fn write(&self, writer: &mut Writer) {
         for float in self.floats {
-            writer.number(u64::from(narrow(float)), 16);
+            writer.number(narrow(float).into(), 16);
         }
         writer.number(self.status_flags, 11);
         writer.number(self.health, 7);

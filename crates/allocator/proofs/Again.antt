@@ -7,6 +7,7 @@ use Prim.Native.Nat.{ℕ, suc, _-_, _≤_, _<_}
 use native.Mathlib.Omega.{arith}
 use borrow.Author.Tests.{eqb-true, eq-eqb, ltb-true, ltb-false}
 use lib.Dec.{eqb, ltb}
+use lib.IntN.{pos}
 use lib.ListN.{length}
 use Rattle.bits.specs.Little.{le}
 use Rattle.rules.specs.Tests.{pick}
@@ -16,18 +17,19 @@ use Rattle.protocol_dynamic_node_id.specs.Allocation.{allocation}
 use Rattle.allocator_table.specs.Layout.{tableOf, soundState, withTime, withCount, withGathered, withEntry}
 use Rattle.allocator_table.specs.Limits.{uniqueIdMax, nodeMax}
 use Rattle.allocator_table.specs.Table.{Entry, holds, nodeOf, sound, isFree, lowestFrom, highestBelow, orElse, given}
-use Rattle.allocator_table.proofs.Room.{free-givable, free-not-own, free-unmarked, free-unheld}
+use Rattle.allocator_table.proofs.Room.{free-givable, free-small, free-not-own, free-unmarked, free-unheld}
 use Rattle.allocator_table.proofs.Search.{low-all, high-all, given-takes}
 use Rattle.allocator_table.proofs.Soundness.{table-sound, first-fits, rest-sound, node-once}
-use Rattle.allocator.specs.Allocate.{Verdict, exhausted, allots, completes, decide, Result, answered, performs, onMessage, noOwn}
+use Rattle.allocator.specs.Allocate.{Verdict, exhausted, allots, completes, Fields, decide, Result, answered, performs, onMessage, noOwn}
 use Rattle.allocator.specs.Calls.{Call, resultOf, afterCalls, Reply, Completes, NoneFree}
 use Rattle.allocator.specs.Laws.{SameIdAgain, Chosen, lowest, highest, IdsDiffer, Away, TurnedAway}
 use Rattle.allocator.specs.Stage.{joined, preferred}
 use Rattle.allocator.specs.declared.Request.{Request}
 use Rattle.allocator.specs.declared.answer.Answer.the-variants.{Exhausted}
 use Rattle.allocator.proofs.Called.{Decided, ignores, waits, parts, finds, adds, lacks, Called, faults, refuses, acts, called, by-message}
-use Rattle.allocator.proofs.Decisions.{is-whole}
+use Rattle.allocator.proofs.Decisions.{known-small, is-whole}
 use Rattle.allocator.proofs.Lasts.{none-above, complete, kept-on}
+use Rattle.allocator.proofs.Messages.{valuesOf}
 use Rattle.allocator.proofs.Reading.{reply-is}
 use Rattle.allocator.proofs.Stages.{preferred-le}
 
@@ -37,32 +39,30 @@ module _ (m : List ℕ) (c : Call) (g : List ℕ) (whole : length g ≡ uniqueId
   abbrev t : ℕ
   t = c .request .time
 
-  by-verdict : (v : Values allocation) (x : Verdict) → Decided m (c .request) v x → Reply (performs x m (c .request .time) (joined m (c .request .time) (v .1 .1)) (c .out)) k g → k ≡ n
+  by-verdict : soundState m ≡ true → (v : Fields) (x : Verdict) → Decided m (c .request) v x → Reply (performs x m (c .request .time) (joined m (c .request .time) (v .1 .1)) (c .out)) k g → k ≡ n
   unfolding performs
-  by-verdict v x ignores r = absurd (let q = r .answer in let z : _≡_ {A = ℕ} 0 1 = cc in omega arith)
-  by-verdict v x waits r = absurd (let q = r .answer in let z : _≡_ {A = ℕ} 0 1 = cc in omega arith)
-  by-verdict v x (parts e l) r =
-      let w = reply-is (0, (0, joined m t (v .1 .1))) (length (c .out)) m (withTime (withGathered m (joined m t (v .1 .1))) t) (c .out) k g r in
-      let j : joined m t (v .1 .1) ≡ g = ap (λ (y : Values allocation). y .1 .1) w in
-      absurd (omega (arith, ap length j))
-  by-verdict v x (finds e l i f) r =
-      let w = reply-is (i, (0, joined m t (v .1 .1))) (length (c .out)) m (withTime (withCount m 0) t) (c .out) k g r in
-      let j : joined m t (v .1 .1) ≡ g = ap (λ (y : Values allocation). y .1 .1) w in
-      let d : i ≡ k = ap (λ (y : Values allocation). y .0) w in
-      let a : some n ≡ some i = sym known ∙ sym (ap (λ (y : List ℕ). nodeOf (le y) (tableOf m)) j) ∙ f in
+  by-verdict s v x ignores r = absurd (let q = r .answer in let z : _≡_ {A = ℕ} 0 1 = cc in omega arith)
+  by-verdict s v x waits r = absurd (let q = r .answer in let z : _≡_ {A = ℕ} 0 1 = cc in omega arith)
+  by-verdict s v x (parts e l) r =
+      let w = reply-is 0 (joined m t (v .1 .1)) (omega arith) (length (c .out)) m (withTime (withGathered m (joined m t (v .1 .1))) t) (c .out) k g r in
+      absurd (omega (arith, ap length (w .1)))
+  by-verdict s v x (finds e l i f) r =
+      let h = known-small m (le (joined m t (v .1 .1))) i s f in
+      let w = reply-is i (joined m t (v .1 .1)) (omega arith) (length (c .out)) m (withTime (withCount m 0) t) (c .out) k g r in
+      let a : some n ≡ some i = sym known ∙ sym (ap (λ (y : List ℕ). nodeOf (le y) (tableOf m)) (w .1)) ∙ f in
       let b : n ≡ i = cc in
-      omega arith
-  by-verdict v x (adds e l i f o) r =
-      let w = reply-is (i, (0, joined m t (v .1 .1))) (length (c .out)) m (withTime (withCount (withEntry m (joined m t (v .1 .1)) i) 0) t) (c .out) k g r in
-      let j : joined m t (v .1 .1) ≡ g = ap (λ (y : Values allocation). y .1 .1) w in
-      let a : some n ≡ none = sym known ∙ sym (ap (λ (y : List ℕ). nodeOf (le y) (tableOf m)) j) ∙ f in
+      omega (arith, w .0)
+  by-verdict s v x (adds e l i f o) r =
+      let h = free-small (c .request .reserved) (tableOf m) i (given-takes (isFree (c .request .reserved) (tableOf m)) (preferred (v .0)) i o) in
+      let w = reply-is i (joined m t (v .1 .1)) (omega arith) (length (c .out)) m (withTime (withCount (withEntry m (joined m t (v .1 .1)) i) 0) t) (c .out) k g r in
+      let a : some n ≡ none = sym known ∙ sym (ap (λ (y : List ℕ). nodeOf (le y) (tableOf m)) (w .1)) ∙ f in
       absurd (let z : _≡_ {A = ℕ} 0 1 = cc in omega arith)
-  by-verdict v x (lacks e l f o) r = absurd (let q = r .answer in let z : _≡_ {A = ℕ} 0 1 = cc in omega arith)
+  by-verdict s v x (lacks e l f o) r = absurd (let q = r .answer in let z : _≡_ {A = ℕ} 0 1 = cc in omega arith)
 
   by-call : (x : Result) → Called m (c .request) (c .payload) (c .out) x → Reply x k g → k ≡ n
   by-call x faults r = absurd (let q = r .answer in let z : _≡_ {A = ℕ} 0 1 = cc in omega arith)
   by-call x (refuses i h) r = absurd (let q = r .answer in let z : _≡_ {A = ℕ} 0 1 = cc in omega arith)
-  by-call x (acts s o v d y e) r = by-verdict v y e r
+  by-call x (acts s o v d y e) r = by-verdict s v y e r
 
 pub same-id-again : SameIdAgain
 same-id-again m cs c s g whole n known k r =
@@ -140,16 +140,16 @@ module _ (m : List ℕ) (c : Call) where
   abbrev q : Request
   q = c .request
 
-  away-by : soundState m ≡ true → noOwn (c .request .reserved .own) ≡ false → (v : Values allocation) → decoded allocation (c .payload) ≡ got v → (x : Verdict) → Decided m (c .request) v x
+  away-by : soundState m ≡ true → noOwn (c .request .reserved .own) ≡ false → (v : Fields) → decoded allocation (c .payload) ≡ got (valuesOf v) → (x : Verdict) → Decided m (c .request) v x
       → performs x m (c .request .time) (joined m (c .request .time) (v .1 .1)) (c .out) .answer ≡ Exhausted → Away m c
   unfolding performs
   away-by s o v r x ignores e = absurd (let z : _≡_ {A = ℕ} 0 1 = cc in omega arith)
   away-by s o v r x waits e = absurd (let z : _≡_ {A = ℕ} 0 1 = cc in omega arith)
   away-by s o v r x (parts d l) e =
-      absurd (not-exhausted (encoded allocation (0, (0, joined m (q .time) (v .1 .1))) (length (c .out))) m (withTime (withGathered m (joined m (q .time) (v .1 .1))) (q .time)) (c .out) e)
-  away-by s o v r x (finds d l n k) e = absurd (not-exhausted (encoded allocation (n, (0, joined m (q .time) (v .1 .1))) (length (c .out))) m (withTime (withCount m 0) (q .time)) (c .out) e)
+      absurd (not-exhausted (encoded allocation (pos 0, (pos 0, joined m (q .time) (v .1 .1))) (length (c .out))) m (withTime (withGathered m (joined m (q .time) (v .1 .1))) (q .time)) (c .out) e)
+  away-by s o v r x (finds d l n k) e = absurd (not-exhausted (encoded allocation (pos n, (pos 0, joined m (q .time) (v .1 .1))) (length (c .out))) m (withTime (withCount m 0) (q .time)) (c .out) e)
   away-by s o v r x (adds d l n k i) e =
-      absurd (not-exhausted (encoded allocation (n, (0, joined m (q .time) (v .1 .1))) (length (c .out))) m (withTime (withCount (withEntry m (joined m (q .time) (v .1 .1)) n) 0) (q .time)) (c .out) e)
+      absurd (not-exhausted (encoded allocation (pos n, (pos 0, joined m (q .time) (v .1 .1))) (length (c .out))) m (withTime (withCount (withEntry m (joined m (q .time) (v .1 .1)) n) 0) (q .time)) (c .out) e)
   away-by s o v r x (lacks d l k i) e =
       record {
         unique = joined m (q .time) (v .1 .1);
@@ -168,7 +168,7 @@ module _ (m : List ℕ) (c : Call) where
   away-call x (acts s o v r y d) e = away-by s o v r y d e
 
   -- the call as it acts on a message that it reads
-  pub on-message : soundState m ≡ true → noOwn (c .request .reserved .own) ≡ false → (v : Values allocation) → decoded allocation (c .payload) ≡ got v
+  pub on-message : soundState m ≡ true → noOwn (c .request .reserved .own) ≡ false → (v : Fields) → decoded allocation (c .payload) ≡ got (valuesOf v)
       → resultOf m c ≡ performs (decide m (c .request) v) m (c .request .time) (joined m (c .request .time) (v .1 .1)) (c .out)
   unfolding onMessage
   on-message s o v r = by-message m q (c .payload) (c .out) s o ∙ ap (λ (a : Answer (Values allocation)). onMessage a m q (c .out)) r
@@ -176,7 +176,7 @@ module _ (m : List ℕ) (c : Call) where
   turned : (g : List ℕ) (p : ℕ) → Completes m c g p → NoneFree m c g → resultOf m c .answer ≡ Exhausted
   unfolding performs completes
   turned g p d f =
-      let v : Values allocation = (p, (d .first, d .part)) in
+      let v : Fields = (p, (d .first, d .part)) in
       let l = ap length (d .is) ∙ d .whole in
       let u = ap (λ (y : List ℕ). nodeOf (le y) (tableOf m)) (d .is) ∙ f .new in
       let x : decide m q v ≡ exhausted =

@@ -1,5 +1,5 @@
 -- What a call does, case by case.
-use mathlib.Core.Path.{_≡_, refl, sym, subst}
+use mathlib.Core.Path.{_≡_, refl, sym, ap, _∙_, subst}
 use mathlib.Core.Bool.{Bool, true, false}
 use mathlib.Core.List.{List}
 use mathlib.Core.Option.{Option, none, some}
@@ -16,21 +16,22 @@ use Rattle.protocol_dynamic_node_id.specs.Allocation.{allocation}
 use Rattle.allocator_table.specs.Layout.{tableOf, soundState}
 use Rattle.allocator_table.specs.Limits.{uniqueIdMax}
 use Rattle.allocator_table.specs.Table.{nodeOf, isFree, given}
-use Rattle.allocator.specs.Allocate.{Verdict, ignored, awaits, gathers, knows, gives, exhausted, allots, completes, decide, Result, result, performs, onMessage, noOwn, allocated}
+use Rattle.allocator.specs.Allocate.{Verdict, ignored, awaits, gathers, knows, gives, exhausted, allots, completes, Fields, fieldsOf, decide, Result, result, performs, onMessage, noOwn, allocated}
 use Rattle.allocator.specs.Stage.{accepts, keptAt, joined, preferred}
 use Rattle.allocator.specs.declared.Request.{Request}
 use Rattle.allocator.specs.declared.answer.Answer.the-variants.{Refused, Faulty}
+use Rattle.allocator.proofs.Messages.{valuesOf, read-natural}
 use Rattle.allocator.proofs.Refusals.{Small, small-read}
 use Rattle.allocator.proofs.Decisions.{is-ignored, is-awaited, is-part, is-whole, accepted-fits, length-joined}
 
 -- an anonymous message of the stage that is expected
-pub record Expected (m : List ℕ) (q : Request) (v : Values allocation) : Type 0 where
+pub record Expected (m : List ℕ) (q : Request) (v : Fields) : Type 0 where
   pub anonymous : q .source ≡ 0
   pub accepted : accepts (v .1 .0) (length (v .1 .1)) (keptAt m (q .time)) ≡ true
 
 -- ── a verdict, and why ──
 
-pub data Decided (m : List ℕ) (q : Request) (v : Values allocation) : Verdict → Type 0 where
+pub data Decided (m : List ℕ) (q : Request) (v : Fields) : Verdict → Type 0 where
   ignores : Decided m q v ignored
   waits : Decided m q v awaits
   parts : Expected m q v → length (joined m (q .time) (v .1 .1)) < uniqueIdMax → Decided m q v gathers
@@ -40,7 +41,7 @@ pub data Decided (m : List ℕ) (q : Request) (v : Values allocation) : Verdict 
   lacks : Expected m q v → length (joined m (q .time) (v .1 .1)) ≡ uniqueIdMax → nodeOf (le (joined m (q .time) (v .1 .1))) (tableOf m) ≡ none
       → given (isFree (q .reserved) (tableOf m)) (preferred (v .0)) ≡ none → Decided m q v exhausted
 
-module _ (m : List ℕ) (q : Request) (v : Values allocation) where
+module _ (m : List ℕ) (q : Request) (v : Fields) where
   abbrev g : List ℕ
   g = joined m (q .time) (v .1 .1)
 
@@ -74,7 +75,7 @@ module _ (m : List ℕ) (q : Request) (v : Values allocation) where
 pub data Called (m : List ℕ) (q : Request) (p out : List ℕ) : Result → Type 0 where
   faults : Called m q p out (result Faulty m out)
   refuses : (n : ℕ) → n ≤ 25 → Called m q p out (result (Refused n) m out)
-  acts : soundState m ≡ true → noOwn (q .reserved .own) ≡ false → (v : Values allocation) → decoded allocation p ≡ got v → (x : Verdict) → Decided m q v x
+  acts : soundState m ≡ true → noOwn (q .reserved .own) ≡ false → (v : Fields) → decoded allocation p ≡ got (valuesOf v) → (x : Verdict) → Decided m q v x
       → Called m q p out (performs x m (q .time) (joined m (q .time) (v .1 .1)) out)
 
 module _ (m : List ℕ) (q : Request) (p out : List ℕ) where
@@ -98,7 +99,7 @@ module _ (m : List ℕ) (q : Request) (p out : List ℕ) where
 
     message : soundState m ≡ true → noOwn (q .reserved .own) ≡ false → (r : Answer (Values allocation)) → decoded allocation p ≡ r → Called m q p out (onMessage r m q out)
     message s o (refused n) e = refuses n (small-number n e)
-    message s o (got v) e = acts s o v e (decide m q v) (decided m q v s)
+    message s o (got v) e = acts s o (fieldsOf v) (e ∙ ap got (read-natural p v e)) (decide m q (fieldsOf v)) (decided m q (fieldsOf v) s)
 
     own : soundState m ≡ true → (b : Bool) → noOwn (q .reserved .own) ≡ b → Called m q p out (allocated m q p out)
     own s true o = subst (Called m q p out) (sym (by-own s o)) (refuses 13 (omega arith))

@@ -12,23 +12,21 @@ use lib.ListN.{length, length-append}
 use Rattle.bits.specs.Little.{le}
 use Rattle.bits.specs.Part.{span}
 use Rattle.bits.proofs.Splice.{length-span}
-use Rattle.shape.specs.Shape.{Values}
-use Rattle.protocol_dynamic_node_id.specs.Allocation.{allocation}
 use Rattle.allocator_table.specs.Layout.{gatheredAt, entryCount, tableOf, soundState}
 use Rattle.allocator_table.specs.Limits.{uniqueIdMax, nodeMax}
-use Rattle.allocator_table.specs.Table.{nodeOf, isFree, given}
+use Rattle.allocator_table.specs.Table.{nodeOf, isGivable, isFree, given}
 use Rattle.allocator_table.specs.inside.Code.{orZero}
 use Rattle.allocator_table.proofs.Room.{known-givable, free-positive, room}
 use Rattle.allocator_table.proofs.Search.{given-takes}
 use Rattle.allocator_table.proofs.Soundness.{long-enough, gathered-few, table-sound}
-use Rattle.allocator.specs.Allocate.{ignored, awaits, gathers, knows, gives, exhausted, allots, completes, decide}
+use Rattle.allocator.specs.Allocate.{ignored, awaits, gathers, knows, gives, exhausted, allots, completes, Fields, decide}
 use Rattle.allocator.specs.Stage.{stageOf, expectedAt, accepts, keptAt, joined, preferred}
 use Rattle.allocator.specs.declared.Request.{Request}
 use Rattle.allocator.proofs.Stages.{kept-le}
 
 -- ── the message ──
 
-module _ (m : List ℕ) (q : Request) (v : Values allocation) where
+module _ (m : List ℕ) (q : Request) (v : Fields) where
   pub is-ignored : (q .source ≡ 0 → ⊥) → decide m q v ≡ ignored
   unfolding decide
   is-ignored s = rw (ne-eqb (q .source) 0 s)
@@ -64,6 +62,12 @@ length-joined m t u s =
 
 -- ── a whole unique ID ──
 
+pub givable-small : (n : ℕ) → isGivable n ≡ true → n ≤ nodeMax
+givable-small n h = leb-true n nodeMax (and-elim-right (ltb 0 n) _ h)
+
+pub known-small : (m : List ℕ) (u n : ℕ) → soundState m ≡ true → nodeOf u (tableOf m) ≡ some n → n ≤ nodeMax
+known-small m u n s e = givable-small n (known-givable (tableOf m) u n (table-sound m s) e)
+
 module _ (m : List ℕ) (q : Request) (g : List ℕ) (p : ℕ) (s : soundState m ≡ true) where
   abbrev entered : Option ℕ
   entered = nodeOf (le g) (tableOf m)
@@ -77,6 +81,12 @@ module _ (m : List ℕ) (q : Request) (g : List ℕ) (p : ℕ) (s : soundState m
     go : (o : Option ℕ) → x ≡ orZero o → allots o chosen ≡ knows x
     go none k = absurd (z k)
     go (some n) k = ap knows (sym k)
+
+  pub known-low : (x : ℕ) → x ≡ orZero (nodeOf (le g) (tableOf m)) → x ≤ nodeMax
+  known-low x e = go (nodeOf (le g) (tableOf m)) refl e where
+    go : (o : Option ℕ) → nodeOf (le g) (tableOf m) ≡ o → x ≡ orZero o → x ≤ nodeMax
+    go none k z = omega arith
+    go (some n) k z = omega (arith, known-small m (le g) n s k)
 
   unknown : orZero (nodeOf (le g) (tableOf m)) ≡ 0 → nodeOf (le g) (tableOf m) ≡ none
   unknown e = go (nodeOf (le g) (tableOf m)) refl e where

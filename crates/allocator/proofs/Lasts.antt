@@ -8,10 +8,11 @@ use Prim.Native.Nat.{ℕ, suc, _-_, _≤_, _<_}
 use native.Mathlib.Omega.{arith}
 use borrow.Author.Tests.{eq-eqb, ne-eqb, ltb-true, ltb-false}
 use lib.Dec.{ltb}
+use lib.IntN.{pos}
 use lib.ListN.{length}
 use Rattle.bits.specs.Little.{le}
 use Rattle.shape.specs.Answer.{Answer, refused, got}
-use Rattle.shape.specs.Shape.{Values, decoded, encoded}
+use Rattle.shape.specs.Shape.{decoded, encoded}
 use Rattle.protocol_dynamic_node_id.specs.Allocation.{allocation}
 use Rattle.allocator_table.specs.Layout.{size, tableOf, entryCount, soundState, withTime, withCount, withGathered, withEntry}
 use Rattle.allocator_table.specs.Limits.{uniqueIdMax, nodeMax}
@@ -22,12 +23,13 @@ use Rattle.allocator_table.proofs.Room.{free-givable, free-small, free-unheld, 
 use Rattle.allocator_table.proofs.Search.{low-takes, low-passes, low-all, high-takes, high-passes, given-takes}
 use Rattle.allocator_table.proofs.Soundness.{long-enough, table-sound, unique-below, first-fits, rest-sound}
 use Rattle.allocator_table.proofs.Views.{table-timed, table-counted, table-gathered, table-added}
-use Rattle.allocator.specs.Allocate.{Verdict, Result, answered, performs, noOwn}
+use Rattle.allocator.specs.Allocate.{Verdict, Fields, Result, answered, performs, noOwn}
 use Rattle.allocator.specs.Calls.{Call, resultOf, afterCalls, Completes}
 use Rattle.allocator.specs.Laws.{Chosen, lowest, highest, Entered, StateLasts, TableGrows, IdGiven}
 use Rattle.allocator.specs.Stage.{keptAt, joined, preferred}
 use Rattle.allocator.proofs.Called.{Expected, Decided, ignores, waits, parts, finds, adds, lacks, Called, faults, refuses, acts, called}
 use Rattle.allocator.proofs.Decisions.{kept-few}
+use Rattle.allocator.proofs.Messages.{valuesOf}
 use Rattle.allocator.proofs.Stages.{preferred-le}
 
 -- ── the ID that is given ──
@@ -88,7 +90,7 @@ module _ (m : List ℕ) (c : Call) (s : soundState m ≡ true) where
       let k = sound-gathered m s g h in
       record { sound = sound-timed (withGathered m g) k t; table = inl (table-timed (withGathered m g) t (long-enough (withGathered m g) k) ∙ table-gathered m g long (omega arith)) }
 
-  module _ (own : noOwn (c .request .reserved .own) ≡ false) (v : Values allocation) (r : decoded allocation (c .payload) ≡ got v) (e : Expected m (c .request) v)
+  module _ (own : noOwn (c .request .reserved .own) ≡ false) (v : Fields) (r : decoded allocation (c .payload) ≡ got (valuesOf v)) (e : Expected m (c .request) v)
       (l : length (joined m (c .request .time) (v .1 .1)) ≡ uniqueIdMax) where
     pub complete : Completes m c (joined m (c .request .time) (v .1 .1)) (v .0)
     complete =
@@ -145,17 +147,17 @@ module _ (m : List ℕ) (c : Call) (s : soundState m ≡ true) where
                 });
           }
 
-  by-verdict : noOwn (c .request .reserved .own) ≡ false → (v : Values allocation) → decoded allocation (c .payload) ≡ got v → (x : Verdict) → Decided m (c .request) v x
+  by-verdict : noOwn (c .request .reserved .own) ≡ false → (v : Fields) → decoded allocation (c .payload) ≡ got (valuesOf v) → (x : Verdict) → Decided m (c .request) v x
       → After m c (performs x m (c .request .time) (joined m (c .request .time) (v .1 .1)) (c .out) .state)
   unfolding performs
   by-verdict own v r x ignores = unchanged
   by-verdict own v r x waits = counts (keptAt m t) (kept-few m t s)
   by-verdict own v r x (parts e l) =
-      by-reply (encoded allocation (0, (0, joined m t (v .1 .1))) (length (c .out))) (After m c) m (withTime (withGathered m (joined m t (v .1 .1))) t) (c .out) unchanged (collects (joined m t (v .1 .1)) l)
+      by-reply (encoded allocation (pos 0, (pos 0, joined m t (v .1 .1))) (length (c .out))) (After m c) m (withTime (withGathered m (joined m t (v .1 .1))) t) (c .out) unchanged (collects (joined m t (v .1 .1)) l)
   by-verdict own v r x (finds e l n k) =
-      by-reply (encoded allocation (n, (0, joined m t (v .1 .1))) (length (c .out))) (After m c) m (withTime (withCount m 0) t) (c .out) unchanged processes
+      by-reply (encoded allocation (pos n, (pos 0, joined m t (v .1 .1))) (length (c .out))) (After m c) m (withTime (withCount m 0) t) (c .out) unchanged processes
   by-verdict own v r x (adds e l n k o) =
-      by-reply (encoded allocation (n, (0, joined m t (v .1 .1))) (length (c .out))) (After m c) m (withTime (withCount (withEntry m (joined m t (v .1 .1)) n) 0) t) (c .out) unchanged (enters own v r e l n k o)
+      by-reply (encoded allocation (pos n, (pos 0, joined m t (v .1 .1))) (length (c .out))) (After m c) m (withTime (withCount (withEntry m (joined m t (v .1 .1)) n) 0) t) (c .out) unchanged (enters own v r e l n k o)
   by-verdict own v r x (lacks e l k o) = counts 0 (omega arith)
 
   by-call : (x : Result) → Called m (c .request) (c .payload) (c .out) x → After m c (x .state)

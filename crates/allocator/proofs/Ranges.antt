@@ -2,22 +2,22 @@
 use mathlib.Core.Path.{_≡_, refl, ap}
 use mathlib.Core.Bool.{true}
 use mathlib.Core.List.{List}
-use mathlib.Mathlib.Data.Bool.Basic.{and-elim-left, and-elim-right}
+use mathlib.Mathlib.Data.Bool.Basic.{and-elim-left}
 use Prim.Native.Nat.{ℕ, _≤_}
 use native.Mathlib.Omega.{arith}
 use borrow.Author.Tests.{leb-true}
-use lib.Dec.{ltb}
+use lib.IntN.{pos}
 use lib.ListN.{length}
 use Rattle.bits.specs.Order.{bytesFor}
 use Rattle.bits.proofs.Bytes.{length-bytes}
 use Rattle.shape.specs.Answer.{Answer, refused, got}
-use Rattle.shape.specs.Shape.{Values, encode, encoded, fits, message}
+use Rattle.shape.specs.Shape.{encode, encoded, fits, message}
 use Rattle.shape.proofs.RoundTrip.{made}
 use Rattle.protocol_dynamic_node_id.specs.Allocation.{allocation}
 use Rattle.protocol_dynamic_node_id.proofs.AllocationFacts.{size}
 use Rattle.allocator_table.specs.Layout.{withTime, withCount, withGathered, withEntry}
 use Rattle.allocator_table.specs.Limits.{uniqueIdMax}
-use Rattle.allocator.specs.Allocate.{Verdict, Result, answered, performs}
+use Rattle.allocator.specs.Allocate.{Verdict, Fields, Result, answered, performs}
 use Rattle.allocator.specs.Calls.{Call, resultOf}
 use Rattle.allocator.specs.Laws.{Range, AnswersInRange}
 use Rattle.allocator.specs.Stage.{joined}
@@ -25,20 +25,20 @@ use Rattle.allocator.proofs.Called.{Decided, ignores, waits, parts, fin
 use Rattle.allocator.proofs.Refusals.{Small, small-write}
 
 -- a unique ID that fits its field
-few : (n : ℕ) (g : List ℕ) → fits allocation (n, (0, g)) ≡ true → length g ≤ uniqueIdMax
+few : (n : ℕ) (g : List ℕ) → fits allocation (pos n, (pos 0, g)) ≡ true → length g ≤ uniqueIdMax
 unfolding fits
-few n g f = leb-true (length g) uniqueIdMax (and-elim-left _ _ (and-elim-right (ltb 0 2) _ (and-elim-right (ltb n 128) _ f)))
+few n g f = leb-true (length g) uniqueIdMax (and-elim-left _ _ f)
 
-length-reply : (n : ℕ) (g : List ℕ) (room : ℕ) (bs : List ℕ) → encoded allocation (n, (0, g)) room ≡ got bs → length bs ≤ 17
+length-reply : (n : ℕ) (g : List ℕ) (room : ℕ) (bs : List ℕ) → encoded allocation (pos n, (pos 0, g)) room ≡ got bs → length bs ≤ 17
 length-reply n g room bs e =
-    let w = made allocation (n, (0, g)) room bs e in
-    let s = size n 0 g in
-    let l : length (message allocation (n, (0, g))) ≡ bytesFor (length (encode allocation (n, (0, g)))) = length-bytes (bytesFor (length (encode allocation (n, (0, g))))) _ in
+    let w = made allocation (pos n, (pos 0, g)) room bs e in
+    let s = size (pos n) (pos 0) g in
+    let l : length (message allocation (pos n, (pos 0, g))) ≡ bytesFor (length (encode allocation (pos n, (pos 0, g)))) = length-bytes (bytesFor (length (encode allocation (pos n, (pos 0, g))))) _ in
     omega (arith, ap length (w .is), few n g (w .fit))
 
-reply-range : (n : ℕ) (g m m' out : List ℕ) → Range (answered (encoded allocation (n, (0, g)) (length out)) m m' out .answer)
-reply-range n g m m' out = go (encoded allocation (n, (0, g)) (length out)) refl (small-write (n, (0, g)) (length out)) where
-  go : (a : Answer (List ℕ)) → encoded allocation (n, (0, g)) (length out) ≡ a → Small a → Range (answered a m m' out .answer)
+reply-range : (n : ℕ) (g m m' out : List ℕ) → Range (answered (encoded allocation (pos n, (pos 0, g)) (length out)) m m' out .answer)
+reply-range n g m m' out = go (encoded allocation (pos n, (pos 0, g)) (length out)) refl (small-write (pos n, (pos 0, g)) (length out)) where
+  go : (a : Answer (List ℕ)) → encoded allocation (pos n, (pos 0, g)) (length out) ≡ a → Small a → Range (answered a m m' out .answer)
   go (refused k) e s = record { number = s; reply = omega arith }
   go (got bs) e s = record { number = omega arith; reply = length-reply n g (length out) bs e }
 
@@ -46,7 +46,7 @@ module _ (m : List ℕ) (c : Call) where
   abbrev t : ℕ
   t = c .request .time
 
-  by-verdict : (v : Values allocation) (x : Verdict) → Decided m (c .request) v x → Range (performs x m (c .request .time) (joined m (c .request .time) (v .1 .1)) (c .out) .answer)
+  by-verdict : (v : Fields) (x : Verdict) → Decided m (c .request) v x → Range (performs x m (c .request .time) (joined m (c .request .time) (v .1 .1)) (c .out) .answer)
   unfolding performs
   by-verdict v x ignores = record { number = omega arith; reply = omega arith }
   by-verdict v x waits = record { number = omega arith; reply = omega arith }

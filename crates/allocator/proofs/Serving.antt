@@ -4,10 +4,9 @@ use mathlib.Core.Bool.{Bool, true, false}
 use mathlib.Core.List.{List, _++_}
 use mathlib.Core.Logic.{_⊎_, inl, inr}
 use mathlib.Core.Option.{Option, none, some}
-use mathlib.Mathlib.Data.Bool.Basic.{and-elim-right}
 use Prim.Native.Nat.{ℕ, _-_, _^_, _≤_, _<_}
 use native.Mathlib.Omega.{arith}
-use borrow.Author.Tests.{leb-true, ltb-true, ltb-false}
+use borrow.Author.Tests.{ltb-true, ltb-false}
 use lib.Dec.{ltb}
 use lib.ListN.{length, take, drop, length-drop, take-append-drop}
 use lib.Seq.{length-take-le, take-add}
@@ -17,7 +16,7 @@ use Rattle.bits.specs.Part.{span}
 use Rattle.bits.proofs.Octets.{octets-take}
 use Rattle.bits.proofs.Splice.{length-span}
 use Rattle.allocator_table.specs.Layout.{gatheredAt, gatheredCount, timeOf, tableOf, soundState, withTime, withCount, withGathered, withEntry}
-use Rattle.allocator_table.specs.Limits.{uniqueIdMax, nodeMax, followupTimeout}
+use Rattle.allocator_table.specs.Limits.{uniqueIdMax, followupTimeout}
 use Rattle.allocator_table.specs.Table.{entry, insert, nodeOf, isGivable, isFree, given}
 use Rattle.allocator_table.proofs.Inserted.{found-inserted}
 use Rattle.allocator_table.proofs.Lasting.{sound-timed, sound-counted, sound-gathered}
@@ -31,7 +30,7 @@ use Rattle.allocator.specs.Service.{Stage, Service}
 use Rattle.allocator.specs.Stage.{stageOf, expectedAt, accepts, keptAt, joined, preferred}
 use Rattle.allocator.proofs.Again.{on-message, none-given}
 use Rattle.allocator.proofs.Called.{Expected}
-use Rattle.allocator.proofs.Decisions.{is-part, is-whole}
+use Rattle.allocator.proofs.Decisions.{givable-small, is-part, is-whole}
 use Rattle.allocator.proofs.Lasts.{none-above, enters-table}
 use Rattle.allocator.proofs.Reading.{replied, replied-state}
 use Rattle.allocator.proofs.Stages.{kept-all, kept-none, preferred-le}
@@ -98,7 +97,7 @@ module _ (m : List ℕ) (c : Call) (first : ℕ) (part : List ℕ) (k : ℕ) (s 
         entered : nodeOf (le g) (tableOf (resultOf m c .state)) ≡ some node
 
       small : (n : ℕ) → isGivable n ≡ true → n < 128
-      small n h = omega (arith, leb-true n nodeMax (and-elim-right (ltb 0 n) _ h))
+      small n h = omega (arith, givable-small n h)
 
       known : (n : ℕ) → nodeOf (le g) (tableOf m) ≡ some n → Granted
       unfolding performs completes

@@ -4,6 +4,7 @@ use mathlib.Core.List.{List, _++_}
 use mathlib.Core.Option.{Option, none, some}
 use Prim.Native.Nat.{ℕ}
 use lib.Dec.{eqb, ltb}
+use lib.IntN.{pos, natAbs}
 use lib.ListN.{length, drop}
 use Rattle.bits.specs.Little.{le}
 use Rattle.rules.specs.Tests.{pick}
@@ -42,8 +43,15 @@ allots none none = exhausted
 unfoldable pub completes : List ℕ → Request → List ℕ → ℕ → Verdict
 completes m q g p = allots (nodeOf (le g) (tableOf m)) (given (isFree (q .reserved) (tableOf m)) (preferred p))
 
--- RULES 16.4 to 16.7: by the node ID, the first part and the unique ID of the message
-unfoldable pub decide : List ℕ → Request → Values allocation → Verdict
+-- the node ID, the first part and the unique ID of a message: no number that is read is negative
+abbrev pub Fields : Type 0
+Fields = ℕ × (ℕ × List ℕ)
+
+abbrev pub fieldsOf : Values allocation → Fields
+fieldsOf v = (natAbs (v .0), (natAbs (v .1 .0), v .1 .1))
+
+-- RULES 16.4 to 16.7
+unfoldable pub decide : List ℕ → Request → Fields → Verdict
 decide m q v =
     let g = joined m (q .time) (v .1 .1) in
     pick (eqb (q .source) 0)
@@ -65,7 +73,7 @@ answered (refused n) m m' out = result (Refused n) m out
 answered (got bs) m m' out = result (Replied (length bs)) m' (bs ++ drop (length bs) out)
 
 abbrev pub replies : ℕ → List ℕ → List ℕ → List ℕ → List ℕ → Result
-replies n g m m' out = answered (encoded allocation (n, (0, g)) (length out)) m m' out
+replies n g m m' out = answered (encoded allocation (pos n, (pos 0, g)) (length out)) m m' out
 
 -- RULES 16.9: at the time t, with the bytes g gathered
 unfoldable pub performs : Verdict → List ℕ → ℕ → List ℕ → List ℕ → Result
@@ -80,7 +88,7 @@ performs exhausted m t g out = result Exhausted (withCount m 0) out
 
 unfoldable pub onMessage : Answer (Values allocation) → List ℕ → Request → List ℕ → Result
 onMessage (refused n) m q out = result (Refused n) m out
-onMessage (got v) m q out = performs (decide m q v) m (q .time) (joined m (q .time) (v .1 .1)) out
+onMessage (got v) m q out = performs (decide m q (fieldsOf v)) m (q .time) (joined m (q .time) (v .1 .1)) out
 
 -- an own node ID that 13 refuses
 abbrev pub noOwn : ℕ → Bool

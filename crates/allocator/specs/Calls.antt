@@ -4,6 +4,7 @@ use mathlib.Core.Bool.{true, false}
 use mathlib.Core.List.{List, [], _∷_}
 use mathlib.Core.Option.{none}
 use Prim.Native.Nat.{ℕ}
+use lib.IntN.{pos}
 use lib.ListN.{length, take}
 use Rattle.bits.specs.Little.{le}
 use Rattle.shape.specs.Answer.{got}
@@ -34,7 +35,7 @@ afterCalls m (c ∷ cs) = afterCalls (resultOf m c .state) cs
 pub record Reply (r : Result) (n : ℕ) (g : List ℕ) : Type 0 where
   pub len : ℕ
   pub answer : r .answer ≡ Replied len
-  pub message : decoded allocation (take len (r .out)) ≡ got (n, (0, g))
+  pub message : decoded allocation (take len (r .out)) ≡ got (pos n, (pos 0, g))
 
 -- a call that completes the unique ID g, which prefers the node ID p
 pub record Completes (m : List ℕ) (c : Call) (g : List ℕ) (p : ℕ) : Type 0 where
@@ -43,7 +44,7 @@ pub record Completes (m : List ℕ) (c : Call) (g : List ℕ) (p : ℕ) : Type 0
   pub anonymous : c .request .source ≡ 0
   pub first : ℕ
   pub part : List ℕ
-  pub message : decoded allocation (c .payload) ≡ got (p, (first, part))
+  pub message : decoded allocation (c .payload) ≡ got (pos p, (pos first, part))
   pub expected : accepts first (length part) (keptAt m (c .request .time)) ≡ true
   pub whole : length g ≡ uniqueIdMax
   pub is : joined m (c .request .time) part ≡ g

@@ -5,6 +5,7 @@ use mathlib.Core.List.{List}
 use mathlib.Core.Logic.{_⊎_}
 use mathlib.Core.Option.{some}
 use Prim.Native.Nat.{ℕ, _-_, _^_, _≤_, _<_}
+use lib.IntN.{pos}
 use lib.ListN.{length, take, drop}
 use Rattle.bits.specs.Little.{le}
 use Rattle.bits.specs.Order.{Octets}
@@ -25,7 +26,7 @@ pub record Stage (c : Call) (first : ℕ) (part : List ℕ) (k : ℕ) : Type 0 w
   -- as its type says
   pub time : c .request .time < 2 ^ 64
   pub prefers : ℕ
-  pub message : decoded allocation (c .payload) ≡ got (prefers, (first, part))
+  pub message : decoded allocation (c .payload) ≡ got (pos prefers, (pos first, part))
   pub room : k < length (c .out)
 
 -- the three stages of the unique ID u, one after the other

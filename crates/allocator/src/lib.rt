@@ -62,8 +62,8 @@ pub fn allocate(state: &mut [u8], q: Request, payload: &[u8], out: &mut [u8]) ->
         Read::Got(a) => serve::message(
             state,
             q,
-            a.node_id,
-            a.first_part_of_unique_id,
+            a.node_id as u64,
+            a.first_part_of_unique_id as u64,
             allocation::unique_id(payload),
             out,
         ),

@@ -39,10 +39,10 @@ fn follow_up(state: &mut [u8], t: u64, g: &[u8], out: &mut [u8]) -> Answer
 
 // The reply to a unique ID in the table.
 fn confirm(state: &mut [u8], t: u64, g: &[u8], node: usize, out: &mut [u8]) -> Answer
-    requires { ⌜ size ≤ length (now state) ⌝ }
+    requires { ⌜ (size ≤ length (now state)) × (node ≤ nodeMax) ⌝ }
     ensures { λ r. ⌜ result r (now (state .exit)) (now (out .exit)) ≡ performs (knows node) (now (state .entry)) t (now (g .entry)) (now (out .entry)) ⌝ }
 {
-    let reply = allocation::encode(node as u64, 0, g, out);
+    let reply = allocation::encode(node as i64, 0, g, out);
     match reply {
         Written::Refused(n) => Answer::Refused(n),
         Written::Wrote(n) => {
@@ -55,10 +55,10 @@ fn confirm(state: &mut [u8], t: u64, g: &[u8], node: usize, out: &mut [u8]) -> A
 
 // The reply to a new unique ID, and its entry.
 fn enter(state: &mut [u8], t: u64, g: &[u8], node: usize, out: &mut [u8]) -> Answer
-    requires { ⌜ (soundState (now state) ≡ true) × ((entryCount (now state) < nodeMax) × (length (now g) ≡ uniqueIdMax)) ⌝ }
+    requires { ⌜ (soundState (now state) ≡ true) × ((entryCount (now state) < nodeMax) × ((length (now g) ≡ uniqueIdMax) × (node ≤ nodeMax))) ⌝ }
     ensures { λ r. ⌜ result r (now (state .exit)) (now (out .exit)) ≡ performs (gives node) (now (state .entry)) t (now (g .entry)) (now (out .entry)) ⌝ }
 {
-    let reply = allocation::encode(node as u64, 0, g, out);
+    let reply = allocation::encode(node as i64, 0, g, out);
     match reply {
         Written::Refused(n) => Answer::Refused(n),
         Written::Wrote(n) => {

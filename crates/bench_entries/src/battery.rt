@@ -4,14 +4,15 @@ use equipment_power::battery_info::BatteryInfo;
 use equipment_power::battery_info::Read;
 use shape::answer::Place;
 use shape::answer::Written;
+use shape::signed::size;
 
 fn number(x: BatteryInfo, name: Place) -> u64 {
-    let state = x.status_flags
-        ^ (x.state_of_health_pct << 11)
-        ^ (x.state_of_charge_pct << 18)
-        ^ (x.state_of_charge_pct_stdev << 25)
-        ^ (x.battery_id << 32);
-    state ^ (x.model_instance_id << 28) ^ (name.at ^ (name.len << 5)) as u64
+    let state = size(x.status_flags)
+        ^ (size(x.state_of_health_pct) << 11)
+        ^ (size(x.state_of_charge_pct) << 18)
+        ^ (size(x.state_of_charge_pct_stdev) << 25)
+        ^ (size(x.battery_id) << 32);
+    state ^ (size(x.model_instance_id) << 28) ^ (name.at ^ (name.len << 5)) as u64
 }
 
 #[no_mangle]
@@ -34,7 +35,7 @@ pub extern "C" fn bench_battery_decode(payload: &[u8], floats: &mut [f32; 7]) ->
 #[no_mangle]
 pub extern "C" fn bench_battery_encode(
     floats: &[f32; 7],
-    v: &[u64; 6],
+    v: &[i64; 6],
     model_name: &[u8],
     out: &mut [u8],
 ) -> u64 {

@@ -1,22 +1,18 @@
 // The response of GetNodeInfo under C names, with the same results as those of NodeStatus.
+use super::status::of_status;
 use protocol::get_node_info_response;
 use protocol::get_node_info_response::Numbers;
 use protocol::get_node_info_response::Read;
 use protocol::get_node_info_response::SoftwareVersion;
 use protocol::node_status::NodeStatus;
 use shape::answer::Written;
-
-fn of_status(s: NodeStatus) -> u64 {
-    s.uptime_sec
-        ^ (s.health << 32)
-        ^ (s.mode << 34)
-        ^ (s.sub_mode << 37)
-        ^ (s.vendor_specific_status_code << 40)
-}
+use shape::signed::size;
 
 fn of_software(v: SoftwareVersion) -> u64 {
-    let version = (v.major << 8) ^ (v.minor << 16) ^ (v.optional_field_flags << 24);
-    version ^ (v.vcs_commit << 32) ^ v.image_crc
+    let version = (size(v.major) << 8)
+        ^ (size(v.minor) << 16)
+        ^ (size(v.optional_field_flags) << 24);
+    version ^ (size(v.vcs_commit) << 32) ^ v.image_crc
 }
 
 #[no_mangle]
@@ -33,14 +29,19 @@ pub extern "C" fn bench_info_decode(payload: &[u8]) -> u64 {
             let places = (u.at ^ (u.len << 9))
                 ^ ((c.at << 18) ^ (c.len << 27))
                 ^ ((n.at << 36) ^ (n.len << 45));
-            of_status(s) ^ of_software(v) ^ (h.major << 48) ^ (h.minor << 56) ^ places as u64
+            of_status(s)
+                ^ of_software(v)
+                ^ (size(h.major) << 48)
+                ^ (size(h.minor) << 56)
+                ^ places as u64
         }
     }
 }
 
 #[no_mangle]
 pub extern "C" fn bench_info_encode(
-    v: &[u64; 12],
+    v: &[i64; 11],
+    image_crc: u64,
     unique_id: &[u8],
     certificate: &[u8],
     name: &[u8],
@@ -59,10 +60,10 @@ pub extern "C" fn bench_info_encode(
             minor: v[6],
             optional_field_flags: v[7],
             vcs_commit: v[8],
-            image_crc: v[9],
+            image_crc,
         },
-        hardware_version_major: v[10],
-        hardware_version_minor: v[11],
+        hardware_version_major: v[9],
+        hardware_version_minor: v[10],
     };
     match get_node_info_response::encode(m, unique_id, certificate, name, out) {
         Written::Refused(n) => u64::MAX - n as u64,

@@ -3,23 +3,29 @@ use protocol::node_status;
 use protocol::node_status::NodeStatus;
 use protocol::node_status::Read;
 use shape::answer::Written;
+use shape::signed::size;
 
-// One number made of the fields, so that none can be left unread. Of a refusal, its number from the top.
+// Internal. One number made of the fields, so that none can be left unread.
+pub fn of_status(x: NodeStatus) -> u64 {
+    size(x.uptime_sec)
+        ^ (size(x.health) << 32)
+        ^ (size(x.mode) << 34)
+        ^ (size(x.sub_mode) << 37)
+        ^ (size(x.vendor_specific_status_code) << 40)
+}
+
+// Of a refusal, its number from the top.
 #[no_mangle]
 pub extern "C" fn bench_status_decode(payload: &[u8]) -> u64 {
     match node_status::decode(payload) {
         Read::Refused(n) => u64::MAX - n as u64,
-        Read::Got(x) => x.uptime_sec
-            ^ (x.health << 32)
-            ^ (x.mode << 34)
-            ^ (x.sub_mode << 37)
-            ^ (x.vendor_specific_status_code << 40),
+        Read::Got(x) => of_status(x),
     }
 }
 
 // The number of bytes written. Of a refusal, its number from the top.
 #[no_mangle]
-pub extern "C" fn bench_status_encode(v: &[u64; 5], out: &mut [u8]) -> u64 {
+pub extern "C" fn bench_status_encode(v: &[i64; 5], out: &mut [u8]) -> u64 {
     let x = NodeStatus {
         uptime_sec: v[0],
         health: v[1],

@@ -30,7 +30,7 @@ pub fn decode(payload: &[u8], out: &mut [u8], at: usize) -> usize {
 pub fn encode(words: &[u8], bytes: &mut [u8], out: &mut [u8]) -> Encoded
     requires { ⌜ length (now words) ≤ length (now bytes) ⌝ }
 {
-    let mut v = [0u64; 2];
+    let mut v = [0i64; 2];
     if !fields::read(&NAMES, words, &mut v, bytes) {
         return Encoded::IllFormed;
     }

@@ -3,6 +3,7 @@ use binary16::pattern;
 use codec_text::answer;
 use codec_text::answer::Encoded;
 use codec_text::fields;
+use codec_text::float;
 use codec_text::names;
 use equipment_power::battery_info;
 use equipment_power::battery_info::Raw;
@@ -16,15 +17,15 @@ const NAMES: [u8; 233] =
 status_flags state_of_health_pct state_of_charge_pct state_of_charge_pct_stdev battery_id model_instance_id model_name";
 
 // The numbers, in the order of the names.
-fn values(m: Raw) -> [u64; 13] {
+fn values(m: Raw) -> [i64; 13] {
     [
-        pattern::widen(m.temperature) as u64,
-        pattern::widen(m.voltage) as u64,
-        pattern::widen(m.current) as u64,
-        pattern::widen(m.average_power_10sec) as u64,
-        pattern::widen(m.remaining_capacity_wh) as u64,
-        pattern::widen(m.full_charge_capacity_wh) as u64,
-        pattern::widen(m.hours_to_full_charge) as u64,
+        pattern::widen(m.temperature) as i64,
+        pattern::widen(m.voltage) as i64,
+        pattern::widen(m.current) as i64,
+        pattern::widen(m.average_power_10sec) as i64,
+        pattern::widen(m.remaining_capacity_wh) as i64,
+        pattern::widen(m.full_charge_capacity_wh) as i64,
+        pattern::widen(m.hours_to_full_charge) as i64,
         m.status_flags,
         m.state_of_health_pct,
         m.state_of_charge_pct,
@@ -50,25 +51,24 @@ pub fn decode(payload: &[u8], out: &mut [u8], at: usize) -> usize {
     }
 }
 
-// 2^32.
-const PATTERNS: u64 = 4294967296;
-
 // Whether each of the floats is of 32 bits.
-fn are_floats(v: [u64; 13]) -> bool {
-    (v[0] < PATTERNS)
-        & (v[1] < PATTERNS)
-        & (v[2] < PATTERNS)
-        & (v[3] < PATTERNS)
-        & (v[4] < PATTERNS)
-        & (v[5] < PATTERNS)
-        & (v[6] < PATTERNS)
+fn are_floats(v: [i64; 13]) -> bool {
+    let mut i = 0;
+    while i < 7 {
+        let x = v[i];
+        if !float::is_pattern(x) {
+            return false;
+        }
+        i += 1;
+    }
+    true
 }
 
-fn half(bits: u64) -> u16 {
-    pattern::narrow((bits % PATTERNS) as u32)
+fn half(v: i64) -> u16 {
+    pattern::narrow(float::bits(v))
 }
 
-fn raw_of(v: [u64; 13]) -> Raw {
+fn raw_of(v: [i64; 13]) -> Raw {
     Raw {
         temperature: half(v[0]),
         voltage: half(v[1]),
@@ -87,7 +87,7 @@ fn raw_of(v: [u64; 13]) -> Raw {
 }
 
 // The call on fields that were read.
-fn written(v: [u64; 13], model_name: &[u8], out: &mut [u8]) -> Written {
+fn written(v: [i64; 13], model_name: &[u8], out: &mut [u8]) -> Written {
     if !are_floats(v) {
         return Written::Refused(17);
     }
@@ -98,7 +98,7 @@ fn written(v: [u64; 13], model_name: &[u8], out: &mut [u8]) -> Written {
 pub fn encode(words: &[u8], bytes: &mut [u8], out: &mut [u8]) -> Encoded
     requires { ⌜ length (now words) ≤ length (now bytes) ⌝ }
 {
-    let mut v = [0u64; 13];
+    let mut v = [0i64; 13];
     if !fields::read(&NAMES, words, &mut v, bytes) {
         return Encoded::IllFormed;
     }

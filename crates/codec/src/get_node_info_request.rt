@@ -7,7 +7,7 @@ use protocol::get_node_info_request::Read;
 pub fn decode(payload: &[u8], out: &mut [u8], at: usize) -> usize {
     match get_node_info_request::decode(payload) {
         Read::Refused(n) => answer::refused(out, at, n),
-        Read::Got => answer::numbers(out, at, b"", &[0u64; 0]),
+        Read::Got => answer::numbers(out, at, b"", &[0i64; 0]),
     }
 }
 

@@ -4,9 +4,9 @@ use codec_text::answer::Encoded;
 use codec_text::fields;
 use codec_text::names;
 use protocol::get_node_info_response;
+use protocol::get_node_info_response::HardwareVersion;
 use protocol::get_node_info_response::Numbers;
 use protocol::get_node_info_response::Read;
-use protocol::get_node_info_response::Response;
 use protocol::get_node_info_response::SoftwareVersion;
 use protocol::node_status::NodeStatus;
 use shape::answer::Written;
@@ -18,10 +18,7 @@ const NAMES: [u8; 356] =
 software_version.major software_version.minor software_version.optional_field_flags software_version.vcs_commit \
 software_version.image_crc hardware_version.major hardware_version.minor hardware_version.unique_id hardware_version.certificate_of_authenticity name";
 
-fn put(x: Response, payload: &[u8], out: &mut [u8], at: usize) -> usize {
-    let s = x.status;
-    let w = x.software_version;
-    let h = x.hardware_version;
+fn put_software(s: NodeStatus, w: SoftwareVersion, out: &mut [u8], at: usize) -> usize {
     let v = [
         s.uptime_sec,
         s.health,
@@ -32,18 +29,24 @@ fn put(x: Response, payload: &[u8], out: &mut [u8], at: usize) -> usize {
         w.minor,
         w.optional_field_flags,
         w.vcs_commit,
-        w.image_crc,
-        h.major,
-        h.minor,
     ];
+    let a = answer::numbers(out, at, &NAMES, &v);
+    answer::unsigned(out, a, names::nth(&NAMES, 9), w.image_crc)
+}
+
+fn put_hardware(h: HardwareVersion, out: &mut [u8], at: usize) -> usize {
+    let a = answer::number(out, at, names::nth(&NAMES, 10), h.major);
+    answer::number(out, a, names::nth(&NAMES, 11), h.minor)
+}
+
+fn put_lists(payload: &[u8], out: &mut [u8], at: usize) -> usize {
     let unique_id = get_node_info_response::unique_id(payload);
     let certificate = get_node_info_response::certificate_of_authenticity(payload);
-    let a = answer::numbers(out, at, &NAMES, &v);
-    let b = answer::list(out, a, names::nth(&NAMES, 12), unique_id);
-    let c = answer::list(out, b, names::nth(&NAMES, 13), certificate);
+    let a = answer::list(out, at, names::nth(&NAMES, 12), unique_id);
+    let b = answer::list(out, a, names::nth(&NAMES, 13), certificate);
     answer::list(
         out,
-        c,
+        b,
         names::nth(&NAMES, 14),
         get_node_info_response::name(payload),
     )
@@ -52,11 +55,18 @@ fn put(x: Response, payload: &[u8], out: &mut [u8], at: usize) -> usize {
 pub fn decode(payload: &[u8], out: &mut [u8], at: usize) -> usize {
     match get_node_info_response::decode(payload) {
         Read::Refused(n) => answer::refused(out, at, n),
-        Read::Got(x) => put(x, payload, out, at),
+        Read::Got(x) => {
+            let s = x.status;
+            let w = x.software_version;
+            let h = x.hardware_version;
+            let a = put_software(s, w, out, at);
+            let b = put_hardware(h, out, a);
+            put_lists(payload, out, b)
+        }
     }
 }
 
-fn numbers(v: [u64; 12]) -> Numbers {
+fn numbers(v: [i64; 12], image_crc: u64) -> Numbers {
     Numbers {
         status: NodeStatus {
             uptime_sec: v[0],
@@ -70,29 +80,27 @@ fn numbers(v: [u64; 12]) -> Numbers {
             minor: v[6],
             optional_field_flags: v[7],
             vcs_commit: v[8],
-            image_crc: v[9],
+            image_crc,
         },
         hardware_version_major: v[10],
         hardware_version_minor: v[11],
     }
 }
 
-// The call on fields that were read. The image CRC takes every number of 64 bits, and no other.
-fn written(words: &[u8], v: [u64; 12], bytes: &[u8], out: &mut [u8]) -> Written {
-    if fields::is_outside(words, names::nth(&NAMES, 9)) {
-        return Written::Refused(17);
-    }
+// The call on fields that were read.
+fn written(words: &[u8], v: [i64; 12], bytes: &[u8], out: &mut [u8]) -> Written {
+    let image_crc = fields::unsigned(words, names::nth(&NAMES, 9));
     let unique_id = fields::list(words, names::nth(&NAMES, 12), bytes);
     let certificate = fields::list(words, names::nth(&NAMES, 13), bytes);
     let name = fields::list(words, names::nth(&NAMES, 14), bytes);
-    get_node_info_response::encode(numbers(v), unique_id, certificate, name, out)
+    get_node_info_response::encode(numbers(v, image_crc), unique_id, certificate, name, out)
 }
 
 // Internal.
 pub fn encode(words: &[u8], bytes: &mut [u8], out: &mut [u8]) -> Encoded
     requires { ⌜ length (now words) ≤ length (now bytes) ⌝ }
 {
-    let mut v = [0u64; 12];
+    let mut v = [0i64; 12];
     if !fields::read(&NAMES, words, &mut v, bytes) {
         return Encoded::IllFormed;
     }

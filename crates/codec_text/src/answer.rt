@@ -25,13 +25,25 @@ pub fn refused(out: &mut [u8], at: usize, number: u32) -> usize {
     put::decimal(out, at, number as u64)
 }
 
+// Internal. A number under its name.
+pub fn number(out: &mut [u8], at: usize, name: &[u8], v: i64) -> usize {
+    let a = label(out, at, name);
+    signed::number(out, a, v)
+}
+
+// Internal. The same of a field of 64 bits without a sign.
+pub fn unsigned(out: &mut [u8], at: usize, name: &[u8], v: u64) -> usize {
+    let a = label(out, at, name);
+    put::decimal(out, a, v)
+}
+
 // Internal. Success, and the numbers of a message under the first names.
-pub fn numbers(out: &mut [u8], at: usize, names: &[u8], values: &[u64]) -> usize {
+pub fn numbers(out: &mut [u8], at: usize, names: &[u8], values: &[i64]) -> usize {
     let mut o = put::byte(out, at, 48);
     let mut i = 0;
     while i < values.len() {
-        let a = label(out, o, names::nth(names, i));
-        o = put::decimal(out, a, values[i]);
+        let v = values[i];
+        o = number(out, o, names::nth(names, i), v);
         i += 1;
     }
     o

@@ -4,7 +4,7 @@ use super::hex::Length;
 use super::names;
 use super::names::Found;
 use super::number;
-use super::number::Number;
+use super::number::Signed;
 use shape::answer::Place;
 use shape::part;
 ghost use Prim.Native.Nat.{_+_, _≤_};
@@ -31,19 +31,14 @@ fn find(words: &[u8], name: &[u8]) -> Place
     Place { at: 0, len: 0 }
 }
 
-// A number below 0 or of 2^64 and more counts as the largest, which a field of fewer bits does not take.
-fn number(values: &mut [u64], i: usize, s: &[u8]) -> bool {
+fn number(values: &mut [i64], i: usize, s: &[u8]) -> bool {
     if i < values.len() {
         match number::read(s) {
-            Number::Is(v) => {
+            Signed::Is(v) => {
                 values[i] = v;
                 true
             }
-            Number::Outside => {
-                values[i] = u64::MAX;
-                true
-            }
-            Number::Not => false,
+            Signed::Not => false,
         }
     } else {
         false
@@ -51,7 +46,7 @@ fn number(values: &mut [u64], i: usize, s: &[u8]) -> bool {
 }
 
 // The i-th field, whose value s is at `at`: a number as long as there are numbers, then a list, whose bytes go to the same place.
-fn value(values: &mut [u64], i: usize, s: &[u8], bytes: &mut [u8], at: usize) -> bool
+fn value(values: &mut [i64], i: usize, s: &[u8], bytes: &mut [u8], at: usize) -> bool
     requires { ⌜ at + length (now s) ≤ length (now bytes) ⌝ }
 {
     if i < values.len() {
@@ -69,7 +64,7 @@ fn word(
     words: &[u8],
     from: usize,
     to: usize,
-    values: &mut [u64],
+    values: &mut [i64],
     bytes: &mut [u8],
 ) -> bool
     requires { ⌜ (from ≤ to) × ((to ≤ length (now words)) × (length (now words) ≤ length (now bytes))) ⌝ }
@@ -92,7 +87,7 @@ fn word(
 
 // Internal. Reads every word: the numbers into `values`, in the order of the names, the lists into `bytes`, each where its digits are in
 // the words. A field that is not named stays as it is. Whether all is well formed.
-pub fn read(names: &[u8], words: &[u8], values: &mut [u64], bytes: &mut [u8]) -> bool
+pub fn read(names: &[u8], words: &[u8], values: &mut [i64], bytes: &mut [u8]) -> bool
     requires { ⌜ length (now words) ≤ length (now bytes) ⌝ }
 {
     let mut p = 0;
@@ -112,13 +107,10 @@ pub fn list<'a>(words: &[u8], name: &[u8], bytes: &'a [u8]) -> &'a [u8] {
     part::within(bytes, p.at, p.len / 2)
 }
 
-// Internal. Whether the number of that name is below 0 or of 2^64 and more, which a field of 64 bits has to ask.
-pub fn is_outside(words: &[u8], name: &[u8]) -> bool {
+// Internal. The number of that name for a field of 64 bits without a sign, of words that were read.
+pub fn unsigned(words: &[u8], name: &[u8]) -> u64 {
     let p = find(words, name);
     let at = p.at;
     let end = p.at + p.len;
-    match number::read(&words[at..end]) {
-        Number::Outside => true,
-        _ => false,
-    }
+    number::unsigned(&words[at..end])
 }

@@ -1,64 +1,14 @@
-// Lists of signed numbers as text: decimal digits, after a minus sign or not, and a comma between two; a dash for none.
+// Signed numbers as text: decimal digits, after a minus sign or not; in a list, a comma between two, and a dash for none.
 use super::number;
-use super::number::Number;
+use super::number::Signed;
 use super::put;
 use shape::signed;
-ghost use Prim.Native.Nat.{_+_, _≤_};
-ghost use lib.ListN.{length};
+ghost use Prim.Native.Nat.{_+_};
 
 // How many numbers a list has, or that it is none.
 pub enum Count {
     Is(usize),
     Not,
-}
-
-enum Signed {
-    Is(i64),
-    Not,
-}
-
-const LARGEST: i64 = 9223372036854775807;
-
-const SMALLEST: i64 = -9223372036854775808;
-
-// What is beyond 64 bits counts as the largest or the smallest, which a field of fewer bits does not take.
-fn above(n: Number) -> Signed {
-    match n {
-        Number::Is(v) => {
-            if v < 9223372036854775808 {
-                return Signed::Is(signed::value(v, 64));
-            }
-            Signed::Is(LARGEST)
-        }
-        Number::Outside => Signed::Is(LARGEST),
-        Number::Not => Signed::Not,
-    }
-}
-
-fn below(n: Number) -> Signed {
-    match n {
-        Number::Is(v) => {
-            if v == 0 {
-                return Signed::Is(0);
-            }
-            if v < 9223372036854775808 {
-                return Signed::Is(signed::value(u64::MAX - (v - 1), 64));
-            }
-            Signed::Is(SMALLEST)
-        }
-        Number::Outside => Signed::Is(SMALLEST),
-        Number::Not => Signed::Not,
-    }
-}
-
-fn one(s: &[u8]) -> Signed {
-    if s.len() == 0 {
-        return Signed::Not;
-    }
-    if s[0] == 45 {
-        return below(number::digits(&s[1..]));
-    }
-    above(number::digits(s))
 }
 
 // The i-th number, if there is a place for it.
@@ -86,7 +36,7 @@ pub fn read(s: &[u8], places: &mut [i64]) -> Count {
     let mut p = 0;
     while p <= s.len() {
         let e = digits::find(s, p, 44);
-        if !take(places, n, one(&s[p..e])) {
+        if !take(places, n, number::read(&s[p..e])) {
             return Count::Not;
         }
         n += 1;
@@ -119,7 +69,8 @@ pub fn first(s: &[i64], n: usize) -> &[i64] {
     &s[0..n]
 }
 
-fn number(out: &mut [u8], at: usize, v: i64) -> usize {
+// Internal.
+pub fn number(out: &mut [u8], at: usize, v: i64) -> usize {
     if v < 0 {
         let a = put::byte(out, at, 45);
         return put::decimal(out, a, signed::size(v) + 1);

@@ -1,29 +1,30 @@
 -- RawCommand: what its reader and its writer go by.
 use mathlib.Core.Path.{_≡_, refl, sym, ap, _∙_}
-use mathlib.Core.Bool.{Bool, true, false, not, _&&_}
+use mathlib.Core.Bool.{Bool, true, false, _&&_}
 use mathlib.Core.List.{List, [], _∷_, _++_, map, append-assoc, append-nil}
-use Prim.Native.Nat.{ℕ, zero, suc, _+_, _*_, _-_, _/_, _^_, _≤_, _<_}
+use Prim.Native.Nat.{ℕ, zero, suc, _+_, _*_, _-_, _≤_, _<_}
 use native.Mathlib.Numerals.{add-one}
 use native.Mathlib.Omega.{arith}
-use borrow.Author.Tests.{lt-ltb, le-leb, lt-leb, ltb-true, leb-true}
+use borrow.Author.Tests.{lt-ltb, le-ltb, le-leb, ltb-true}
 use lib.Dec.{ltb, leb, lit≤}
-use lib.IntN.{ℤ, pos}
+use lib.IntN.{ℤ, pos, negsuc}
 use lib.Signed.{mag}
-use lib.ListN.{length, take, drop, getD, set, replicate, length-append, length-map, length-replicate}
+use lib.ListN.{length, take, drop, getD, set, replicate, length-map}
 use lib.Seq.{take-suc, take-all, take-at, set-at, length-take-le}
 use mir.Syntax.{w64}
-use mir.Val.{SFits, toZ, ofZ}
+use mir.Val.{toZ, ofZ}
 use mir.ValLaws.{toZ-ofZ}
-use Rattle.bits.specs.Order.{Octets, unpack, bytesFor, padding, store}
-use Rattle.shape.specs.Answer.{Answer, refused, got, numbered, refuseIf, mapAnswer, wrote}
-use Rattle.shape.specs.Shape.{anything, itemBits, itemsOf, allBelow, encode, decode, fits, written}
-use Rattle.shape.specs.Signed.{signedOf, patternOf, inRange}
-use Rattle.shape.proofs.Fields.{and-left, and-right, and-both, and-true, and-assoc, length-itemBits, length-itemsOf, items-below}
+use Rattle.bits.specs.Order.{Octets, unpack, bytesFor, store}
+use Rattle.shape.specs.Answer.{refused, got, numbered, refuseIf, mapAnswer, wrote}
+use Rattle.shape.specs.Shape.{itemBits, itemsOf, allBelow, encode, decode, fits, written}
+use Rattle.shape.specs.Cast.{signed, saturated}
+use Rattle.shape.specs.Signed.{signedOf, inRange}
+use Rattle.shape.proofs.Fields.{and-left, and-right, and-both, length-itemBits, length-itemsOf, items-below}
 use Rattle.shape.proofs.Reading.{unrefused, unread, refused-from, refused-on, got-on}
 use Rattle.shape.proofs.Writing.{refuse-8-padded, write-padded}
 use Rattle.shape.proofs.ItemFacts.{Counts, counts}
-use Rattle.shape.proofs.SignedFacts.{mag-lt, pattern-lt, signed-pattern, pattern-signed, signed-in}
-use Rattle.equipment_esc.specs.RawCommand.{rawCommand, commandOf, commandIn, readOf, numbersOf, allIn, commandFits, commandValues, commandEncoded}
+use Rattle.shape.proofs.CastFacts.{low-value, cast-lt}
+use Rattle.equipment_esc.specs.RawCommand.{rawCommand, commandOf, commandIn, readOf, numbersOf, patternOf, commandValues, commandEncoded}
 use Rattle.equipment_esc.specs.declared.raw_command.RawCommand.{RawCommand}
 use Rattle.equipment_esc.specs.declared.raw_command.Read.{Read}
 
@@ -54,51 +55,22 @@ all-mapped {A} {B} f xs z out i h l e =
     let k : 20 - i ≡ 0 = omega arith in
     e ∙ ap (λ (j : ℕ). map f (take i xs) ++ replicate j z) k ∙ append-nil (map f (take i xs)) ∙ ap (λ (o : List A). map f o) (take-all i xs (omega arith))
 
--- ── numbers in range ──
+-- ── numbers and their bits ──
 
 -- what a signed local holds
 pub held : (z : ℤ) → mag z < 9223372036854775808 → toZ w64 (ofZ w64 z) ≡ z
 held z h = toZ-ofZ w64 z (record { sfits = h })
 
+mag-lt : (z : ℤ) → inRange 14 z ≡ true → mag z < 8192
+unfolding inRange
+mag-lt (pos n) e = ltb-true n 8192 e
+mag-lt (negsuc n) e = ltb-true n 8192 e
+
 -- the number of 14 bits does
 pub signed-held : (z : ℤ) (n : ℕ) → n < 16384 → z ≡ signedOf 14 n → toZ w64 (ofZ w64 z) ≡ signedOf 14 n
 signed-held z n h e =
-    let l : mag (signedOf 14 n) < 8192 = mag-lt 14 (signedOf 14 n) (signed-in 14 n (lit≤ tt) h) in
+    let l : mag (signedOf 14 n) < 8192 = mag-lt (signedOf 14 n) (low-value signed 14 n (lit≤ tt) h .1) in
     ap (λ (y : ℤ). toZ w64 (ofZ w64 y)) e ∙ held (signedOf 14 n) (omega arith)
-
-all-in-append : (xs ys : List ℤ) → allIn (xs ++ ys) ≡ allIn xs && allIn ys
-unfolding allIn
-all-in-append [] ys = refl
-all-in-append (x ∷ xs) ys = rw (all-in-append xs ys) (sym (and-assoc (inRange 14 x) (allIn xs) (allIn ys)))
-
-one-in : (z : ℤ) → allIn (z ∷ []) ≡ inRange 14 z
-unfolding allIn
-one-in z = and-true (inRange 14 z)
-
--- the first i and the next
-pub next-in : (zs : List ℤ) (i : ℕ) → i < length zs → allIn (take (i + 1) zs) ≡ allIn (take i zs) && inRange 14 (getD zs i (pos 0))
-next-in zs i h =
-    ap (λ (n : ℕ). allIn (take n zs)) (add-one i) ∙ ap allIn (take-suc zs i (pos 0) h) ∙ all-in-append (take i zs) (getD zs i (pos 0) ∷ [])
-    ∙ ap (λ (b : Bool). allIn (take i zs) && b) (one-in (getD zs i (pos 0)))
-
--- one of those in range
-pub in-at : (zs : List ℤ) (i : ℕ) → i < length zs → allIn zs ≡ true → inRange 14 (getD zs i (pos 0)) ≡ true
-unfolding allIn
-in-at [] i h e = absurd (omega arith)
-in-at (z ∷ zs) zero h e = and-left (inRange 14 z) (allIn zs) e
-in-at (z ∷ zs) (suc i) h e = in-at zs i (omega arith) (and-right (inRange 14 z) (allIn zs) e)
-
-still : (a b c : Bool) → (b ≡ false → c ≡ false) → a && b ≡ false → a && c ≡ false
-still true b c h e = h e
-still false b c h e = refl
-
--- more of the list can only be worse
-pub not-in : (zs : List ℤ) (i n : ℕ) → i ≤ n → allIn (take i zs) ≡ false → allIn (take n zs) ≡ false
-unfolding allIn
-not-in zs zero n h e = absurd (let z : _≡_ {A = ℕ} 0 1 = cc in omega arith)
-not-in zs (suc i) zero h e = absurd (omega arith)
-not-in [] (suc i) (suc n) h e = e
-not-in (z ∷ zs) (suc i) (suc n) h e = still (inRange 14 z) (allIn (take i zs)) (allIn (take n zs)) (not-in zs i n (omega arith)) e
 
 pub below-at : (n : ℕ) (xs : List ℕ) (i : ℕ) → i < length xs → allBelow n xs ≡ true → getD xs i 0 < n
 unfolding allBelow
@@ -159,37 +131,30 @@ module _ (p : List ℕ) where
 
 -- ── writing ──
 
-values-below : (zs : List ℤ) → allIn zs ≡ true → allBelow 16384 (map (patternOf 14) zs) ≡ true
-unfolding allIn allBelow
-values-below [] e = refl
-values-below (z ∷ zs) e =
-    and-both (ltb (patternOf 14 z) 16384) (allBelow 16384 (map (patternOf 14) zs))
-    (lt-ltb (patternOf 14 z) 16384 (pattern-lt 14 z (lit≤ tt) (and-left (inRange 14 z) (allIn zs) e))) (values-below zs (and-right (inRange 14 z) (allIn zs) e))
+values-below : (zs : List ℤ) → allBelow 16384 (map patternOf zs) ≡ true
+unfolding allBelow
+values-below [] = refl
+values-below (z ∷ zs) =
+    and-both (ltb (patternOf z) 16384) (allBelow 16384 (map patternOf zs)) (lt-ltb (patternOf z) 16384 (cast-lt signed saturated 14 z)) (values-below zs)
 
 module _ (x : RawCommand) (m : List ℕ) where
-  pub too-large : commandFits x ≡ false → (numbered (refused 17), m) ≡ wrote (commandEncoded x (length m)) m
+  pub too-many : 20 < x .count → (numbered (refused 17), m) ≡ wrote (commandEncoded x (length m)) m
   unfolding commandEncoded refuseIf
-  too-large f = rw f
+  too-many h = rw (lt-ltb 20 (x .count) h)
 
-  module _ (long : length (x .cmd) ≡ 20) (f : commandFits x ≡ true) where
-    pub few : x .count ≤ 20
-    few = leb-true (x .count) 20 (and-left (leb (x .count) 20) (allIn (numbersOf x)) f)
-
-    pub numbers-in : allIn (numbersOf x) ≡ true
-    numbers-in = and-right (leb (x .count) 20) (allIn (numbersOf x)) f
-
+  module _ (long : length (x .cmd) ≡ 20) (few : x .count ≤ 20) where
     as-many : length (commandValues x) ≡ x .count
-    as-many = length-map (numbersOf x) (patternOf 14) ∙ length-take-le (x .count) (x .cmd) (omega (arith, few))
+    as-many = length-map (numbersOf x) patternOf ∙ length-take-le (x .count) (x .cmd) (omega (arith, few))
 
     values-fit : fits rawCommand (commandValues x) ≡ true
     unfolding fits
     values-fit =
         and-both (leb (length (commandValues x)) 20) (allBelow 16384 (commandValues x) && true) (le-leb (length (commandValues x)) 20 (omega (arith, as-many, few)))
-        (and-both (allBelow 16384 (commandValues x)) true (values-below (numbersOf x) numbers-in) refl)
+        (and-both (allBelow 16384 (commandValues x)) true (values-below (numbersOf x)) refl)
 
     by-values : written rawCommand (commandValues x) m ≡ wrote (commandEncoded x (length m)) m
     unfolding commandEncoded refuseIf
-    by-values = rw f
+    by-values = rw (le-ltb 20 (x .count) few)
 
     bits : length (encode rawCommand (commandValues x)) ≡ x .count * 14
     unfolding encode

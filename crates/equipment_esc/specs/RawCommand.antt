@@ -1,14 +1,14 @@
 -- RULES 10.10: RawCommand, a list of at most 20 signed numbers of 14 bits that ends the message.
-use mathlib.Core.Bool.{Bool, true, not, _&&_}
-use mathlib.Core.List.{List, [], _∷_, _++_, map}
+use mathlib.Core.List.{List, [], _++_, map}
 use mathlib.Core.Option.{Option, none, some}
 use Prim.Native.Nat.{ℕ, _-_}
-use lib.Dec.{leb}
+use lib.Dec.{ltb}
 use lib.IntN.{ℤ, pos}
 use lib.ListN.{length, take, replicate}
-use Rattle.shape.specs.Answer.{Answer, Numbered, numbered, refuseIf, mapAnswer}
+use Rattle.shape.specs.Answer.{Answer, numbered, refuseIf, mapAnswer}
+use Rattle.shape.specs.Cast.{signed, saturated, castBits}
 use Rattle.shape.specs.Shape.{Shape, tail, Values, anything, decoded, encoded}
-use Rattle.shape.specs.Signed.{signedOf, patternOf, inRange}
+use Rattle.shape.specs.Signed.{signedOf}
 use Rattle.equipment_esc.specs.declared.raw_command.RawCommand.{RawCommand}
 use Rattle.equipment_esc.specs.declared.raw_command.Read.{Read}
 
@@ -44,16 +44,13 @@ readOf a = record { number = numbered a .number; message = orZeros (numbered a .
 abbrev pub numbersOf : RawCommand → List ℤ
 numbersOf x = take (x .count) (x .cmd)
 
-unfoldable pub allIn : List ℤ → Bool
-allIn [] = true
-allIn (z ∷ zs) = inRange 14 z && allIn zs
-
--- RULES 9.7: the count and each number fits
-abbrev pub commandFits : RawCommand → Bool
-commandFits x = leb (x .count) 20 && allIn (numbersOf x)
+-- RULES 9.14: the 14 bits of a number, saturated
+abbrev pub patternOf : ℤ → ℕ
+patternOf z = castBits signed saturated 14 z
 
 abbrev pub commandValues : RawCommand → Values rawCommand
-commandValues x = map (patternOf 14) (numbersOf x)
+commandValues x = map patternOf (numbersOf x)
 
+-- RULES 9.7: 17 for the count, then 8
 unfoldable pub commandEncoded : RawCommand → ℕ → Answer (List ℕ)
-commandEncoded x room = refuseIf (not (commandFits x)) 17 (encoded rawCommand (commandValues x) room)
+commandEncoded x room = refuseIf (ltb 20 (x .count)) 17 (encoded rawCommand (commandValues x) room)

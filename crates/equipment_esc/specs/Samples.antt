@@ -23,5 +23,8 @@ pub record Samples : Type 0 where
   pub byte : commandIn (0 ∷ []) ≡ refused 16
   -- a byte left over after a number, which comes before padding
   pub left : commandIn (1 ∷ 1 ∷ 1 ∷ []) ≡ refused 16
-  pub low : commandEncoded (commands (negsuc 8192 ∷ [])) 35 ≡ refused 17
-  pub high : commandEncoded (commands (pos 8192 ∷ [])) 35 ≡ refused 17
+  -- RULES 9.14: -8193, 8192, -2^63 and 2^63 - 1 are written as -8192, 8191, -8192 and 8191
+  pub clipped : commandEncoded (commands (negsuc 8192 ∷ pos 8192 ∷ negsuc 9223372036854775807 ∷ pos 9223372036854775807 ∷ [])) 7
+      ≡ commandEncoded (commands (negsuc 8191 ∷ pos 8191 ∷ negsuc 8191 ∷ pos 8191 ∷ [])) 7
+  -- a count is not clipped
+  pub count : commandEncoded (record { count = 21; cmd = commands [] .cmd }) 35 ≡ refused 17

@@ -1,5 +1,6 @@
 // RawCommand (message 1030; RULES 10.10): a list of signed numbers of 14 bits, and nothing else.
 use shape::answer::Written;
+use shape::cast;
 use shape::items;
 use shape::items::Counted;
 use shape::signed;
@@ -11,8 +12,8 @@ ghost use lib.ListN.{length, take, replicate};
 ghost use Rattle.bits.specs.Order.{unpack, bytesFor, store};
 ghost use Rattle.shape.specs.Answer.{answerOf, wrote};
 ghost use Rattle.shape.specs.Shape.{itemBits, itemsOf, allBelow};
-ghost use Rattle.shape.specs.Signed.{signedOf, patternOf};
-ghost use Rattle.equipment_esc.specs.RawCommand.{allIn, commandFits, commandEncoded, commandIn, readOf};
+ghost use Rattle.shape.specs.Signed.{signedOf};
+ghost use Rattle.equipment_esc.specs.RawCommand.{patternOf, commandEncoded, commandIn, readOf};
 
 // A command for each motor: the first `count` places. A reader leaves the others zero, a writer ignores them.
 pub struct RawCommand {
@@ -73,44 +74,16 @@ pub fn decode(payload: &[u8]) -> Read
     }
 }
 
-// Whether 14 bits hold each of the first n.
-fn all_fit(cmd: [i64; 20], n: usize) -> bool
-    requires { ⌜ n ≤ 20 ⌝ }
-    ensures { λ r. ⌜ r ≡ allIn (take n cmd) ⌝ }
-{
-    let mut i = 0;
-    while i < n {
-        let v = cmd[i];
-        if !signed::fits(v, 14) {
-            return false;
-        }
-        i += 1;
-    }
-    true
-}
-
-// Every number fits, and so does the count.
-fn fits(x: RawCommand) -> bool
-    ensures { λ r. ⌜ r ≡ commandFits x ⌝ }
-{
-    let n = x.count;
-    let cmd = x.cmd;
-    if 20 < n {
-        return false;
-    }
-    all_fit(cmd, n)
-}
-
-// The patterns of the first n, and zeros.
+// The patterns of the first n, saturated, and zeros.
 fn patterns(cmd: [i64; 20], n: usize) -> [u64; 20]
-    requires { ⌜ (n ≤ 20) × (allIn (take n cmd) ≡ true) ⌝ }
-    ensures { λ r. ⌜ r ≡ map (patternOf 14) (take n cmd) ++ replicate (20 - n) 0 ⌝ }
+    requires { ⌜ n ≤ 20 ⌝ }
+    ensures { λ r. ⌜ r ≡ map patternOf (take n cmd) ++ replicate (20 - n) 0 ⌝ }
 {
     let mut p = [0u64; 20];
     let mut i = 0;
     while i < n {
         let v = cmd[i];
-        p[i] = signed::pattern(v, 14);
+        p[i] = cast::signed(v, 14);
         i += 1;
     }
     p
@@ -125,13 +98,13 @@ fn write_patterns(p: [u64; 20], n: usize, out: &mut [u8])
     items::pad(out, n * 14);
 }
 
-// Writes commands to the front of `out`: 17 for more than 20 or for one that 14 bits do not hold, then 8 for too little room.
+// Writes commands to the front of `out`, saturated: 17 for more than 20, then 8 for too little room.
 pub fn encode(x: RawCommand, out: &mut [u8]) -> Written
     ensures { λ r. ⌜ (answerOf r, now (out .exit)) ≡ wrote (commandEncoded x (length (now (out .entry)))) (now (out .entry)) ⌝ }
 {
     let n = x.count;
     let cmd = x.cmd;
-    if !fits(x) {
+    if 20 < n {
         return Written::Refused(17);
     }
     let len = (n * 14 + 7) / 8;

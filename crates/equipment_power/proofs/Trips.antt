@@ -16,18 +16,19 @@ use Rattle.bits.specs.Order.{Octets, unpack, fromBits}
 use Rattle.bits.proofs.Bytes.{length-unpack}
 use Rattle.bits.proofs.Numbers.{fromBits-lt}
 use Rattle.shape.specs.Answer.{got}
-use Rattle.shape.specs.Shape.{Values, encoded, cleared}
+use Rattle.shape.specs.Shape.{end, Values, clipped, within, encoded, cleared}
 use Rattle.shape.specs.Laws.{Trips}
 use Rattle.shape.specs.declared.answer.Place.{Place}
 use Rattle.shape.proofs.Reading.{got-on, never}
 use Rattle.shape.proofs.RoundTrip.{whole-same}
 use Rattle.shape.proofs.Tails.{never-25}
+use Rattle.shape.proofs.There.{kept as shape-kept}
 use Rattle.shape.proofs.Trip.{trips, through}
-use Rattle.equipment_power.specs.BatteryInfo.{nameOnly, batteryInfo, modelNameIn, rawValues, rawOf, rawIn, rawAt, widenedInfo, narrowedInfo, withFloats, infoIn}
-use Rattle.equipment_power.specs.Laws.{Laws, found, Held, AllHeld, floats, NoNan, patterns}
+use Rattle.equipment_power.specs.BatteryInfo.{othersThen, nameOnly, batteryInfo, modelNameIn, otherValues, rawValues, rawOf, rawIn, rawAt, widenedInfo, narrowedInfo, withFloats, infoIn}
+use Rattle.equipment_power.specs.Laws.{Laws, found, Held, AllHeld, floats, clippedInfo, NoNan, patterns}
 use Rattle.equipment_power.specs.declared.battery_info.BatteryInfo.{BatteryInfo}
 use Rattle.equipment_power.specs.declared.battery_info.Raw.{Raw}
-use Rattle.equipment_power.proofs.BatteryInfoFacts.{short, only, made}
+use Rattle.equipment_power.proofs.BatteryInfoFacts.{short, only, made, infos}
 
 raw : Trips batteryInfo rawOf found
 raw = trips batteryInfo (lit≤ tt) rawOf found only
@@ -39,55 +40,30 @@ whole = whole-same batteryInfo tt
 same : {x : Float} → Held x → floatOf (binary16Of x) ≡ x
 same h = floats-law .again (h .0) (h .1 .0) _ (h .1 .1)
 
-infos : {t v c p r f h t' v' c' p' r' f' h' : Float} {s g k d b i : ℕ} → t ≡ t' → v ≡ v' → c ≡ c' → p ≡ p' → r ≡ r' → f ≡ f' → h ≡ h'
-    → _≡_ {A = BatteryInfo} (record {
-      temperature = t;
-      voltage = v;
-      current = c;
-      «average_power_10sec» = p;
-      «remaining_capacity_wh» = r;
-      «full_charge_capacity_wh» = f;
-      «hours_to_full_charge» = h;
-      «status_flags» = s;
-      «state_of_health_pct» = g;
-      «state_of_charge_pct» = k;
-      «state_of_charge_pct_stdev» = d;
-      «battery_id» = b;
-      «model_instance_id» = i;
-    })
-    (record {
-      temperature = t';
-      voltage = v';
-      current = c';
-      «average_power_10sec» = p';
-      «remaining_capacity_wh» = r';
-      «full_charge_capacity_wh» = f';
-      «hours_to_full_charge» = h';
-      «status_flags» = s;
-      «state_of_health_pct» = g;
-      «state_of_charge_pct» = k;
-      «state_of_charge_pct_stdev» = d;
-      «battery_id» = b;
-      «model_instance_id» = i;
-    })
-infos e₀ e₁ e₂ e₃ e₄ e₅ e₆ = cc
-
 same-info : (x : BatteryInfo) → AllHeld (floats x) → widenedInfo (narrowedInfo x) ≡ x
 same-info x h =
     infos (same (h .0)) (same (h .1 .0)) (same (h .1 .1 .0)) (same (h .1 .1 .1 .0)) (same (h .1 .1 .1 .1 .0)) (same (h .1 .1 .1 .1 .1 .0))
-    (same (h .1 .1 .1 .1 .1 .1 .0))
+    (same (h .1 .1 .1 .1 .1 .1 .0)) refl refl refl refl refl refl
 
 there : (x : BatteryInfo) (name : List ℕ) (room : ℕ) (p : List ℕ) → AllHeld (floats x)
     → encoded batteryInfo (rawValues (narrowedInfo x) nameOnly name) room ≡ got p
-    → (infoIn p ≡ got (x, record { at = 23; len = length name })) × (modelNameIn p ≡ name)
+    → (infoIn p ≡ got (clippedInfo x, record { at = 23; len = length name })) × (modelNameIn p ≡ name)
+unfolding clipped
 there x name room p h e =
     let r = raw .there (rawValues (narrowedInfo x) nameOnly name) room p e in (
-      got-on withFloats refl (r .0) ∙ ap (λ (y : BatteryInfo). got (y, record { at = 23; len = length name })) (same-info x h),
+      got-on withFloats refl (r .0) ∙ ap (λ (y : BatteryInfo). got (y, record { at = 23; len = length name })) (same-info (clippedInfo x) h),
       ap name-of (r .1),
     )
   where
     name-of : Values batteryInfo → List ℕ
     name-of (t, (v, (c, (p, (r, (f, (h, (flags, (health, (charge, (deviation, (id, (model, n))))))))))))) = n
+
+kept : (x : BatteryInfo) → within (othersThen end) (otherValues (narrowedInfo x) end tt) ≡ true → clippedInfo x ≡ x
+unfolding clipped
+kept x e =
+    let k = shape-kept (othersThen end) tt (otherValues (narrowedInfo x) end tt) e in
+    infos refl refl refl refl refl refl refl (ap (λ (v : Values (othersThen end)). v .0) k) (ap (λ (v : Values (othersThen end)). v .1 .0) k) (ap (λ (v : Values (othersThen end)). v .1 .1 .0) k)
+    (ap (λ (v : Values (othersThen end)). v .1 .1 .1 .0) k) (ap (λ (v : Values (othersThen end)). v .1 .1 .1 .1 .0) k) (ap (λ (v : Values (othersThen end)). v .1 .1 .1 .1 .1 .0) k)
 
 -- a binary16 that is no NaN comes back
 kept-raw : (p : List ℕ) → 23 ≤ length p → NoNan (patterns (rawAt (unpack p))) → narrowedInfo (widenedInfo (rawAt (unpack p))) ≡ rawAt (unpack p)
@@ -116,4 +92,4 @@ back p o x place room e l h =
     enough false s g = ltb-false (length p) 23 s
 
 pub laws : Laws
-laws = record { raw = raw; whole = whole; never-25 = never-25 batteryInfo (refl, refl); there = there; back = back }
+laws = record { raw = raw; whole = whole; never-25 = never-25 batteryInfo (refl, refl); there = there; kept = kept; back = back }

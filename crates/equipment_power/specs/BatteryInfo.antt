@@ -3,25 +3,26 @@
 use mathlib.Core.Bool.{Bool}
 use mathlib.Core.List.{List}
 use Prim.Native.Nat.{ℕ}
+use lib.IntN.{pos}
 use lib.ListN.{length, drop}
 use Rattle.binary16.specs.Convert.{floatOf, binary16Of}
 use Rattle.bits.specs.Order.{fromBits}
 use Rattle.shape.specs.Answer.{Answer, refused, got, Numbered, numbered, mapAnswer}
-use Rattle.shape.specs.Shape.{Shape, num, tail, Values, anything, decoded}
+use Rattle.shape.specs.Shape.{Shape, uint, raw, tail, Values, anything, decoded}
 use Rattle.shape.specs.declared.answer.Place.{Place}
 use Rattle.equipment_power.specs.declared.battery_info.BatteryInfo.{BatteryInfo}
 use Rattle.equipment_power.specs.declared.battery_info.Raw.{Raw}
 use Rattle.equipment_power.specs.declared.battery_info.Read.{Read}
 use Rattle.equipment_power.specs.declared.battery_info.Read.the-variants as read
 use Rattle.equipment_power.specs.declared.battery_info.ReadRaw.{ReadRaw}
-use Rattle.equipment_power.specs.declared.battery_info.ReadRaw.the-variants as raw
+use Rattle.equipment_power.specs.declared.battery_info.ReadRaw.the-variants as readRaw
 
 -- the floats, the other numbers, and what follows them
 abbrev pub floatsThen : Shape → Shape
-floatsThen d = num 16 (num 16 (num 16 (num 16 (num 16 (num 16 (num 16 d))))))
+floatsThen d = raw 16 (raw 16 (raw 16 (raw 16 (raw 16 (raw 16 (raw 16 d))))))
 
 abbrev pub othersThen : Shape → Shape
-othersThen d = num 11 (num 7 (num 7 (num 7 (num 8 (num 32 d)))))
+othersThen d = uint 11 (uint 7 (uint 7 (uint 7 (uint 8 (uint 32 d)))))
 
 abbrev pub nameOnly : Shape
 nameOnly = tail 8 31 anything
@@ -67,8 +68,8 @@ rawOf (t, (v, (c, (p, (r, (f, (h, (flags, (health, (charge, (deviation, (id, (mo
 )
 
 abbrev pub rawAnswerOf : ReadRaw → Numbered (Raw × Place)
-rawAnswerOf (raw.Refused n) = numbered (refused n)
-rawAnswerOf (raw.Got m place) = numbered (got (m, place))
+rawAnswerOf (readRaw.Refused n) = numbered (refused n)
+rawAnswerOf (readRaw.Got m place) = numbered (got (m, place))
 
 -- what a payload gives
 abbrev pub rawIn : List ℕ → Answer (Raw × Place)
@@ -85,12 +86,12 @@ rawAt bs =
       «remaining_capacity_wh» = fromBits 16 (drop 64 bs);
       «full_charge_capacity_wh» = fromBits 16 (drop 80 bs);
       «hours_to_full_charge» = fromBits 16 (drop 96 bs);
-      «status_flags» = fromBits 11 (drop 112 bs);
-      «state_of_health_pct» = fromBits 7 (drop 123 bs);
-      «state_of_charge_pct» = fromBits 7 (drop 130 bs);
-      «state_of_charge_pct_stdev» = fromBits 7 (drop 137 bs);
-      «battery_id» = fromBits 8 (drop 144 bs);
-      «model_instance_id» = fromBits 32 (drop 152 bs);
+      «status_flags» = pos (fromBits 11 (drop 112 bs));
+      «state_of_health_pct» = pos (fromBits 7 (drop 123 bs));
+      «state_of_charge_pct» = pos (fromBits 7 (drop 130 bs));
+      «state_of_charge_pct_stdev» = pos (fromBits 7 (drop 137 bs));
+      «battery_id» = pos (fromBits 8 (drop 144 bs));
+      «model_instance_id» = pos (fromBits 32 (drop 152 bs));
     }
 
 -- ── the view: a float as an f32 (RULES 9.12) ──

@@ -4,6 +4,7 @@ use binary16::float;
 use bits::field;
 use shape::answer::Place;
 use shape::answer::Written;
+use shape::number;
 use shape::part;
 ghost use mathlib.Core.Path.{_≡_};
 ghost use Prim.Native.Nat.{_+_, _*_, _≤_, _<_, _^_};
@@ -23,12 +24,12 @@ pub struct BatteryInfo {
     pub remaining_capacity_wh: f32,
     pub full_charge_capacity_wh: f32,
     pub hours_to_full_charge: f32,
-    pub status_flags: u64,
-    pub state_of_health_pct: u64,
-    pub state_of_charge_pct: u64,
-    pub state_of_charge_pct_stdev: u64,
-    pub battery_id: u64,
-    pub model_instance_id: u64,
+    pub status_flags: i64,
+    pub state_of_health_pct: i64,
+    pub state_of_charge_pct: i64,
+    pub state_of_charge_pct_stdev: i64,
+    pub battery_id: i64,
+    pub model_instance_id: i64,
 }
 
 // The same, each float as the 16 bits of its binary16.
@@ -40,12 +41,12 @@ pub struct Raw {
     pub remaining_capacity_wh: u16,
     pub full_charge_capacity_wh: u16,
     pub hours_to_full_charge: u16,
-    pub status_flags: u64,
-    pub state_of_health_pct: u64,
-    pub state_of_charge_pct: u64,
-    pub state_of_charge_pct_stdev: u64,
-    pub battery_id: u64,
-    pub model_instance_id: u64,
+    pub status_flags: i64,
+    pub state_of_health_pct: i64,
+    pub state_of_charge_pct: i64,
+    pub state_of_charge_pct_stdev: i64,
+    pub battery_id: i64,
+    pub model_instance_id: i64,
 }
 
 // With the place of the model name.
@@ -87,12 +88,12 @@ fn read_numbers(s: &[u8]) -> Raw
         remaining_capacity_wh: half(s, 64),
         full_charge_capacity_wh: half(s, 80),
         hours_to_full_charge: half(s, 96),
-        status_flags: field::read(s, 112, 11),
-        state_of_health_pct: field::read(s, 123, 7),
-        state_of_charge_pct: field::read(s, 130, 7),
-        state_of_charge_pct_stdev: field::read(s, 137, 7),
-        battery_id: field::read(s, 144, 8),
-        model_instance_id: field::read(s, 152, 32),
+        status_flags: number::read(s, 112, 11),
+        state_of_health_pct: number::read(s, 123, 7),
+        state_of_charge_pct: number::read(s, 130, 7),
+        state_of_charge_pct_stdev: number::read(s, 137, 7),
+        battery_id: number::read(s, 144, 8),
+        model_instance_id: number::read(s, 152, 32),
     }
 }
 
@@ -141,18 +142,6 @@ pub fn decode(payload: &[u8]) -> Read
     }
 }
 
-// Every number fits its field; 16 bits always do.
-fn fits(m: Raw) -> bool
-    ensures { λ r. ⌜ r ≡ shape.fits (floatsThen (othersThen end)) (rawValues m end tt) ⌝ }
-{
-    (m.status_flags < 2048)
-        & (m.state_of_health_pct < 128)
-        & (m.state_of_charge_pct < 128)
-        & (m.state_of_charge_pct_stdev < 128)
-        & (m.battery_id < 256)
-        & (m.model_instance_id < 4294967296)
-}
-
 // 16 bits from bit `at` on.
 fn write_half(out: &mut [u8], at: usize, h: u16)
     requires { ⌜ (at < 2 ^ 63) × (at + 16 ≤ length (now out) * 8) ⌝ }
@@ -180,20 +169,19 @@ fn write_others(out: &mut [u8], m: Raw)
     requires { ⌜ 23 ≤ length (now out) ⌝ }
     ensures { λ _. ⌜ now (out .exit) ≡ store (now (out .entry)) 112 (shape.encode (othersThen end) (otherValues m end tt)) ⌝ }
 {
-    field::write(out, 112, 11, m.status_flags);
-    field::write(out, 123, 7, m.state_of_health_pct);
-    field::write(out, 130, 7, m.state_of_charge_pct);
-    field::write(out, 137, 7, m.state_of_charge_pct_stdev);
-    field::write(out, 144, 8, m.battery_id);
-    field::write(out, 152, 32, m.model_instance_id);
+    number::write(out, 112, 11, m.status_flags);
+    number::write(out, 123, 7, m.state_of_health_pct);
+    number::write(out, 130, 7, m.state_of_charge_pct);
+    number::write(out, 137, 7, m.state_of_charge_pct_stdev);
+    number::write(out, 144, 8, m.battery_id);
+    number::write(out, 152, 32, m.model_instance_id);
 }
 
-// Writes a pack's state to the front of `out`: 17 for what does not fit its field, then 8 for too little room.
+// Writes a pack's state to the front of `out`, numbers saturated: 17 for a model name that is too long, then 8 for too little room.
 pub fn encode_raw(m: Raw, model_name: &[u8], out: &mut [u8]) -> Written
     ensures { λ r. ⌜ (answer.answerOf r, now (out .exit)) ≡ written batteryInfo (rawValues m nameOnly (now («model_name» .entry))) (now (out .entry)) ⌝ }
 {
-    let fits = fits(m) & (model_name.len() <= 31);
-    if !fits {
+    if 31 < model_name.len() {
         return Written::Refused(17);
     }
     let n = 23 + model_name.len();

@@ -1,21 +1,22 @@
 -- NodeStatus: what its reader and its writer go by.
 use mathlib.Core.Path.{_≡_, refl, ap, _∙_}
-use mathlib.Core.Bool.{Bool, true, false, _&&_}
+use mathlib.Core.Bool.{Bool, true, false}
 use mathlib.Core.List.{List, [], _∷_, _++_, append-assoc, append-nil}
 use Prim.Native.Nat.{ℕ, _*_, _≤_, _<_}
 use native.Mathlib.Omega.{arith}
 use borrow.Author.Tests.{ltb-true, ltb-false}
 use lib.Dec.{ltb}
+use lib.IntN.{ℤ, pos}
 use lib.ListN.{length, drop, length-append, length-drop}
 use Rattle.bits.specs.Order.{unpack, toBits, store}
 use Rattle.bits.proofs.Bytes.{length-unpack}
 use Rattle.bits.proofs.Numbers.{length-toBits}
 use Rattle.shape.specs.Answer.{refused, got, numbered}
 use Rattle.shape.specs.Shape.{end, Values, encode, decoded, fits}
-use Rattle.shape.proofs.Fields.{and-true, and-assoc}
 use Rattle.shape.proofs.Reading.{Slot, value, gap, withHead, head-short, head-bytes, end-none, end-left, refused-on, got-on, never}
 use Rattle.shape.proofs.Reading as reading
 use Rattle.shape.proofs.Writing.{more}
+use Rattle.shape.proofs.CastFacts.{cast}
 use Rattle.protocol.specs.NodeStatus.{nodeStatus, statusValues, statusOf, statusIn, statusAt}
 use Rattle.protocol.specs.Laws.{statusFound}
 use Rattle.protocol.specs.declared.node_status.NodeStatus.{NodeStatus}
@@ -57,9 +58,9 @@ module _ (s : List ℕ) where
     go false true ea eb = absurd (never (too-many (ltb-true 7 (length s) eb)) e)
     go false false ea eb = reading.only e (exact (omega (arith, ltb-false (length s) 7 ea, ltb-false 7 (length s) eb)))
 
-pub made : {u h m v u' h' m' v' : ℕ} → u ≡ u' → h ≡ h' → m ≡ m' → v ≡ v'
-    → _≡_ {A = NodeStatus} (record { «uptime_sec» = u; health = h; mode = m; «sub_mode» = 0; «vendor_specific_status_code» = v })
-    (record { «uptime_sec» = u'; health = h'; mode = m'; «sub_mode» = 0; «vendor_specific_status_code» = v' })
+pub made : {u h m v u' h' m' v' : ℤ} → u ≡ u' → h ≡ h' → m ≡ m' → v ≡ v'
+    → _≡_ {A = NodeStatus} (record { «uptime_sec» = u; health = h; mode = m; «sub_mode» = pos 0; «vendor_specific_status_code» = v })
+    (record { «uptime_sec» = u'; health = h'; mode = m'; «sub_mode» = pos 0; «vendor_specific_status_code» = v' })
 made a b c d = cc
 
 module _ (x : NodeStatus) where
@@ -67,21 +68,21 @@ module _ (x : NodeStatus) where
   unfolding encode
   size = simp (length-append, length-toBits)
 
-  pub fit : ((ltb (x .«uptime_sec») 4294967296 && ltb (x .health) 4) && ltb (x .mode) 8) && ltb (x .«vendor_specific_status_code») 65536 ≡ fits nodeStatus (statusValues x end tt)
+  pub fit : fits nodeStatus (statusValues x end tt) ≡ true
   unfolding fits
-  fit = simp (and-assoc, and-true)
+  fit = refl
 
-  pub stored : (m₀ m₁ m₂ m₃ m₄ m₅ : List ℕ) → 7 ≤ length m₀ → m₁ ≡ store m₀ 0 (toBits 32 (x .«uptime_sec»)) → m₂ ≡ store m₁ 32 (toBits 2 (x .health))
-      → m₃ ≡ store m₂ 34 (toBits 3 (x .mode)) → m₄ ≡ store m₃ 37 (toBits 3 0) → m₅ ≡ store m₄ 40 (toBits 16 (x .«vendor_specific_status_code»))
+  pub stored : (m₀ m₁ m₂ m₃ m₄ m₅ : List ℕ) → 7 ≤ length m₀ → m₁ ≡ store m₀ 0 (toBits 32 (cast 32 (x .«uptime_sec»))) → m₂ ≡ store m₁ 32 (toBits 2 (cast 2 (x .health)))
+      → m₃ ≡ store m₂ 34 (toBits 3 (cast 3 (x .mode))) → m₄ ≡ store m₃ 37 (toBits 3 0) → m₅ ≡ store m₄ 40 (toBits 16 (cast 16 (x .«vendor_specific_status_code»)))
       → m₅ ≡ store m₀ 0 (encode nodeStatus (statusValues x end tt))
   unfolding encode
   stored m₀ m₁ m₂ m₃ m₄ m₅ h e₁ e₂ e₃ e₄ e₅ =
-      let a = toBits 32 (x .«uptime_sec») in
-      let b = toBits 2 (x .health) in
-      let c = toBits 3 (x .mode) in
+      let a = toBits 32 (cast 32 (x .«uptime_sec»)) in
+      let b = toBits 2 (cast 2 (x .health)) in
+      let c = toBits 3 (cast 3 (x .mode)) in
       let d = toBits 3 0 in
-      let e = toBits 16 (x .«vendor_specific_status_code») in
-      let f₂ = more m₀ m₁ m₂ a b 32 e₁ (length-toBits 32 (x .«uptime_sec»)) (omega arith) e₂ in
+      let e = toBits 16 (cast 16 (x .«vendor_specific_status_code»)) in
+      let f₂ = more m₀ m₁ m₂ a b 32 e₁ (length-toBits 32 (cast 32 (x .«uptime_sec»))) (omega arith) e₂ in
       let f₃ = more m₀ m₂ m₃ (a ++ b) c 34 f₂ (simp (length-append, length-toBits)) (omega arith) e₃ in
       let f₄ = more m₀ m₃ m₄ (a ++ b ++ c) d 37 f₃ (simp (length-append, length-toBits)) (omega arith) e₄ in
       let f₅ = more m₀ m₄ m₅ (a ++ b ++ c ++ d) e 40 f₄ (simp (length-append, length-toBits)) (omega arith) e₅ in

@@ -6,6 +6,7 @@ use Prim.Native.Nat.{ℕ, _+_, _^_, _≤_, _<_}
 use native.Mathlib.Omega.{arith}
 use borrow.Author.Tests.{ltb-true, ltb-false}
 use lib.Dec.{ltb}
+use lib.IntN.{ℤ}
 use lib.ListN.{length, drop, length-drop, drop-of-length-le}
 use lib.Seq.{drop-drop, length-take-le}
 use Rattle.bits.specs.Order.{Octets, valueFrom, unpack, number, fromBits}
@@ -15,7 +16,7 @@ use Rattle.bits.proofs.Numbers.{fromBits-lt}
 use Rattle.bits.proofs.Octets.{octets-drop}
 use Rattle.shape.specs.Answer.{refused, got, numbered, mapAnswer}
 use Rattle.shape.specs.Shape.{Shape, list, tail, Values, decode, decoded}
-use Rattle.shape.proofs.Reading.{Slot, value, gap, withHead, head-short, head-bytes, refused-on, got-on, never, items-short, items-read, list-none, list-short, list-read, tail-long, tail-not, tail-got}
+use Rattle.shape.proofs.Reading.{Slot, value, same, gap, withHead, head-short, head-bytes, refused-on, got-on, never, items-short, items-read, list-none, list-short, list-read, tail-long, tail-not, tail-got}
 use Rattle.shape.proofs.Reading as reading
 use Rattle.protocol.specs.NodeStatus.{statusAt}
 use Rattle.protocol.specs.Name.{isName}
@@ -26,7 +27,7 @@ use Rattle.protocol.specs.declared.get_node_info_response.Response.{Resp
 
 abbrev head : List Slot
 head =
-    value 32 ∷ value 2 ∷ value 3 ∷ gap 3 ∷ value 16 ∷ value 8 ∷ value 8 ∷ value 8 ∷ value 32 ∷ value 64 ∷ value 8 ∷ value 8 ∷ []
+    value 32 ∷ value 2 ∷ value 3 ∷ gap 3 ∷ value 16 ∷ value 8 ∷ value 8 ∷ value 8 ∷ value 32 ∷ same 64 ∷ value 8 ∷ value 8 ∷ []
 
 abbrev named : Shape
 named = tail 8 80 isName
@@ -155,15 +156,15 @@ module _ (s : List ℕ) (o : Octets s) where
     go false false true ea eb ec = reading.only e (read (ltb-false (length s) (41 + n) ea) (ltb-false 80 (length (nameIn s)) eb) ec)
 
   -- the struct of what is at these places
-  pub made : (m : Numbers) (u c a l : ℕ) → m ≡ numbersAt (unpack s) → u ≡ length (uniqueIdIn s) → c ≡ length (certificateIn s) → a ≡ 41 + length (certificateIn s)
-      → l ≡ length (nameIn s)
+  pub made : (m : Numbers) (h r : ℤ) (u c a l : ℕ) → m ≡ numbersAt (unpack s) → h ≡ m .«hardware_version_major» → r ≡ m .«hardware_version_minor»
+      → u ≡ length (uniqueIdIn s) → c ≡ length (certificateIn s) → a ≡ 41 + length (certificateIn s) → l ≡ length (nameIn s)
       → _≡_ {A = Response}
       (record {
         status = m .status;
         «software_version» = m .«software_version»;
         «hardware_version» = record {
-          major = m .«hardware_version_major»;
-          minor = m .«hardware_version_minor»;
+          major = h;
+          minor = r;
           «unique_id» = record { at = 24; len = u };
           «certificate_of_authenticity» = record { at = 41; len = c };
         };
@@ -171,4 +172,4 @@ module _ (s : List ℕ) (o : Octets s) where
       })
       (responseOf (responseFound s))
   unfolding numbersAt statusAt
-  made m u c a l e₁ e₂ e₃ e₄ e₅ = rw (e₁, e₂, e₃, e₄, e₅)
+  made m h r u c a l e₁ e₂ e₃ e₄ e₅ e₆ e₇ = rw (e₂, e₃, e₁, e₄, e₅, e₆, e₇)

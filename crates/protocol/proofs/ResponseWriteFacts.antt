@@ -5,15 +5,16 @@ use mathlib.Core.List.{List, [], _++_, append-assoc, append-nil}
 use Prim.Native.Nat.{ℕ, _+_, _*_, _≤_, _<_}
 use native.Mathlib.Omega.{arith}
 use borrow.Author.Tests.{lt-ltb, le-leb, lt-leb, leb-true, eq-eqb, ne-eqb, eqb-true}
-use lib.Dec.{ltb, leb, eqb}
+use lib.Dec.{leb, eqb}
 use lib.ListN.{length, length-append}
 use Rattle.bits.specs.Order.{Octets, unpack, toBits, store}
 use Rattle.bits.specs.Width.{widthOf}
 use Rattle.bits.proofs.Bytes.{length-unpack}
 use Rattle.bits.proofs.Numbers.{length-toBits}
 use Rattle.shape.specs.Shape.{Shape, end, Values, allBelow, encode, fits}
-use Rattle.shape.proofs.Fields.{and-left, and-right, and-true, and-assoc, length-itemBits}
+use Rattle.shape.proofs.Fields.{and-left, and-right, length-itemBits}
 use Rattle.shape.proofs.Writing.{more, more-from, item-bytes, all-bytes}
+use Rattle.shape.proofs.CastFacts.{cast}
 use Rattle.protocol.specs.NodeStatus.{nodeStatus, statusThen, statusValues}
 use Rattle.protocol.specs.declared.node_status.NodeStatus.{NodeStatus}
 use Rattle.protocol.specs.Name.{isName}
@@ -22,10 +23,6 @@ use Rattle.protocol.specs.declared.get_node_info_response.Numbers.{Numbe
 use Rattle.protocol.proofs.ResponseReadFacts.{eight}
 
 -- ── a status, and what follows it ──
-
-status-fits : (x : NodeStatus) (d : Shape) (v : Values d) → fits (statusThen d) (statusValues x d v) ≡ fits nodeStatus (statusValues x end tt) && fits d v
-unfolding fits
-status-fits x d v = sym (simp and-assoc)
 
 size-status : (x : NodeStatus) → length (encode nodeStatus (statusValues x end tt)) ≡ 56
 unfolding encode
@@ -37,57 +34,29 @@ status-bits x d v = sym (simp (append-assoc, append-nil))
 
 -- ── the numbers, and what follows them ──
 
-abbrev versionsPass : Numbers → Bool → Bool
-versionsPass m r =
-    ltb (m .«software_version» .major) 256 && (ltb (m .«software_version» .minor) 256 && (ltb (m .«software_version» .«optional_field_flags») 256 && (ltb (m .«software_version» .«vcs_commit») 4294967296
-    && (ltb (m .«software_version» .«image_crc») 18446744073709551616 && (ltb (m .«hardware_version_major») 256 && (ltb (m .«hardware_version_minor») 256 && r))))))
-
 abbrev versionBits : Numbers → List Bool → List Bool
 versionBits m r =
-    toBits 8 (m .«software_version» .major) ++ (toBits 8 (m .«software_version» .minor) ++ (toBits 8 (m .«software_version» .«optional_field_flags») ++ (toBits 32 (m .«software_version» .«vcs_commit»)
-    ++ (toBits 64 (m .«software_version» .«image_crc») ++ (toBits 8 (m .«hardware_version_major») ++ (toBits 8 (m .«hardware_version_minor») ++ r))))))
+    toBits 8 (cast 8 (m .«software_version» .major)) ++ (toBits 8 (cast 8 (m .«software_version» .minor)) ++ (toBits 8 (cast 8 (m .«software_version» .«optional_field_flags»)) ++ (toBits 32 (cast 32 (m .«software_version» .«vcs_commit»))
+    ++ (toBits 64 (m .«software_version» .«image_crc») ++ (toBits 8 (cast 8 (m .«hardware_version_major»)) ++ (toBits 8 (cast 8 (m .«hardware_version_minor»)) ++ r))))))
 
 abbrev numbers : Shape
 numbers = statusThen (versionsThen end)
 
 module _ (m : Numbers) where
-  abbrev status-fit : Bool
-  status-fit = fits nodeStatus (statusValues (m .status) end tt)
-
   abbrev bits-of-status : List Bool
   bits-of-status = encode nodeStatus (statusValues (m .status) end tt)
 
   module _ (d : Shape) (v : Values d) where
-    versions-fit : fits (versionsThen d) (versionValues m d v) ≡ versionsPass m (fits d v)
-    unfolding fits
-    versions-fit = refl
-
     versions-bits : encode (versionsThen d) (versionValues m d v) ≡ versionBits m (encode d v)
     unfolding encode
     versions-bits = refl
 
-    then-fits : fits (statusThen (versionsThen d)) (numberValues m d v) ≡ status-fit && versionsPass m (fits d v)
-    then-fits = status-fits (m .status) (versionsThen d) (versionValues m d v) ∙ ap (λ (b : Bool). status-fit && b) versions-fit
-
     then-bits : encode (statusThen (versionsThen d)) (numberValues m d v) ≡ bits-of-status ++ versionBits m (encode d v)
     then-bits = status-bits (m .status) (versionsThen d) (versionValues m d v) ∙ ap (λ (b : List Bool). bits-of-status ++ b) versions-bits
-
-  end-fits : fits end tt ≡ true
-  unfolding fits
-  end-fits = refl
 
   end-bits : encode end tt ≡ []
   unfolding encode
   end-bits = refl
-
-  numbers-fits : fits numbers (numberValues m end tt) ≡ status-fit && versionsPass m true
-  numbers-fits = then-fits end tt ∙ ap (λ (b : Bool). status-fit && versionsPass m b) end-fits
-
-  -- 64 bits hold every image CRC
-  pub fit : (b : Bool) → b ≡ status-fit → m .«software_version» .«image_crc» < 18446744073709551616
-      → (((((b && ltb (m .«software_version» .major) 256) && ltb (m .«software_version» .minor) 256) && ltb (m .«software_version» .«optional_field_flags») 256) && ltb (m .«software_version» .«vcs_commit») 4294967296)
-      && ltb (m .«hardware_version_major») 256) && ltb (m .«hardware_version_minor») 256 ≡ fits numbers (numberValues m end tt)
-  fit b e h = rw e (sym (numbers-fits ∙ rw (lt-ltb (m .«software_version» .«image_crc») 18446744073709551616 h) (sym (simp (and-assoc, and-true)))))
 
   numbers-bits : encode numbers (numberValues m end tt) ≡ bits-of-status ++ versionBits m []
   numbers-bits = then-bits end tt ∙ ap (λ (b : List Bool). bits-of-status ++ versionBits m b) end-bits
@@ -97,34 +66,27 @@ module _ (m : Numbers) where
   numbers-size = simp (length-append, length-toBits)
 
   module _ (v : Values lists) where
-    whole-fits : fits response (numberValues m lists v) ≡ fits numbers (numberValues m end tt) && fits lists v
-    whole-fits = then-fits lists v ∙ sym (ap (λ (b : Bool). b && fits lists v) numbers-fits ∙ simp and-assoc)
-
-    pub whole-no-numbers : fits numbers (numberValues m end tt) ≡ false → fits response (numberValues m lists v) ≡ false
-    whole-no-numbers e = whole-fits ∙ rw e
-
-    pub whole-no-lists : fits numbers (numberValues m end tt) ≡ true → fits lists v ≡ false → fits response (numberValues m lists v) ≡ false
-    whole-no-lists e f = whole-fits ∙ rw (e, f)
-
-    pub whole-fit : fits numbers (numberValues m end tt) ≡ true → fits lists v ≡ true → fits response (numberValues m lists v) ≡ true
-    whole-fit e f = whole-fits ∙ rw (e, f)
+    -- 64 bits hold every image CRC
+    pub whole-fits : m .«software_version» .«image_crc» < 18446744073709551616 → fits response (numberValues m lists v) ≡ fits lists v
+    unfolding fits
+    whole-fits h = rw (lt-ltb (m .«software_version» .«image_crc») 18446744073709551616 h)
 
   whole-bits : (v : Values lists) → encode response (numberValues m lists v) ≡ encode numbers (numberValues m end tt) ++ encode lists v
   whole-bits v = then-bits lists v ∙ sym (ap (λ (b : List Bool). b ++ encode lists v) numbers-bits ∙ simp (append-assoc, append-nil))
 
-  pub stored-numbers : (m₀ m₁ m₂ m₃ m₄ m₅ m₆ m₇ m₈ : List ℕ) → 24 ≤ length m₀ → m₁ ≡ store m₀ 0 bits-of-status → m₂ ≡ store m₁ 56 (toBits 8 (m .«software_version» .major))
-      → m₃ ≡ store m₂ 64 (toBits 8 (m .«software_version» .minor)) → m₄ ≡ store m₃ 72 (toBits 8 (m .«software_version» .«optional_field_flags»)) → m₅ ≡ store m₄ 80 (toBits 32 (m .«software_version» .«vcs_commit»))
-      → m₆ ≡ store m₅ 112 (toBits 64 (m .«software_version» .«image_crc»)) → m₇ ≡ store m₆ 176 (toBits 8 (m .«hardware_version_major»)) → m₈ ≡ store m₇ 184 (toBits 8 (m .«hardware_version_minor»))
+  pub stored-numbers : (m₀ m₁ m₂ m₃ m₄ m₅ m₆ m₇ m₈ : List ℕ) → 24 ≤ length m₀ → m₁ ≡ store m₀ 0 bits-of-status → m₂ ≡ store m₁ 56 (toBits 8 (cast 8 (m .«software_version» .major)))
+      → m₃ ≡ store m₂ 64 (toBits 8 (cast 8 (m .«software_version» .minor))) → m₄ ≡ store m₃ 72 (toBits 8 (cast 8 (m .«software_version» .«optional_field_flags»))) → m₅ ≡ store m₄ 80 (toBits 32 (cast 32 (m .«software_version» .«vcs_commit»)))
+      → m₆ ≡ store m₅ 112 (toBits 64 (m .«software_version» .«image_crc»)) → m₇ ≡ store m₆ 176 (toBits 8 (cast 8 (m .«hardware_version_major»))) → m₈ ≡ store m₇ 184 (toBits 8 (cast 8 (m .«hardware_version_minor»)))
       → m₈ ≡ store m₀ 0 (encode numbers (numberValues m end tt))
   stored-numbers m₀ m₁ m₂ m₃ m₄ m₅ m₆ m₇ m₈ h e₁ e₂ e₃ e₄ e₅ e₆ e₇ e₈ =
       let s = bits-of-status in
-      let a = toBits 8 (m .«software_version» .major) in
-      let b = toBits 8 (m .«software_version» .minor) in
-      let c = toBits 8 (m .«software_version» .«optional_field_flags») in
-      let d = toBits 32 (m .«software_version» .«vcs_commit») in
+      let a = toBits 8 (cast 8 (m .«software_version» .major)) in
+      let b = toBits 8 (cast 8 (m .«software_version» .minor)) in
+      let c = toBits 8 (cast 8 (m .«software_version» .«optional_field_flags»)) in
+      let d = toBits 32 (cast 32 (m .«software_version» .«vcs_commit»)) in
       let e = toBits 64 (m .«software_version» .«image_crc») in
-      let f = toBits 8 (m .«hardware_version_major») in
-      let g = toBits 8 (m .«hardware_version_minor») in
+      let f = toBits 8 (cast 8 (m .«hardware_version_major»)) in
+      let g = toBits 8 (cast 8 (m .«hardware_version_minor»)) in
       let f₂ = more m₀ m₁ m₂ s a 56 e₁ (size-status (m .status)) (omega arith) e₂ in
       let f₃ = more m₀ m₂ m₃ (s ++ a) b 64 f₂ (simp (length-append, length-toBits, size-status)) (omega arith) e₃ in
       let f₄ = more m₀ m₃ m₄ (s ++ a ++ b) c 72 f₃ (simp (length-append, length-toBits, size-status)) (omega arith) e₄ in

@@ -3,12 +3,13 @@
 use mathlib.Core.Bool.{Bool}
 use mathlib.Core.List.{List}
 use Prim.Native.Nat.{ℕ, _+_}
+use lib.IntN.{pos}
 use lib.ListN.{length, drop}
 use Rattle.bits.specs.Order.{unpack, fromBits}
 use Rattle.bits.specs.Part.{span}
 use Rattle.bits.specs.Width.{widthOf}
 use Rattle.shape.specs.Answer.{refused, got, Numbered, numbered, mapAnswer}
-use Rattle.shape.specs.Shape.{Shape, num, items, list, tail, Values, decoded}
+use Rattle.shape.specs.Shape.{Shape, uint, raw, items, list, tail, Values, decoded}
 use Rattle.protocol.specs.NodeStatus.{statusThen, statusValues, statusAt}
 use Rattle.protocol.specs.Name.{isName}
 use Rattle.protocol.specs.declared.get_node_info_response.Numbers.{Numbers}
@@ -16,12 +17,13 @@ use Rattle.protocol.specs.declared.get_node_info_response.Response.{Resp
 use Rattle.protocol.specs.declared.get_node_info_response.Read.{Read}
 use Rattle.protocol.specs.declared.get_node_info_response.Read.the-variants.{Refused, Got}
 
+-- an image CRC has 64 bits here and in the struct, so that none is out of range
 abbrev pub softwareThen : Shape → Shape
-softwareThen d = num 8 (num 8 (num 8 (num 32 (num 64 d))))
+softwareThen d = uint 8 (uint 8 (uint 8 (uint 32 (raw 64 d))))
 
 -- the numbers after the status, and what follows them
 abbrev pub versionsThen : Shape → Shape
-versionsThen d = softwareThen (num 8 (num 8 d))
+versionsThen d = softwareThen (uint 8 (uint 8 d))
 
 -- RULES 9.4: the name follows the certificate, so the certificate has a length field; nothing follows the name, so it has none
 abbrev pub lists : Shape
@@ -57,7 +59,7 @@ abbrev pub responseOf : Values response → Response
 responseOf
     (uptime, (health, (mode, (vendor, (major, (minor, (flags, (commit, (crc, (hardware, (revision, (unique, (certificate, name))))))))))))) =
     record {
-      status = record { «uptime_sec» = uptime; health = health; mode = mode; «sub_mode» = 0; «vendor_specific_status_code» = vendor };
+      status = record { «uptime_sec» = uptime; health = health; mode = mode; «sub_mode» = pos 0; «vendor_specific_status_code» = vendor };
       «software_version» = record { major = major; minor = minor; «optional_field_flags» = flags; «vcs_commit» = commit; «image_crc» = crc };
       «hardware_version» = record {
         major = hardware;
@@ -82,12 +84,12 @@ numbersAt bs =
     record {
       status = statusAt bs;
       «software_version» = record {
-        major = fromBits 8 (drop 56 bs);
-        minor = fromBits 8 (drop 64 bs);
-        «optional_field_flags» = fromBits 8 (drop 72 bs);
-        «vcs_commit» = fromBits 32 (drop 80 bs);
+        major = pos (fromBits 8 (drop 56 bs));
+        minor = pos (fromBits 8 (drop 64 bs));
+        «optional_field_flags» = pos (fromBits 8 (drop 72 bs));
+        «vcs_commit» = pos (fromBits 32 (drop 80 bs));
         «image_crc» = fromBits 64 (drop 112 bs);
       };
-      «hardware_version_major» = fromBits 8 (drop 176 bs);
-      «hardware_version_minor» = fromBits 8 (drop 184 bs);
+      «hardware_version_major» = pos (fromBits 8 (drop 176 bs));
+      «hardware_version_minor» = pos (fromBits 8 (drop 184 bs));
     }

@@ -2,17 +2,18 @@
 use Prim.Native.Nat.{ℕ}
 use mathlib.Core.Bool.{Bool}
 use mathlib.Core.List.{List}
+use lib.IntN.{pos}
 use lib.ListN.{drop}
 use Rattle.bits.specs.Order.{fromBits}
 use Rattle.shape.specs.Answer.{refused, got, Numbered, numbered, mapAnswer}
-use Rattle.shape.specs.Shape.{Shape, end, num, void, Values, decoded}
+use Rattle.shape.specs.Shape.{Shape, end, uint, void, Values, decoded}
 use Rattle.protocol.specs.declared.node_status.NodeStatus.{NodeStatus}
 use Rattle.protocol.specs.declared.node_status.Read.{Read}
 use Rattle.protocol.specs.declared.node_status.Read.the-variants.{Refused, Got}
 
 -- a status, and what follows it; sub-mode is an ignored field (RULES 9.8)
 abbrev pub statusThen : Shape → Shape
-statusThen d = num 32 (num 2 (num 3 (void 3 (num 16 d))))
+statusThen d = uint 32 (uint 2 (uint 3 (void 3 (uint 16 d))))
 
 abbrev pub nodeStatus : Shape
 nodeStatus = statusThen end
@@ -23,7 +24,7 @@ statusValues x d rest = (x .«uptime_sec», (x .health, (x .mode, (x .«vendor_s
 
 abbrev pub statusOf : (d : Shape) → Values (statusThen d) → NodeStatus
 statusOf d (uptime, (health, (mode, (vendor, rest)))) =
-    record { «uptime_sec» = uptime; health = health; mode = mode; «sub_mode» = 0; «vendor_specific_status_code» = vendor }
+    record { «uptime_sec» = uptime; health = health; mode = mode; «sub_mode» = pos 0; «vendor_specific_status_code» = vendor }
 
 abbrev pub answerOf : Read → Numbered NodeStatus
 answerOf (Refused n) = numbered (refused n)
@@ -37,9 +38,9 @@ statusIn p = numbered (mapAnswer (statusOf end) (decoded nodeStatus p))
 unfoldable pub statusAt : List Bool → NodeStatus
 statusAt bs =
     record {
-      «uptime_sec» = fromBits 32 bs;
-      health = fromBits 2 (drop 32 bs);
-      mode = fromBits 3 (drop 34 bs);
-      «sub_mode» = 0;
-      «vendor_specific_status_code» = fromBits 16 (drop 40 bs);
+      «uptime_sec» = pos (fromBits 32 bs);
+      health = pos (fromBits 2 (drop 32 bs));
+      mode = pos (fromBits 3 (drop 34 bs));
+      «sub_mode» = pos 0;
+      «vendor_specific_status_code» = pos (fromBits 16 (drop 40 bs));
     }

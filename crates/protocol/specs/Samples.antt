@@ -3,6 +3,7 @@
 use mathlib.Core.Path.{_≡_}
 use mathlib.Core.List.{List, [], _∷_, _++_}
 use Prim.Native.Nat.{ℕ}
+use lib.IntN.{pos, negsuc}
 use Rattle.shape.specs.Answer.{got}
 use Rattle.shape.specs.Shape.{Values, decoded, encoded}
 use Rattle.protocol.specs.NodeStatus.{nodeStatus}
@@ -29,10 +30,13 @@ responseBytes =
     5 ∷ 6 ∷ (uniqueId ++ (3 ∷ (certificate ++ name)))
 
 abbrev pub responseValues : Values response
-responseValues = (258, (1, (7, (515, (1, (2, (3, (67305985, (256, (5, (6, (uniqueId, (certificate, name)))))))))))))
+responseValues =
+    (pos 258, (pos 1, (pos 7, (pos 515, (pos 1, (pos 2, (pos 3, (pos 67305985, (256, (pos 5, (pos 6, (uniqueId, (certificate, name)))))))))))))
 
 pub record Samples : Type 0 where
   -- 01 00 00 00 00 00 00: a second of uptime
-  pub status : decoded nodeStatus (1 ∷ 0 ∷ 0 ∷ 0 ∷ 0 ∷ 0 ∷ 0 ∷ []) ≡ got (1, (0, (0, (0, tt))))
+  pub status : decoded nodeStatus (1 ∷ 0 ∷ 0 ∷ 0 ∷ 0 ∷ 0 ∷ 0 ∷ []) ≡ got (pos 1, (pos 0, (pos 0, (pos 0, tt))))
+  -- RULES 9.14: 2^32 seconds, health 5, mode -1 and vendor code 65,536 are written as 2^32 - 1, 3, 0 and 65,535
+  pub clipped : encoded nodeStatus (pos 4294967296, (pos 5, (negsuc 0, (pos 65536, tt)))) 7 ≡ got (255 ∷ 255 ∷ 255 ∷ 255 ∷ 192 ∷ 255 ∷ 255 ∷ [])
   pub response-read : decoded response responseBytes ≡ got responseValues
   pub response-written : encoded response responseValues 47 ≡ got responseBytes

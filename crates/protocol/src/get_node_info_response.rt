@@ -6,6 +6,7 @@ use bits::field;
 use bits::width;
 use shape::answer::Place;
 use shape::answer::Written;
+use shape::number;
 use shape::part;
 ghost use mathlib.Core.Path.{_≡_};
 ghost use Prim.Native.Nat.{_+_, _≤_};
@@ -18,16 +19,16 @@ ghost use Rattle.protocol.specs.NodeStatus.{statusThen};
 ghost use Rattle.protocol.specs.GetNodeInfoResponse.{versionsThen, lists, response, certificateLength, uniqueIdIn, certificateIn, nameIn, numberValues, responseIn, numbersAt, answerOf};
 
 pub struct SoftwareVersion {
-    pub major: u64,
-    pub minor: u64,
-    pub optional_field_flags: u64,
-    pub vcs_commit: u64,
+    pub major: i64,
+    pub minor: i64,
+    pub optional_field_flags: i64,
+    pub vcs_commit: i64,
     pub image_crc: u64,
 }
 
 pub struct HardwareVersion {
-    pub major: u64,
-    pub minor: u64,
+    pub major: i64,
+    pub minor: i64,
     pub unique_id: Place,
     pub certificate_of_authenticity: Place,
 }
@@ -43,8 +44,8 @@ pub struct Response {
 pub struct Numbers {
     pub status: NodeStatus,
     pub software_version: SoftwareVersion,
-    pub hardware_version_major: u64,
-    pub hardware_version_minor: u64,
+    pub hardware_version_major: i64,
+    pub hardware_version_minor: i64,
 }
 
 pub enum Read {
@@ -91,14 +92,14 @@ fn read_numbers(s: &[u8]) -> Numbers
     Numbers {
         status: node_status::read_front(s),
         software_version: SoftwareVersion {
-            major: field::read(s, 56, 8),
-            minor: field::read(s, 64, 8),
-            optional_field_flags: field::read(s, 72, 8),
-            vcs_commit: field::read(s, 80, 32),
+            major: number::read(s, 56, 8),
+            minor: number::read(s, 64, 8),
+            optional_field_flags: number::read(s, 72, 8),
+            vcs_commit: number::read(s, 80, 32),
             image_crc: field::read(s, 112, 64),
         },
-        hardware_version_major: field::read(s, 176, 8),
-        hardware_version_minor: field::read(s, 184, 8),
+        hardware_version_major: number::read(s, 176, 8),
+        hardware_version_minor: number::read(s, 184, 8),
     }
 }
 
@@ -140,21 +141,6 @@ pub fn decode(payload: &[u8]) -> Read
     })
 }
 
-// Every number fits its field; the image CRC always does.
-fn fits(m: Numbers) -> bool
-    ensures { λ r. ⌜ r ≡ shape.fits (statusThen (versionsThen end)) (numberValues m end tt) ⌝ }
-{
-    let s = m.status;
-    let v = m.software_version;
-    node_status::fits(s)
-        & (v.major < 256)
-        & (v.minor < 256)
-        & (v.optional_field_flags < 256)
-        & (v.vcs_commit < 4294967296)
-        & (m.hardware_version_major < 256)
-        & (m.hardware_version_minor < 256)
-}
-
 // Every list fits.
 fn lists_fit(unique_id: &[u8], certificate: &[u8], name: &[u8]) -> bool
     ensures { λ r. ⌜ r ≡ shape.fits lists (now («unique_id» .entry), (now (certificate .entry), now (name .entry))) ⌝ }
@@ -179,13 +165,13 @@ fn write_numbers(out: &mut [u8], m: Numbers)
     let s = m.status;
     let v = m.software_version;
     node_status::write_front(out, s);
-    field::write(out, 56, 8, v.major);
-    field::write(out, 64, 8, v.minor);
-    field::write(out, 72, 8, v.optional_field_flags);
-    field::write(out, 80, 32, v.vcs_commit);
+    number::write(out, 56, 8, v.major);
+    number::write(out, 64, 8, v.minor);
+    number::write(out, 72, 8, v.optional_field_flags);
+    number::write(out, 80, 32, v.vcs_commit);
     field::write(out, 112, 64, v.image_crc);
-    field::write(out, 176, 8, m.hardware_version_major);
-    field::write(out, 184, 8, m.hardware_version_minor);
+    number::write(out, 176, 8, m.hardware_version_major);
+    number::write(out, 184, 8, m.hardware_version_minor);
 }
 
 // The bits of the lists, after the numbers.
@@ -204,7 +190,8 @@ fn write_lists(out: &mut [u8], unique_id: &[u8], certificate: &[u8], name: &[u8]
     field::write_bytes(out, 41 + certificate.len(), name);
 }
 
-// Writes a response to the front of `out`: 17 for what does not fit its field and for what is no name, then 8 for too little room.
+// Writes a response to the front of `out`, numbers saturated: 17 for a list that does not fit and for what is no name, then 8 for too little
+// room.
 pub fn encode(
     m: Numbers,
     unique_id: &[u8],
@@ -214,9 +201,6 @@ pub fn encode(
 ) -> Written
     ensures { λ r. ⌜ (answer.answerOf r, now (out .exit)) ≡ written response (numberValues m lists (now («unique_id» .entry), (now («certificate_of_authenticity» .entry), now (name .entry)))) (now (out .entry)) ⌝ }
 {
-    if !fits(m) {
-        return Written::Refused(17);
-    }
     if !lists_fit(unique_id, certificate_of_authenticity, name) {
         return Written::Refused(17);
     }

@@ -1,6 +1,7 @@
 // NodeStatus (message 341; RULES 10.2).
 use bits::field;
 use shape::answer::Written;
+use shape::number;
 ghost use mathlib.Core.Path.{_≡_};
 ghost use Prim.Native.Nat.{_≤_};
 ghost use lib.ListN.{length};
@@ -12,11 +13,11 @@ ghost use Rattle.protocol.specs.NodeStatus.{nodeStatus, statusValues, st
 
 // Sub-mode is read as zero, and any value given is written as zero (RULES 9.8).
 pub struct NodeStatus {
-    pub uptime_sec: u64,
-    pub health: u64,
-    pub mode: u64,
-    pub sub_mode: u64,
-    pub vendor_specific_status_code: u64,
+    pub uptime_sec: i64,
+    pub health: i64,
+    pub mode: i64,
+    pub sub_mode: i64,
+    pub vendor_specific_status_code: i64,
 }
 
 pub enum Read {
@@ -30,11 +31,11 @@ pub fn read_front(s: &[u8]) -> NodeStatus
     ensures { λ r. ⌜ r ≡ statusAt (unpack (now (s .entry))) ⌝ }
 {
     NodeStatus {
-        uptime_sec: field::read(s, 0, 32),
-        health: field::read(s, 32, 2),
-        mode: field::read(s, 34, 3),
+        uptime_sec: number::read(s, 0, 32),
+        health: number::read(s, 32, 2),
+        mode: number::read(s, 34, 3),
         sub_mode: 0,
-        vendor_specific_status_code: field::read(s, 40, 16),
+        vendor_specific_status_code: number::read(s, 40, 16),
     }
 }
 
@@ -52,35 +53,22 @@ pub fn decode(payload: &[u8]) -> Read
     Read::Got(read_front(payload))
 }
 
-// Internal. Every number fits its field.
-pub fn fits(x: NodeStatus) -> bool
-    ensures { λ r. ⌜ r ≡ shape.fits nodeStatus (statusValues x end tt) ⌝ }
-{
-    (x.uptime_sec < 4294967296)
-        & (x.health < 4)
-        & (x.mode < 8)
-        & (x.vendor_specific_status_code < 65536)
-}
-
 // Internal. The 56 bits of a status, from the front.
 pub fn write_front(out: &mut [u8], x: NodeStatus)
     requires { ⌜ 7 ≤ length (now out) ⌝ }
     ensures { λ _. ⌜ now (out .exit) ≡ store (now (out .entry)) 0 (shape.encode nodeStatus (statusValues x end tt)) ⌝ }
 {
-    field::write(out, 0, 32, x.uptime_sec);
-    field::write(out, 32, 2, x.health);
-    field::write(out, 34, 3, x.mode);
+    number::write(out, 0, 32, x.uptime_sec);
+    number::write(out, 32, 2, x.health);
+    number::write(out, 34, 3, x.mode);
     field::write(out, 37, 3, 0);
-    field::write(out, 40, 16, x.vendor_specific_status_code);
+    number::write(out, 40, 16, x.vendor_specific_status_code);
 }
 
-// Writes a status to the front of `out`: 17 for what does not fit its field, then 8 for too little room.
+// Writes a status to the front of `out`, numbers saturated: 8 for too little room.
 pub fn encode(x: NodeStatus, out: &mut [u8]) -> Written
     ensures { λ r. ⌜ (answer.answerOf r, now (out .exit)) ≡ written nodeStatus (statusValues x end tt) (now (out .entry)) ⌝ }
 {
-    if !fits(x) {
-        return Written::Refused(17);
-    }
     if out.len() < 7 {
         return Written::Refused(8);
     }

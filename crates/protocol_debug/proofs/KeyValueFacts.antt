@@ -1,24 +1,25 @@
 -- KeyValue: what its reader and its writer go by.
 use mathlib.Core.Path.{_≡_, refl, sym, ap, _∙_}
-use mathlib.Core.Bool.{Bool, _&&_}
+use mathlib.Core.Bool.{Bool}
 use mathlib.Core.List.{List, [], _∷_, _++_}
 use Prim.Native.Nat.{ℕ, _+_, _*_, _≤_, _<_}
 use native.Mathlib.Omega.{arith}
-use lib.Dec.{ltb, leb}
+use borrow.Author.Tests.{lt-ltb}
+use lib.Dec.{leb}
 use lib.ListN.{length, length-append}
 use Rattle.bits.specs.Order.{Octets, unpack, toBits, store}
 use Rattle.bits.proofs.Numbers.{length-toBits}
 use Rattle.shape.specs.Answer.{refused, got, numbered}
 use Rattle.shape.specs.Shape.{Values, encode, decoded, fits}
 use Rattle.shape.proofs.Fields.{and-true, length-itemBits}
-use Rattle.shape.proofs.Reading.{Slot, value, refused-on, got-on, ht-short, ht-long, ht-held, ht-only}
+use Rattle.shape.proofs.Reading.{Slot, same, refused-on, got-on, ht-short, ht-long, ht-held, ht-only}
 use Rattle.shape.proofs.Writing.{more, item-bytes, all-bytes}
 use Rattle.protocol_debug.specs.KeyValue.{keyValue, keyIn, keyValueOf, keyValueIn}
 use Rattle.protocol_debug.specs.Laws.{keyValueFound}
 use Rattle.protocol_debug.specs.declared.key_value.KeyValue.{KeyValue}
 
 abbrev head : List Slot
-head = value 32 ∷ []
+head = same 32 ∷ []
 
 module _ (s : List ℕ) (o : Octets s) where
   pub short : length s < 4 → keyValueIn s ≡ numbered (refused 15)
@@ -42,9 +43,9 @@ module _ (v : ℕ) (key : List ℕ) where
   unfolding encode
   size = simp (length-append, length-toBits, length-itemBits) (omega arith)
 
-  pub fit : Octets key → ltb v 4294967296 && leb (length key) 58 ≡ fits keyValue (v, key)
+  pub fit : v < 4294967296 → Octets key → leb (length key) 58 ≡ fits keyValue (v, key)
   unfolding fits
-  fit o = rw (all-bytes key o) (simp and-true)
+  fit h o = rw (lt-ltb v 4294967296 h, all-bytes key o) (simp and-true)
 
   pub stored : (m₀ m₁ m₂ : List ℕ) → 4 ≤ length m₀ → m₁ ≡ store m₀ 0 (toBits 32 v) → m₂ ≡ store m₁ 32 (unpack key) → m₂ ≡ store m₀ 0 (encode keyValue (v, key))
   unfolding encode

@@ -6,6 +6,7 @@ use Prim.Native.Nat.{ℕ, _+_, _*_, _-_, _≤_, _<_}
 use native.Mathlib.Omega.{arith}
 use borrow.Author.Tests.{ltb-true, ltb-false}
 use lib.Dec.{ltb, leb}
+use lib.IntN.{ℤ}
 use lib.ListN.{length, drop, length-append, length-drop}
 use lib.Seq.{drop-drop, length-take-le}
 use Rattle.bits.specs.Order.{Octets, valueFrom, unpack, number, toBits, fromBits, store}
@@ -15,10 +16,11 @@ use Rattle.bits.proofs.Octets.{octets-drop}
 use Rattle.bits.proofs.Numbers.{length-toBits, fromBits-lt}
 use Rattle.shape.specs.Answer.{refused, got, numbered, mapAnswer}
 use Rattle.shape.specs.Shape.{Shape, list, tail, Values, anything, itemBits, encode, decode, decoded, fits}
-use Rattle.shape.proofs.Fields.{and-true, and-assoc, length-itemBits}
+use Rattle.shape.proofs.Fields.{and-true, length-itemBits}
 use Rattle.shape.proofs.Reading.{Slot, value, withHead, head-read, head-short, refused-on, got-on, never, list-short, list-read, tail-long, tail-got}
 use Rattle.shape.proofs.Reading as reading
 use Rattle.shape.proofs.Writing.{more, item-bytes, all-bytes}
+use Rattle.shape.proofs.CastFacts.{cast}
 use Rattle.protocol_debug.specs.LogMessage.{logMessage, sourceLength, sourceIn, textIn, logMessageOf, logMessageIn}
 use Rattle.protocol_debug.specs.Laws.{logMessageFound}
 use Rattle.protocol_debug.specs.declared.log_message.LogMessage.{LogMessage}
@@ -121,29 +123,32 @@ module _ (s : List ℕ) (o : Octets s) where
     go false true ea eb = absurd (never (too-many (ltb-false (length s) (1 + n) ea) (ltb-true 90 (length (textIn s)) eb)) e)
     go false false ea eb = reading.only e (read (ltb-false (length s) (1 + n) ea) (ltb-false 90 (length (textIn s)) eb))
 
-pub made : {v n a l v' n' l' : ℕ} → v ≡ v' → n ≡ n' → a ≡ 1 + n' → l ≡ l'
+pub made : {v v' : ℤ} {n a l n' l' : ℕ} → v ≡ v' → n ≡ n' → a ≡ 1 + n' → l ≡ l'
     → _≡_ {A = LogMessage} (record { level = v; source = record { at = 1; len = n }; text = record { at = a; len = l } })
     (record { level = v'; source = record { at = 1; len = n' }; text = record { at = 1 + n'; len = l' } })
 made e₁ e₂ e₃ e₄ = cc
 
-module _ (v : ℕ) (xs ys : List ℕ) where
+module _ (v : ℤ) (xs ys : List ℕ) where
+  abbrev level : ℕ
+  level = cast 3 v
+
   pub size : length (encode logMessage (v, (xs, ys))) ≡ (1 + length xs + length ys) * 8
   unfolding encode
   size = simp (length-append, length-toBits, length-itemBits) (omega (arith, five))
 
-  pub fit : Octets xs → Octets ys → (ltb v 8 && leb (length xs) 31) && leb (length ys) 90 ≡ fits logMessage (v, (xs, ys))
+  pub fit : Octets xs → Octets ys → leb (length xs) 31 && leb (length ys) 90 ≡ fits logMessage (v, (xs, ys))
   unfolding fits
-  fit o q = rw (all-bytes xs o, all-bytes ys q) (simp (and-assoc, and-true))
+  fit o q = rw (all-bytes xs o, all-bytes ys q) (simp and-true)
 
   -- w: the width that the code works out
-  pub stored : (w : ℕ) → w ≡ widthOf 31 → (m₀ m₁ m₂ m₃ m₄ : List ℕ) → 1 + length xs ≤ length m₀ → m₁ ≡ store m₀ 0 (toBits 3 v)
+  pub stored : (w : ℕ) → w ≡ widthOf 31 → (m₀ m₁ m₂ m₃ m₄ : List ℕ) → 1 + length xs ≤ length m₀ → m₁ ≡ store m₀ 0 (toBits 3 level)
       → m₂ ≡ store m₁ 3 (toBits w (length xs))
       → m₃ ≡ store m₂ 8 (unpack xs) → m₄ ≡ store m₃ ((1 + length xs) * 8) (unpack ys) → m₄ ≡ store m₀ 0 (encode logMessage (v, (xs, ys)))
   unfolding encode
   stored w e m₀ m₁ m₂ m₃ m₄ h e₁ e₂ e₃ e₄ =
-      let a = toBits 3 v in
+      let a = toBits 3 level in
       let b = toBits (widthOf 31) (length xs) in
-      let f₂ = more m₀ m₁ m₂ a b 3 e₁ (length-toBits 3 v) (omega arith) (e₂ ∙ ap (λ (k : ℕ). store m₁ 3 (toBits k (length xs))) e) in
+      let f₂ = more m₀ m₁ m₂ a b 3 e₁ (length-toBits 3 level) (omega arith) (e₂ ∙ ap (λ (k : ℕ). store m₁ 3 (toBits k (length xs))) e) in
       let f₃ = more m₀ m₂ m₃ (a ++ b) (unpack xs) 8 f₂ (simp (length-append, length-toBits) (omega (arith, five))) (omega arith) e₃ in
       let l : length ((a ++ b) ++ unpack xs) ≡ (1 + length xs) * 8 = simp (length-append, length-toBits, length-unpack) (omega (arith, five)) in
       let f₄ = more m₀ m₃ m₄ ((a ++ b) ++ unpack xs) (unpack ys) ((1 + length xs) * 8) f₃ l (omega arith) e₄ in

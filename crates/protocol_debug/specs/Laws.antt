@@ -2,6 +2,7 @@
 use mathlib.Core.Path.{_≡_}
 use mathlib.Core.List.{List}
 use Prim.Native.Nat.{ℕ}
+use lib.IntN.{pos}
 use Rattle.bits.specs.Order.{Octets, unpack, fromBits}
 use Rattle.shape.specs.Shape.{Values, cleared}
 use Rattle.shape.specs.Laws.{Trips, Never25}
@@ -13,7 +14,7 @@ abbrev pub keyValueFound : List ℕ → Values keyValue
 keyValueFound p = (fromBits 32 (unpack p), keyIn p)
 
 abbrev pub logMessageFound : List ℕ → Values logMessage
-logMessageFound p = (fromBits 3 (unpack p), (sourceIn p, textIn p))
+logMessageFound p = (pos (fromBits 3 (unpack p)), (sourceIn p, textIn p))
 
 pub record Laws : Type 0 where
   pub key-values : Trips keyValue keyValueOf keyValueFound

@@ -10,7 +10,7 @@ ghost use Rattle.protocol_debug.specs.KeyValue.{keyValue, keyIn, keyValu
 
 // The value is the 32 bits of a float.
 pub struct KeyValue {
-    pub value: u64,
+    pub value: u32,
     pub key: Place,
 }
 
@@ -38,24 +38,23 @@ pub fn decode(payload: &[u8]) -> Read
         return Read::Refused(16);
     }
     Read::Got(KeyValue {
-        value: field::read(payload, 0, 32),
+        value: field::read(payload, 0, 32) as u32,
         key: Place { at: 4, len },
     })
 }
 
-// Writes a value and its key to the front of `out`: 17 for what does not fit its field, then 8 for too little room.
-pub fn encode(value: u64, key: &[u8], out: &mut [u8]) -> Written
+// Writes a value and its key to the front of `out`: 17 for a key that is too long, then 8 for too little room.
+pub fn encode(value: u32, key: &[u8], out: &mut [u8]) -> Written
     ensures { λ r. ⌜ (answer.answerOf r, now (out .exit)) ≡ written keyValue (value, now (key .entry)) (now (out .entry)) ⌝ }
 {
-    let fits = (value < 4294967296) & (key.len() <= 58);
-    if !fits {
+    if 58 < key.len() {
         return Written::Refused(17);
     }
     let n = 4 + key.len();
     if out.len() < n {
         return Written::Refused(8);
     }
-    field::write(out, 0, 32, value);
+    field::write(out, 0, 32, value as u64);
     field::write_bytes(out, 4, key);
     Written::Wrote(n)
 }

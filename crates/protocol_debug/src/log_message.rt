@@ -3,6 +3,7 @@ use bits::field;
 use bits::width;
 use shape::answer::Place;
 use shape::answer::Written;
+use shape::number;
 use shape::part;
 ghost use mathlib.Core.Path.{_≡_};
 ghost use Rattle.shape.specs.Answer as answer;
@@ -10,7 +11,7 @@ ghost use Rattle.shape.specs.Shape.{written};
 ghost use Rattle.protocol_debug.specs.LogMessage.{logMessage, sourceLength, sourceIn, textIn, logMessageIn, answerOf};
 
 pub struct LogMessage {
-    pub level: u64,
+    pub level: i64,
     pub source: Place,
     pub text: Place,
 }
@@ -57,7 +58,7 @@ pub fn decode(payload: &[u8]) -> Read
         return Read::Refused(16);
     }
     Read::Got(LogMessage {
-        level: field::read(payload, 0, 3),
+        level: number::read(payload, 0, 3),
         source: Place {
             at: 1,
             len: source(payload).len(),
@@ -66,11 +67,11 @@ pub fn decode(payload: &[u8]) -> Read
     })
 }
 
-// Writes a log message to the front of `out`: 17 for what does not fit its field, then 8 for too little room.
-pub fn encode(level: u64, source: &[u8], text: &[u8], out: &mut [u8]) -> Written
+// Writes a log message to the front of `out`, its level saturated: 17 for a list that is too long, then 8 for too little room.
+pub fn encode(level: i64, source: &[u8], text: &[u8], out: &mut [u8]) -> Written
     ensures { λ r. ⌜ (answer.answerOf r, now (out .exit)) ≡ written logMessage (level, (now (source .entry), now (text .entry))) (now (out .entry)) ⌝ }
 {
-    let fits = (level < 8) & (source.len() <= 31) & (text.len() <= 90);
+    let fits = (source.len() <= 31) & (text.len() <= 90);
     if !fits {
         return Written::Refused(17);
     }
@@ -79,7 +80,7 @@ pub fn encode(level: u64, source: &[u8], text: &[u8], out: &mut [u8]) -> Written
     if out.len() < n {
         return Written::Refused(8);
     }
-    field::write(out, 0, 3, level);
+    number::write(out, 0, 3, level);
     field::write(out, 3, width::width(31) as usize, source.len() as u64);
     field::write_bytes(out, 1, source);
     field::write_bytes(out, at, text);

@@ -2,6 +2,7 @@
 use mathlib.Core.Path.{_≡_}
 use mathlib.Core.List.{List}
 use Prim.Native.Nat.{ℕ}
+use lib.IntN.{pos}
 use lib.ListN.{drop}
 use Rattle.bits.specs.Order.{Octets, unpack, fromBits}
 use Rattle.shape.specs.Shape.{Values, cleared}
@@ -10,7 +11,7 @@ use Rattle.protocol_dynamic_node_id.specs.Allocation.{allocation, unique
 
 -- what is in a payload, numbers at their places and the list as the part that `unique_id` gives
 abbrev pub allocationFound : List ℕ → Values allocation
-allocationFound p = (fromBits 7 (unpack p), (fromBits 1 (drop 7 (unpack p)), uniqueIdIn p))
+allocationFound p = (pos (fromBits 7 (unpack p)), (pos (fromBits 1 (drop 7 (unpack p))), uniqueIdIn p))
 
 pub record Laws : Type 0 where
   pub allocations : Trips allocation allocationOf allocationFound

@@ -3,6 +3,7 @@
 use mathlib.Core.Path.{_≡_}
 use mathlib.Core.List.{List, [], _∷_}
 use Prim.Native.Nat.{ℕ}
+use lib.IntN.{pos, negsuc}
 use Rattle.shape.specs.Answer.{got}
 use Rattle.shape.specs.Shape.{decoded, encoded}
 use Rattle.protocol_dynamic_node_id.specs.Allocation.{allocation}
@@ -16,6 +17,8 @@ uniqueId = stage₁ (244 ∷ 188 ∷ 16 ∷ 150 ∷ 223 ∷ 17 ∷ 168 ∷ 186 �
 
 pub record Samples : Type 0 where
   -- byte 0x01 and the first stage: no preferred node ID, the first part
-  pub first : decoded allocation (1 ∷ stage₁ []) ≡ got (0, (1, stage₁ []))
+  pub first : decoded allocation (1 ∷ stage₁ []) ≡ got (pos 0, (pos 1, stage₁ []))
   -- byte 0xFA and the whole: node ID 125
-  pub last : encoded allocation (125, (0, uniqueId)) 17 ≡ got (250 ∷ uniqueId)
+  pub last : encoded allocation (pos 125, (pos 0, uniqueId)) 17 ≡ got (250 ∷ uniqueId)
+  -- RULES 9.14: 200 and -1 are written as 127 and 0
+  pub clipped : encoded allocation (pos 200, (negsuc 0, [])) 1 ≡ got (254 ∷ [])

@@ -2,6 +2,7 @@
 use bits::field;
 use shape::answer::Place;
 use shape::answer::Written;
+use shape::number;
 use shape::part;
 ghost use mathlib.Core.Path.{_≡_};
 ghost use Rattle.shape.specs.Answer as answer;
@@ -9,8 +10,8 @@ ghost use Rattle.shape.specs.Shape.{written};
 ghost use Rattle.protocol_dynamic_node_id.specs.Allocation.{allocation, uniqueIdIn, allocationIn, answerOf};
 
 pub struct Allocation {
-    pub node_id: u64,
-    pub first_part_of_unique_id: u64,
+    pub node_id: i64,
+    pub first_part_of_unique_id: i64,
     pub unique_id: Place,
 }
 
@@ -38,31 +39,30 @@ pub fn decode(payload: &[u8]) -> Read
         return Read::Refused(16);
     }
     Read::Got(Allocation {
-        node_id: field::read(payload, 0, 7),
-        first_part_of_unique_id: field::read(payload, 7, 1),
+        node_id: number::read(payload, 0, 7),
+        first_part_of_unique_id: number::read(payload, 7, 1),
         unique_id: Place { at: 1, len },
     })
 }
 
-// Writes an allocation to the front of `out`: 17 for what does not fit its field, then 8 for too little room.
+// Writes an allocation to the front of `out`, numbers saturated: 17 for a unique ID that is too long, then 8 for too little room.
 pub fn encode(
-    node_id: u64,
-    first_part_of_unique_id: u64,
+    node_id: i64,
+    first_part_of_unique_id: i64,
     unique_id: &[u8],
     out: &mut [u8],
 ) -> Written
     ensures { λ r. ⌜ (answer.answerOf r, now (out .exit)) ≡ written allocation («node_id», («first_part_of_unique_id», now («unique_id» .entry))) (now (out .entry)) ⌝ }
 {
-    let fits = (node_id < 128) & (first_part_of_unique_id < 2) & (unique_id.len() <= 16);
-    if !fits {
+    if 16 < unique_id.len() {
         return Written::Refused(17);
     }
     let n = 1 + unique_id.len();
     if out.len() < n {
         return Written::Refused(8);
     }
-    field::write(out, 0, 7, node_id);
-    field::write(out, 7, 1, first_part_of_unique_id);
+    number::write(out, 0, 7, node_id);
+    number::write(out, 7, 1, first_part_of_unique_id);
     field::write_bytes(out, 1, unique_id);
     Written::Wrote(n)
 }

@@ -13,7 +13,9 @@ use Rattle.bits.specs.Order.{toBits, fromBits}
 use Rattle.bits.proofs.Numbers.{length-toBits, fromBits-lt, toBits-fromBits}
 use Rattle.bits.specs.Width.{widthOf}
 use Rattle.shape.specs.Answer.{Answer, refused, got, refuseIf, mapAnswer}
-use Rattle.shape.specs.Shape.{Shape, end, num, void, items, list, tail, Values, itemBits, itemsOf, allZero, allBelow, encode, decode, fits, clear}
+use Rattle.shape.specs.Cast.{Sign, Cast, valueOf, castBits}
+use Rattle.shape.specs.Shape.{Shape, end, num, raw, void, items, list, tail, Values, itemBits, itemsOf, allZero, allBelow, encode, decode, fits, clear}
+use Rattle.shape.proofs.CastFacts.{cast-back}
 use Rattle.shape.proofs.Fields.{and-both, length-itemsOf, items-back, items-below}
 
 -- bits that a message of shape d was read from
@@ -42,12 +44,30 @@ good-end bs true z e k = tt
 good-end bs false false e k = tt
 good-end bs false true e k = record { pad = bs; whole = refl; long = refl; short = leb-false 8 (length bs) e; empty = k; fit = refl }
 
-good-num : (w : ℕ) (d : Shape) (bs : List Bool) (b : Bool) → ltb (length bs) w ≡ b → (r : Answer (Values d)) → Good d (drop w bs) r
-    → Good (num w d) bs (refuseIf b 15 (mapAnswer (λ (v : Values d). (fromBits w bs, v)) r))
+good-num : (s : Sign) (c : Cast) (w : ℕ) (d : Shape) (bs : List Bool) (b : Bool) → ltb (length bs) w ≡ b → (r : Answer (Values d)) → Good d (drop w bs) r
+    → Good (num s c w d) bs (refuseIf b 15 (mapAnswer (λ (v : Values d). (valueOf s w (fromBits w bs), v)) r))
 unfolding refuseIf mapAnswer encode fits clear
-good-num w d bs true e r g = tt
-good-num w d bs false e (refused n) g = tt
-good-num w d bs false e (got v) g =
+good-num s c w d bs true e r g = tt
+good-num s c w d bs false e (refused n) g = tt
+good-num s c w d bs false e (got v) g =
+    let l : w ≤ length bs = ltb-false (length bs) w e in
+    let n : castBits s c w (valueOf s w (fromBits w bs)) ≡ fromBits w bs = cast-back s c w (fromBits w bs) (fromBits-lt w bs l) in
+    record {
+      pad = g .pad;
+      whole = joined (take w bs) (toBits w (castBits s c w (valueOf s w (fromBits w bs)))) (clear d (drop w bs)) (encode d v) (g .pad)
+          (ap (λ (k : ℕ). toBits w k) n ∙ toBits-fromBits w bs l) (g .whole);
+      long = as-long w bs (take w bs) (clear d (drop w bs)) l (length-take-le w bs l) (g .long);
+      short = g .short;
+      empty = g .empty;
+      fit = g .fit;
+    }
+
+good-raw : (w : ℕ) (d : Shape) (bs : List Bool) (b : Bool) → ltb (length bs) w ≡ b → (r : Answer (Values d)) → Good d (drop w bs) r
+    → Good (raw w d) bs (refuseIf b 15 (mapAnswer (λ (v : Values d). (fromBits w bs, v)) r))
+unfolding refuseIf mapAnswer encode fits clear
+good-raw w d bs true e r g = tt
+good-raw w d bs false e (refused n) g = tt
+good-raw w d bs false e (got v) g =
     let l : w ≤ length bs = ltb-false (length bs) w e in
     record {
       pad = g .pad;
@@ -150,7 +170,8 @@ good-tail w m ok bs false false true true e₁ e₂ e₃ e₄ =
 pub back : (d : Shape) (bs : List Bool) → Good d bs (decode d bs)
 unfolding decode
 back end bs = good-end bs (leb 8 (length bs)) (allZero bs) refl refl
-back (num w d) bs = good-num w d bs (ltb (length bs) w) refl (decode d (drop w bs)) (back d (drop w bs))
+back (num s c w d) bs = good-num s c w d bs (ltb (length bs) w) refl (decode d (drop w bs)) (back d (drop w bs))
+back (raw w d) bs = good-raw w d bs (ltb (length bs) w) refl (decode d (drop w bs)) (back d (drop w bs))
 back (void w d) bs = good-void w d bs (ltb (length bs) w) refl (decode d (drop w bs)) (back d (drop w bs))
 back (items w k d) bs = good-items w k d bs (ltb (length bs) (k * w)) refl (decode d (drop (k * w) bs)) (back d (drop (k * w) bs))
 back (list w m d) bs =

@@ -29,10 +29,6 @@ pub and-true : (a : Bool) → a && true ≡ a
 and-true true = refl
 and-true false = refl
 
-pub and-assoc : (a b c : Bool) → (a && b) && c ≡ a && (b && c)
-and-assoc true b c = refl
-and-assoc false b c = refl
-
 -- ── items ──
 pub length-itemBits : (w : ℕ) (xs : List ℕ) → length (itemBits w xs) ≡ length xs * w
 unfolding itemBits

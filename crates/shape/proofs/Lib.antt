@@ -1,5 +1,5 @@
 pub mod Fields
-mod There
+pub mod There
 mod Back
 pub mod RoundTrip
 pub mod Reading
@@ -8,3 +8,4 @@ pub mod ItemFacts
 pub mod Trip
 pub mod Tails
 pub mod SignedFacts
+pub mod CastFacts

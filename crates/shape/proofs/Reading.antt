@@ -7,6 +7,7 @@ use native.Mathlib.Nat.{add-zero}
 use native.Mathlib.Omega.{arith}
 use borrow.Author.Tests.{lt-ltb, le-ltb, le-leb, ltb-true, ltb-false}
 use lib.Dec.{ltb}
+use lib.IntN.{pos}
 use lib.ListN.{length, take, drop, length-drop, drop-of-length-le}
 use lib.Seq.{take-at, drop-at, drop-drop, take-length}
 use Rattle.bits.specs.Order.{Octets, digits, valueFrom, unpack, number, fromBits}
@@ -15,21 +16,25 @@ use Rattle.bits.proofs.Digits.{length-digits, value-digits}
 use Rattle.bits.proofs.Bytes.{length-unpack, drop-unpack}
 use Rattle.bits.proofs.Octets.{octets-drop}
 use Rattle.shape.specs.Answer.{Answer, refused, got, numbered, refuseIf, mapAnswer}
-use Rattle.shape.specs.Shape.{Shape, end, num, void, items, list, tail, Values, anything, itemsOf, decode}
+use Rattle.shape.specs.Shape.{Shape, end, uint, raw, void, items, list, tail, Values, anything, itemsOf, decode}
 
 -- ── a head: numbers and ignored bits ──
 
+-- an unsigned number, saturated; bits kept as they are; ignored bits
 pub data Slot : Type 0 where
   value : ℕ → Slot
+  same : ℕ → Slot
   gap : ℕ → Slot
 
 abbrev pub slots : List Slot → Shape → Shape
 slots [] d = d
-slots (value w ∷ ss) d = num w (slots ss d)
+slots (value w ∷ ss) d = uint w (slots ss d)
+slots (same w ∷ ss) d = raw w (slots ss d)
 slots (gap w ∷ ss) d = void w (slots ss d)
 
 abbrev width : Slot → ℕ
 width (value w) = w
+width (same w) = w
 width (gap w) = w
 
 abbrev total : List Slot → ℕ
@@ -39,7 +44,8 @@ total (s ∷ ss) = width s + total ss
 -- the numbers from bit `at` on, before v
 abbrev pub withHead : (ss : List Slot) (d : Shape) → List Bool → ℕ → Values d → Values (slots ss d)
 withHead [] d bs at v = v
-withHead (value w ∷ ss) d bs at v = (fromBits w (drop at bs), withHead ss d bs (at + w) v)
+withHead (value w ∷ ss) d bs at v = (pos (fromBits w (drop at bs)), withHead ss d bs (at + w) v)
+withHead (same w ∷ ss) d bs at v = (fromBits w (drop at bs), withHead ss d bs (at + w) v)
 withHead (gap w ∷ ss) d bs at v = withHead ss d bs (at + w) v
 
 map-map : {A B C : Type 0} (f : B → C) (g : A → B) (r : Answer A) → mapAnswer f (mapAnswer g r) ≡ mapAnswer (λ (a : A). f (g a)) r
@@ -87,9 +93,13 @@ module _ (w : ℕ) (d : Shape) (bs : List Bool) (at : ℕ) (h : at + w ≤ lengt
   enough : ltb (length (drop at bs)) w ≡ false
   enough = le-ltb (length (drop at bs)) w (rw length-drop (omega arith))
 
-  num-at : decode (num w d) (drop at bs) ≡ mapAnswer (λ (v : Values d). (fromBits w (drop at bs), v)) (decode d (drop (at + w) bs))
+  num-at : decode (uint w d) (drop at bs) ≡ mapAnswer (λ (v : Values d). (pos (fromBits w (drop at bs)), v)) (decode d (drop (at + w) bs))
   unfolding decode refuseIf
   num-at = rw (enough, drop-drop w at bs)
+
+  raw-at : decode (raw w d) (drop at bs) ≡ mapAnswer (λ (v : Values d). (fromBits w (drop at bs), v)) (decode d (drop (at + w) bs))
+  unfolding decode refuseIf
+  raw-at = rw (enough, drop-drop w at bs)
 
   void-at : decode (void w d) (drop at bs) ≡ decode d (drop (at + w) bs)
   unfolding decode refuseIf
@@ -101,9 +111,15 @@ head-read [] d bs at h = rw add-zero (map-same (decode d (drop at bs)))
 head-read (value w ∷ ss) d bs at h =
     let e : at + w + total ss ≡ at + (w + total ss) = omega arith in
     num-at w (slots ss d) bs at (omega arith)
+    ∙ ap (λ (r : Answer (Values (slots ss d))). mapAnswer (λ (v : Values (slots ss d)). (pos (fromBits w (drop at bs)), v)) r) (head-read ss d bs (at + w) (omega arith))
+    ∙ map-map (λ (v : Values (slots ss d)). (pos (fromBits w (drop at bs)), v)) (withHead ss d bs (at + w)) (decode d (drop (at + w + total ss) bs))
+    ∙ ap (λ (n : ℕ). mapAnswer (withHead (value w ∷ ss) d bs at) (decode d (drop n bs))) e
+head-read (same w ∷ ss) d bs at h =
+    let e : at + w + total ss ≡ at + (w + total ss) = omega arith in
+    raw-at w (slots ss d) bs at (omega arith)
     ∙ ap (λ (r : Answer (Values (slots ss d))). mapAnswer (λ (v : Values (slots ss d)). (fromBits w (drop at bs), v)) r) (head-read ss d bs (at + w) (omega arith))
     ∙ map-map (λ (v : Values (slots ss d)). (fromBits w (drop at bs), v)) (withHead ss d bs (at + w)) (decode d (drop (at + w + total ss) bs))
-    ∙ ap (λ (n : ℕ). mapAnswer (withHead (value w ∷ ss) d bs at) (decode d (drop n bs))) e
+    ∙ ap (λ (n : ℕ). mapAnswer (withHead (same w ∷ ss) d bs at) (decode d (drop n bs))) e
 head-read (gap w ∷ ss) d bs at h =
     let e : at + w + total ss ≡ at + (w + total ss) = omega arith in
     void-at w (slots ss d) bs at (omega arith) ∙ head-read ss d bs (at + w) (omega arith)
@@ -120,10 +136,15 @@ head-bytes ss d n e s h =
 
 -- a payload that ends in the head
 module _ (w : ℕ) (d : Shape) (bs : List Bool) (k : w ≤ length bs → decode d (drop w bs) ≡ refused 15) where
-  num-short : (b : Bool) → ltb (length bs) w ≡ b → decode (num w d) bs ≡ refused 15
+  num-short : (b : Bool) → ltb (length bs) w ≡ b → decode (uint w d) bs ≡ refused 15
   unfolding decode refuseIf mapAnswer
   num-short true e = rw e
   num-short false e = rw (e, k (ltb-false (length bs) w e))
+
+  raw-short : (b : Bool) → ltb (length bs) w ≡ b → decode (raw w d) bs ≡ refused 15
+  unfolding decode refuseIf mapAnswer
+  raw-short true e = rw e
+  raw-short false e = rw (e, k (ltb-false (length bs) w e))
 
   void-short : (b : Bool) → ltb (length bs) w ≡ b → decode (void w d) bs ≡ refused 15
   unfolding decode refuseIf
@@ -133,6 +154,7 @@ module _ (w : ℕ) (d : Shape) (bs : List Bool) (k : w ≤ length bs → decode 
 pub head-short : (ss : List Slot) (d : Shape) (bs : List Bool) → length bs < total ss → decode (slots ss d) bs ≡ refused 15
 head-short [] d bs h = absurd (omega arith)
 head-short (value w ∷ ss) d bs h = num-short w (slots ss d) bs (λ l. head-short ss d (drop w bs) (rw length-drop (omega arith))) (ltb (length bs) w) refl
+head-short (same w ∷ ss) d bs h = raw-short w (slots ss d) bs (λ l. head-short ss d (drop w bs) (rw length-drop (omega arith))) (ltb (length bs) w) refl
 head-short (gap w ∷ ss) d bs h = void-short w (slots ss d) bs (λ l. head-short ss d (drop w bs) (rw length-drop (omega arith))) (ltb (length bs) w) refl
 
 -- ── the end ──

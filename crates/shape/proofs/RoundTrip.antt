@@ -14,7 +14,7 @@ use Rattle.bits.specs.Width.{widthOf}
 use Rattle.bits.proofs.Digits.{value-lt}
 use Rattle.bits.proofs.Bytes.{length-unpack, length-bytes, unpack-bytes, bytes-unpack}
 use Rattle.shape.specs.Answer.{Answer, got, refuseIf}
-use Rattle.shape.specs.Shape.{Shape, end, num, void, items, list, tail, Values, encode, decode, decoded, message, fits, encoded, clear, cleared}
+use Rattle.shape.specs.Shape.{Shape, end, num, raw, void, items, list, tail, Values, encode, decode, decoded, message, fits, clipped, encoded, clear, cleared}
 use Rattle.shape.specs.Laws.{Sound, Whole, There, Back, Same}
 use Rattle.shape.proofs.Fields.{zeros-are, zeros-zero}
 use Rattle.shape.proofs.There.{there}
@@ -25,7 +25,7 @@ unpack-pack bs =
     unpack-bytes (bytesFor (length bs)) (bs ++ padding bs)
     (length-append bs (padding bs) ∙ omega (arith, length-replicate (bytesFor (length bs) * 8 - length bs) false))
 
-read-message : (d : Shape) → Sound d → (v : Values d) → fits d v ≡ true → decoded d (message d v) ≡ got v
+read-message : (d : Shape) → Sound d → (v : Values d) → fits d v ≡ true → decoded d (message d v) ≡ got (clipped d v)
 read-message d s v h =
     let p = padding (encode d v) in
     let l : length p < 8 = omega (arith, length-replicate (bytesFor (length (encode d v)) * 8 - length (encode d v)) false) in
@@ -82,7 +82,8 @@ round-back d s v room e l =
 pub clear-same : (d : Shape) → Whole d → (bs : List Bool) → clear d bs ≡ bs
 unfolding clear
 clear-same end h bs = refl
-clear-same (num w d) h bs = rw (clear-same d h (drop w bs)) (take-append-drop w bs)
+clear-same (num s c w d) h bs = rw (clear-same d h (drop w bs)) (take-append-drop w bs)
+clear-same (raw w d) h bs = rw (clear-same d h (drop w bs)) (take-append-drop w bs)
 clear-same (void w d) h bs = absurd h
 clear-same (items w k d) h bs = rw (clear-same d h (drop (k * w) bs)) (take-append-drop (k * w) bs)
 clear-same (list w m d) h bs =

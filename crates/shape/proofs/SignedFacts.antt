@@ -1,59 +1,21 @@
--- Signed numbers: the laws of the view over every width, and what its code goes by.
+-- Signed numbers: what their code goes by.
 use mathlib.Core.Path.{_≡_, refl, sym, ap, _∙_}
 use mathlib.Core.Bool.{Bool, true, false}
 use Prim.Native.Nat.{ℕ, zero, suc, _+_, _*_, _-_, _/_, _%_, _^_, _≤_, _<_}
 use native.Mathlib.Nat.{zero-add, pow-suc, mod-eq-of-lt}
 use native.Mathlib.Omega.{arith}
-use borrow.Author.Tests.{lt-ltb, le-ltb, le-leb, lt-leb, ltb-true, ltb-false, leb-true, leb-false}
-use lib.Dec.{T, ltb, leb}
+use borrow.Author.Tests.{lt-ltb, le-ltb, ltb-true}
+use lib.Dec.{T}
 use lib.IntN.{ℤ, pos, negsuc, natAbs, _-ℤ_}
 use lib.Signed.{mag, ltZ, nonNeg}
 use lib.Pow.{pow-mono, pow-pos}
 use mir.Syntax.{w64}
 use mir.Val.{Fits, SFits, toZ, ofZ}
 use mir.ValLaws.{toZ-ofZ, toZ-pos}
-use Rattle.shape.specs.Signed.{signed, signedOf, patternOf, inRange}
-use Rattle.shape.specs.Laws.{SignedLaws}
+use Rattle.shape.specs.Signed.{signedOf}
 
-halves : (w : ℕ) → 1 ≤ w → 2 ^ w ≡ 2 ^ (w - 1) * 2
+pub halves : (w : ℕ) → 1 ≤ w → 2 ^ w ≡ 2 ^ (w - 1) * 2
 halves w h = let e : w ≡ suc (w - 1) = omega arith in ap (λ (k : ℕ). 2 ^ k) e ∙ pow-suc 2 (w - 1)
-
--- ── the view ──
-
-pub mag-lt : (w : ℕ) (z : ℤ) → inRange w z ≡ true → mag z < 2 ^ (w - 1)
-unfolding inRange
-mag-lt w (pos n) e = ltb-true n (2 ^ (w - 1)) e
-mag-lt w (negsuc n) e = ltb-true n (2 ^ (w - 1)) e
-
-pub pattern-lt : (w : ℕ) (z : ℤ) → 1 ≤ w → inRange w z ≡ true → patternOf w z < 2 ^ w
-unfolding inRange patternOf
-pattern-lt w (pos n) h e = omega (arith, halves w h, ltb-true n (2 ^ (w - 1)) e)
-pattern-lt w (negsuc n) h e = omega (arith, halves w h, ltb-true n (2 ^ (w - 1)) e)
-
-pub signed-pattern : (w : ℕ) (z : ℤ) → 1 ≤ w → inRange w z ≡ true → signedOf w (patternOf w z) ≡ z
-unfolding inRange patternOf signedOf
-signed-pattern w (pos n) h e = rw e
-signed-pattern w (negsuc n) h e =
-    let l : n < 2 ^ (w - 1) = ltb-true n (2 ^ (w - 1)) e in
-    let f : ltb (2 ^ w - suc n) (2 ^ (w - 1)) ≡ false = le-ltb (2 ^ w - suc n) (2 ^ (w - 1)) (omega (arith, halves w h)) in
-    let k : 2 ^ w - suc (2 ^ w - suc n) ≡ n = omega (arith, halves w h) in
-    rw (f, k)
-
-module _ (w n : ℕ) (h : 1 ≤ w) (l : n < 2 ^ w) where
-  by : (b : Bool) → ltb n (2 ^ (w - 1)) ≡ b → (patternOf w (signed b w n) ≡ n) × (inRange w (signed b w n) ≡ true)
-  unfolding inRange patternOf
-  by true e = (refl, e)
-  by false e =
-      let k : 2 ^ (w - 1) ≤ n = ltb-false n (2 ^ (w - 1)) e in
-      (omega arith, lt-ltb (2 ^ w - suc n) (2 ^ (w - 1)) (omega (arith, halves w h)))
-
-  pub pattern-signed : patternOf w (signedOf w n) ≡ n
-  unfolding signedOf
-  pattern-signed = by (ltb n (2 ^ (w - 1))) refl .0
-
-  pub signed-in : inRange w (signedOf w n) ≡ true
-  unfolding signedOf
-  signed-in = by (ltb n (2 ^ (w - 1))) refl .1
 
 -- ── the code ──
 
@@ -72,7 +34,7 @@ minus-fits (pos n) f = rw (minus (pos n)) (record { sfits = f .sfits })
 minus-fits (negsuc n) f = rw (minus (negsuc n)) (record { sfits = f .sfits })
 
 -- what a signed local holds
-is : (z : ℤ) → SFits w64 z → toZ w64 (ofZ w64 z) ≡ z
+pub is : (z : ℤ) → SFits w64 z → toZ w64 (ofZ w64 z) ≡ z
 is z f = toZ-ofZ w64 z f
 
 below-zero : (z : ℤ) → SFits w64 z → ltZ z (pos 0) ≡ true → (T (nonNeg (negsuc 0 -ℤ z)) × Fits w64 (natAbs (negsuc 0 -ℤ z))) × (natAbs (negsuc 0 -ℤ z) ≡ mag z)
@@ -107,11 +69,6 @@ module _ (z : ℤ) (f : SFits w64 z) where
   pub above : ltZ held (pos 0) ≡ false → (T (nonNeg held) × Fits w64 (natAbs held)) × (natAbs held ≡ mag z)
   above e = rw (is z f) (from-zero z f (sign false e))
 
-pub positive : (w : ℕ) (z : ℤ) (n : ℕ) → n ≡ mag z → ltZ z (pos 0) ≡ false → n ≡ patternOf w z
-unfolding patternOf
-positive w (pos k) n f g = f
-positive w (negsuc k) n f g = absurd (let z : _≡_ {A = ℕ} 0 1 = cc in omega arith)
-
 -- a power by a shift
 module _ (w : ℕ) (h : 1 ≤ w) (k : w ≤ 64) where
   pub shifted : (1 * 2 ^ (w - 1)) % 18446744073709551616 ≡ 2 ^ (w - 1)
@@ -131,27 +88,6 @@ module _ (w : ℕ) (h : 1 ≤ w) (k : w ≤ 64) where
 module _ (w t : ℕ) (h : 1 ≤ w) (e : t + 1 ≡ 2 ^ w) where
   pub half : t / 2 + 1 ≡ 2 ^ (w - 1)
   half = omega (arith, halves w h)
-
-  range : (n : ℕ) → leb n (t / 2) ≡ ltb n (2 ^ (w - 1))
-  range n = go (leb n (t / 2)) refl where
-    go : (b : Bool) → leb n (t / 2) ≡ b → leb n (t / 2) ≡ ltb n (2 ^ (w - 1))
-    go true f = f ∙ sym (lt-ltb n (2 ^ (w - 1)) (omega (arith, half, leb-true n (t / 2) f)))
-    go false f = f ∙ sym (le-ltb n (2 ^ (w - 1)) (omega (arith, half, leb-false n (t / 2) f)))
-
-  pub in-range : (z : ℤ) (n : ℕ) → n ≡ mag z → leb n (t / 2) ≡ inRange w z
-  unfolding inRange
-  in-range (pos k) n f = rw f (range k)
-  in-range (negsuc k) n f = rw f (range k)
-
-  pub pattern-below : (z : ℤ) (n : ℕ) → n ≡ mag z → inRange w z ≡ true → n ≤ t
-  unfolding inRange
-  pattern-below (pos k) n f g = omega (arith, halves w h, ltb-true k (2 ^ (w - 1)) g)
-  pattern-below (negsuc k) n f g = omega (arith, halves w h, ltb-true k (2 ^ (w - 1)) g)
-
-  pub negative : (z : ℤ) (n : ℕ) → n ≡ mag z → ltZ z (pos 0) ≡ true → t - n ≡ patternOf w z
-  unfolding patternOf
-  negative (pos k) n f g = absurd (omega (arith, ltb-true k 0 g))
-  negative (negsuc k) n f g = omega arith
 
   pub low : (x : ℕ) → w ≤ 64 → x ≤ t / 2 → toZ w64 x ≡ signedOf w x
   unfolding signedOf
@@ -176,10 +112,3 @@ module _ (w t : ℕ) (h : 1 ≤ w) (e : t + 1 ≡ 2 ^ w) where
         let q : t - x ≡ 2 ^ w - suc x = omega arith in
         is (negsuc 0 -ℤ toZ w64 (t - x)) rest-fits ∙ ap (λ (z : ℤ). negsuc 0 -ℤ z) rest ∙ minus (pos (t - x))
         ∙ rw (le-ltb x (2 ^ (w - 1)) (omega (arith, half)), q)
-
-pub signed-laws : SignedLaws
-signed-laws =
-    record {
-      there = λ w z h e. (signed-pattern w z h e, pattern-lt w z h e);
-      back = λ w n h l. (pattern-signed w n h l, signed-in w n h l);
-    }

@@ -1,20 +1,19 @@
 -- Lists at the end: the return trips over every width and start, and lists of bytes at whole bytes.
-use mathlib.Core.Path.{_≡_, refl, sym, ap, _∙_}
+use mathlib.Core.Path.{_≡_, refl, ap, _∙_}
 use mathlib.Core.Bool.{Bool, true, false, not}
 use mathlib.Core.List.{List, [], _∷_}
-use Prim.Native.Nat.{ℕ, _+_, _*_, _/_, _%_, _≤_, _<_}
+use Prim.Native.Nat.{ℕ, _+_, _*_, _/_, _%_}
 use native.Mathlib.Omega.{arith}
-use borrow.Author.Tests.{lt-ltb, le-ltb, ltb-true, ltb-false, leb-false}
+use borrow.Author.Tests.{ltb-true, ltb-false, leb-false}
 use lib.Dec.{ltb, leb}
 use lib.ListN.{length, drop, length-drop}
 use Rattle.bits.specs.Order.{Octets, unpack, fromBits}
-use Rattle.bits.specs.Part.{span}
 use Rattle.bits.specs.Width.{widthOf}
 use Rattle.bits.proofs.Bytes.{length-unpack, drop-unpack}
 use Rattle.bits.proofs.Octets.{octets-drop}
 use Rattle.shape.specs.Answer.{Answer, refused, got, refuseIf, mapAnswer}
-use Rattle.shape.specs.Shape.{Shape, end, num, void, items, list, tail, Values, itemsOf, allZero, decode, decoded, encoded}
-use Rattle.shape.specs.Laws.{Tails, TailTrips, OnBytes, Never25, ByteLists}
+use Rattle.shape.specs.Shape.{Shape, end, num, raw, uint, void, items, list, tail, itemsOf, allZero, decode}
+use Rattle.shape.specs.Laws.{Tails, OnBytes, Never25, ByteLists}
 use Rattle.shape.proofs.Reading.{byte-items, tail-long, tail-not, tail-got}
 use Rattle.shape.proofs.Writing.{item-bytes}
 use Rattle.shape.proofs.RoundTrip.{round-there, round-back, whole-same}
@@ -22,8 +21,8 @@ use Rattle.shape.proofs.RoundTrip.{round-there, round-back, whole-same}
 pub tails : Tails
 tails h w m ok l u =
     record {
-      there = round-there (num h (tail w m ok)) l;
-      back = λ p o v room e k. round-back (num h (tail w m ok)) p v room e k ∙ ap got (whole-same (num h (tail w m ok)) tt p o);
+      there = round-there (uint h (tail w m ok)) l;
+      back = λ p o v room e k. round-back (uint h (tail w m ok)) p v room e k ∙ ap got (whole-same (uint h (tail w m ok)) tt p o);
     }
 
 -- ── no 25 ──
@@ -54,7 +53,10 @@ not-25 : (d : Shape) (k : ℕ) → OnBytes k d → (bs : List Bool) → (k + len
 unfolding decode
 not-25 end k h bs e =
     refuse (leb 8 (length bs)) 16 _ (λ q. omega arith) (λ f. zeros bs (got tt) (omega (arith, leb-false 8 (length bs) f)) tt)
-not-25 (num w d) k h bs e =
+not-25 (num s c w d) k h bs e =
+    refuse (ltb (length bs) w) 15 _ (λ q. omega arith)
+    (λ f. through _ (decode d (drop w bs)) (not-25 d (k + w) h (drop w bs) (omega (arith, length-drop w bs, ltb-false (length bs) w f))))
+not-25 (raw w d) k h bs e =
     refuse (ltb (length bs) w) 15 _ (λ q. omega arith)
     (λ f. through _ (decode d (drop w bs)) (not-25 d (k + w) h (drop w bs) (omega (arith, length-drop w bs, ltb-false (length bs) w f))))
 not-25 (void w d) k h bs e =

@@ -1,5 +1,5 @@
 -- What was written is read: over every description.
-use mathlib.Core.Path.{_≡_, sym, ap, _∙_}
+use mathlib.Core.Path.{_≡_, refl, sym, ap, _∙_}
 use mathlib.Core.Bool.{Bool, true, false, _&&_}
 use mathlib.Core.List.{List, _++_, append-assoc}
 use Prim.Native.Nat.{ℕ, _+_, _*_, _/_, _%_, _^_, _≤_, _<_}
@@ -7,6 +7,7 @@ use native.Mathlib.Omega.{arith}
 use borrow.Author.Tests.{le-ltb, lt-leb, ltb-true, leb-true, eqb-true}
 use lib.Dec.{ltb, leb, eqb}
 use lib.Arith.{digits-div, digits-mod}
+use lib.IntN.{ℤ}
 use lib.ListN.{length, drop, length-append}
 use lib.Seq.{drop-at}
 use Rattle.bits.specs.Order.{toBits, fromBits}
@@ -14,8 +15,10 @@ use Rattle.bits.proofs.Numbers.{length-toBits, fromBits-toBits}
 use Rattle.bits.specs.Width.{widthOf}
 use Rattle.bits.proofs.Widths.{width-law}
 use Rattle.shape.specs.Answer.{Answer, got, refuseIf, mapAnswer}
-use Rattle.shape.specs.Shape.{Shape, end, num, void, items, list, tail, Values, itemBits, allZero, allBelow, encode, decode, fits}
+use Rattle.shape.specs.Cast.{Sign, Cast, unsigned, signed, valueOf, holds, castBits, clip}
+use Rattle.shape.specs.Shape.{Shape, end, num, raw, void, items, list, tail, Values, itemBits, allZero, allBelow, encode, decode, fits, clipped, within}
 use Rattle.shape.specs.Laws.{Sound}
+use Rattle.shape.proofs.CastFacts.{cast-lt, cast-keeps, keeps-unsigned}
 use Rattle.shape.proofs.Fields.{and-left, and-right, length-itemBits, items-there}
 
 -- a number in front
@@ -32,9 +35,19 @@ items-front w xs r = le-ltb (length (itemBits w xs ++ r)) (length xs * w) (omega
 items-behind : (w : ℕ) (xs : List ℕ) (r : List Bool) → drop (length xs * w) (itemBits w xs ++ r) ≡ r
 items-behind w xs r = drop-at (itemBits w xs) r (length xs * w) (length-itemBits w xs)
 
-num-there : (w : ℕ) (d : Shape) (n : ℕ) (r : List Bool) → n < 2 ^ w → decode (num w d) (toBits w n ++ r) ≡ mapAnswer (λ (v : Values d). (n, v)) (decode d r)
+num-there : (s : Sign) (c : Cast) (w : ℕ) (d : Shape) (n : ℕ) (r : List Bool) → n < 2 ^ w
+    → decode (num s c w d) (toBits w n ++ r) ≡ mapAnswer (λ (v : Values d). (valueOf s w n, v)) (decode d r)
 unfolding decode refuseIf
-num-there w d n r h = rw (front w n r, fromBits-toBits w n r h, behind w n r)
+num-there s c w d n r h = rw (front w n r, fromBits-toBits w n r h, behind w n r)
+
+raw-there : (w : ℕ) (d : Shape) (n : ℕ) (r : List Bool) → n < 2 ^ w → decode (raw w d) (toBits w n ++ r) ≡ mapAnswer (λ (v : Values d). (n, v)) (decode d r)
+unfolding decode refuseIf
+raw-there w d n r h = rw (front w n r, fromBits-toBits w n r h, behind w n r)
+
+-- what follows a number
+sound-rest : (s : Sign) (c : Cast) (w : ℕ) (d : Shape) → Sound (num s c w d) → Sound d
+sound-rest unsigned c w d h = h
+sound-rest signed c w d h = h .1
 
 items-there' : (w : ℕ) (d : Shape) (xs : List ℕ) (r : List Bool) → allBelow (2 ^ w) xs ≡ true
     → decode (items w (length xs) d) (itemBits w xs ++ r) ≡ mapAnswer (λ (v : Values d). (xs, v)) (decode d r)
@@ -64,13 +77,18 @@ unfolding decode refuseIf
 void-there w d r = rw (front w 0 r, behind w 0 r)
 
 module _ (pad : List Bool) (short : length pad < 8) (z : allZero pad ≡ true) where
-  pub there : (d : Shape) → Sound d → (v : Values d) → fits d v ≡ true → decode d (encode d v ++ pad) ≡ got v
-  unfolding encode fits mapAnswer decode refuseIf
+  pub there : (d : Shape) → Sound d → (v : Values d) → fits d v ≡ true → decode d (encode d v ++ pad) ≡ got (clipped d v)
+  unfolding encode fits mapAnswer decode refuseIf clipped
   there end s v h = rw (lt-leb 8 (length pad) short, z)
-  there (num w d) s v h =
+  there (num sg c w d) s v h =
+      let n = castBits sg c w (v .0) in
+      ap (λ (b : List Bool). decode (num sg c w d) b) (append-assoc (toBits w n) (encode d (v .1)) pad)
+      ∙ num-there sg c w d n (encode d (v .1) ++ pad) (cast-lt sg c w (v .0))
+      ∙ ap (λ (r : Answer (Values d)). mapAnswer (λ (u : Values d). (valueOf sg w n, u)) r) (there d (sound-rest sg c w d s) (v .1) h)
+  there (raw w d) s v h =
       let l = and-left (ltb (v .0) (2 ^ w)) (fits d (v .1)) h in
-      ap (λ (b : List Bool). decode (num w d) b) (append-assoc (toBits w (v .0)) (encode d (v .1)) pad)
-      ∙ num-there w d (v .0) (encode d (v .1) ++ pad) (ltb-true (v .0) (2 ^ w) l)
+      ap (λ (b : List Bool). decode (raw w d) b) (append-assoc (toBits w (v .0)) (encode d (v .1)) pad)
+      ∙ raw-there w d (v .0) (encode d (v .1) ++ pad) (ltb-true (v .0) (2 ^ w) l)
       ∙ ap (λ (r : Answer (Values d)). mapAnswer (λ (u : Values d). (v .0, u)) r) (there d s (v .1) (and-right (ltb (v .0) (2 ^ w)) (fits d (v .1)) h))
   there (void w d) s v h =
       ap (λ (b : List Bool). decode (void w d) b) (append-assoc (toBits w 0) (encode d v) pad) ∙ void-there w d (encode d v ++ pad) ∙ there d s v h
@@ -92,3 +110,24 @@ module _ (pad : List Bool) (short : length pad < 8) (z : allZero pad ≡ true) w
       let c = and-right (leb (length v) m) (allBelow (2 ^ w) v && ok v) h in
       let l : length v ≤ m = leb-true (length v) m (and-left (leb (length v) m) (allBelow (2 ^ w) v && ok v) h) in
       tail-there w m ok v pad s l (and-left (allBelow (2 ^ w) v) (ok v) c) (and-right (allBelow (2 ^ w) v) (ok v) c) short z
+
+-- ── numbers that their fields hold ──
+
+num-kept : (s : Sign) (c : Cast) (w : ℕ) (d : Shape) → Sound (num s c w d) → (z : ℤ) → holds s w z ≡ true → clip s c w z ≡ z
+num-kept unsigned c w d h z e = keeps-unsigned c w z e
+num-kept signed c w d h z e = cast-keeps signed c w z (h .0) e
+
+pair : {A B : Type 0} {a b : A} {x y : B} → a ≡ b → x ≡ y → _≡_ {A = A × B} (a, x) (b, y)
+pair {a = a} {y = y} e f = ap (λ k. (a, k)) f ∙ ap (λ k. (k, y)) e
+
+pub kept : (d : Shape) → Sound d → (v : Values d) → within d v ≡ true → clipped d v ≡ v
+unfolding clipped within
+kept end s v h = refl
+kept (num sg c w d) s v h =
+    pair (num-kept sg c w d s (v .0) (and-left (holds sg w (v .0)) (within d (v .1)) h))
+    (kept d (sound-rest sg c w d s) (v .1) (and-right (holds sg w (v .0)) (within d (v .1)) h))
+kept (raw w d) s v h = pair refl (kept d s (v .1) h)
+kept (void w d) s v h = kept d s v h
+kept (items w k d) s v h = pair refl (kept d s (v .1) h)
+kept (list w m d) s v h = pair refl (kept d s (v .1) h)
+kept (tail w m ok) s v h = refl

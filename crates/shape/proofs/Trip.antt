@@ -6,7 +6,7 @@ use native.Mathlib.Omega.{arith}
 use lib.ListN.{length}
 use Rattle.bits.specs.Order.{Octets}
 use Rattle.shape.specs.Answer.{Answer, refused, got, mapAnswer}
-use Rattle.shape.specs.Shape.{Shape, Values, decoded, encoded, cleared}
+use Rattle.shape.specs.Shape.{Shape, Values, clipped, decoded, encoded, cleared}
 use Rattle.shape.specs.Laws.{Sound, Trips}
 use Rattle.shape.proofs.Reading.{got-on}
 use Rattle.shape.proofs.RoundTrip.{made, round-there, round-back}
@@ -26,10 +26,10 @@ through f (got a) x e = record { from = a; is = refl; maps = cc }
 pub trips : (d : Shape) → Sound d → {A : Type 0} (of : Values d → A) (at : List ℕ → Values d)
     → ((p : List ℕ) → Octets p → (v : Values d) → decoded d p ≡ got v → v ≡ at p) → Trips d of at
 trips d s {A} of at only = record { placed = only; there = go; back = come } where
-  go : (v : Values d) (room : ℕ) (p : List ℕ) → encoded d v room ≡ got p → (mapAnswer of (decoded d p) ≡ got (of v)) × (at p ≡ v)
+  go : (v : Values d) (room : ℕ) (p : List ℕ) → encoded d v room ≡ got p → (mapAnswer of (decoded d p) ≡ got (of (clipped d v))) × (at p ≡ clipped d v)
   go v room p e =
       let r = round-there d s v room p e in
-      (got-on of refl r, sym (only p (made d v room p e .octets) v r))
+      (got-on of refl r, sym (only p (made d v room p e .octets) (clipped d v) r))
 
   come : (p : List ℕ) → Octets p → (x : A) (room : ℕ) → mapAnswer of (decoded d p) ≡ got x → length p ≤ room
       → (x ≡ of (at p)) × (encoded d (at p) room ≡ got (cleared d p))

@@ -10,13 +10,15 @@ use Rattle.bits.specs.Order.{Octets, unpack}
 use Rattle.bits.specs.Part.{span}
 use Rattle.bits.specs.Width.{widthOf}
 use Rattle.shape.specs.Answer.{refused, got, refuseIf, mapAnswer}
-use Rattle.shape.specs.Signed.{signedOf, patternOf, inRange}
-use Rattle.shape.specs.Shape.{Shape, end, num, void, items, list, tail, Values, itemBits, itemsOf, decode, decoded, encoded, cleared}
+use Rattle.shape.specs.Cast.{Sign, Cast, unsigned, signed, saturated, valueOf, holds, nearest, castBits, clip}
+use Rattle.shape.specs.Shape.{Shape, end, num, raw, uint, void, items, list, tail, Values, itemBits, itemsOf, decode, clipped, within, decoded, encoded, cleared}
 
--- RULES 9.4: items of a list without a length field have 8 bits or more
+-- RULES 9.4: items of a list without a length field have 8 bits or more, signed numbers at least one
 abbrev pub Sound : Shape → Type 0
 Sound end = Unit {0}
-Sound (num w d) = Sound d
+Sound (num unsigned c w d) = Sound d
+Sound (num signed c w d) = (1 ≤ w) × Sound d
+Sound (raw w d) = Sound d
 Sound (void w d) = Sound d
 Sound (items w k d) = Sound d
 Sound (list w m d) = Sound d
@@ -25,15 +27,20 @@ Sound (tail w m ok) = 8 ≤ w
 -- nothing in it is ignored (RULES 9.8)
 abbrev pub Whole : Shape → Type 0
 Whole end = Unit {0}
-Whole (num w d) = Whole d
+Whole (num s c w d) = Whole d
+Whole (raw w d) = Whole d
 Whole (void w d) = ⊥
 Whole (items w k d) = Whole d
 Whole (list w m d) = Whole d
 Whole (tail w m ok) = Unit {0}
 
--- what was written is read: every field comes back
+-- what was written is read: every field comes back, numbers as they were clipped
 abbrev pub There : Type 0
-There = (d : Shape) → Sound d → (v : Values d) (room : ℕ) (p : List ℕ) → encoded d v room ≡ got p → decoded d p ≡ got v
+There = (d : Shape) → Sound d → (v : Values d) (room : ℕ) (p : List ℕ) → encoded d v room ≡ got p → decoded d p ≡ got (clipped d v)
+
+-- RULES 9.14: numbers that their fields hold are not changed
+abbrev pub Kept : Type 0
+Kept = (d : Shape) → Sound d → (v : Values d) → within d v ≡ true → clipped d v ≡ v
 
 -- what was read is written as it came, the ignored bits zero
 abbrev pub Back : Type 0
@@ -45,9 +52,10 @@ Same = (d : Shape) → Whole d → (p : List ℕ) → Octets p → cleared d p �
 
 -- RULES 9.4, as instances: a list at the end, of items of 8 to 64 bits, that starts after h bits and so perhaps inside a byte
 pub record TailTrips (h w m : ℕ) (ok : List ℕ → Bool) : Type 0 where
-  pub there : (v : Values (num h (tail w m ok))) (room : ℕ) (p : List ℕ) → encoded (num h (tail w m ok)) v room ≡ got p → decoded (num h (tail w m ok)) p ≡ got v
-  pub back : (p : List ℕ) → Octets p → (v : Values (num h (tail w m ok))) (room : ℕ) → decoded (num h (tail w m ok)) p ≡ got v → length p ≤ room
-      → encoded (num h (tail w m ok)) v room ≡ got p
+  pub there : (v : Values (uint h (tail w m ok))) (room : ℕ) (p : List ℕ) → encoded (uint h (tail w m ok)) v room ≡ got p
+      → decoded (uint h (tail w m ok)) p ≡ got (clipped (uint h (tail w m ok)) v)
+  pub back : (p : List ℕ) → Octets p → (v : Values (uint h (tail w m ok))) (room : ℕ) → decoded (uint h (tail w m ok)) p ≡ got v → length p ≤ room
+      → encoded (uint h (tail w m ok)) v room ≡ got p
 
 abbrev pub Tails : Type 0
 Tails = (h w m : ℕ) (ok : List ℕ → Bool) → 8 ≤ w → w ≤ 64 → TailTrips h w m ok
@@ -55,7 +63,8 @@ Tails = (h w m : ℕ) (ok : List ℕ → Bool) → 8 ≤ w → w ≤ 64 → Tail
 -- RULES 9.4: after k bits, each list holds bytes, and whole bytes come before the list at the end, or before the end
 abbrev pub OnBytes : ℕ → Shape → Type 0
 OnBytes k end = k % 8 ≡ 0
-OnBytes k (num w d) = OnBytes (k + w) d
+OnBytes k (num s c w d) = OnBytes (k + w) d
+OnBytes k (raw w d) = OnBytes (k + w) d
 OnBytes k (void w d) = OnBytes (k + w) d
 OnBytes k (items w n d) = OnBytes (k + n * w) d
 OnBytes k (list w m d) = (w ≡ 8) × OnBytes (k + widthOf m) d
@@ -76,18 +85,24 @@ pub record ByteLists : Type 0 where
   -- so that no such type answers 25
   pub never-25 : (d : Shape) → OnBytes 0 d → Never25 d
 
--- RULES 9.13: over every width, a signed number that w bits hold is what its bits stand for, and every w bits are those of such a number
-pub record SignedLaws : Type 0 where
-  pub there : (w : ℕ) (z : ℤ) → 1 ≤ w → inRange w z ≡ true → (signedOf w (patternOf w z) ≡ z) × (patternOf w z < 2 ^ w)
-  pub back : (w n : ℕ) → 1 ≤ w → n < 2 ^ w → (patternOf w (signedOf w n) ≡ n) × (inRange w (signedOf w n) ≡ true)
+-- RULES 9.13, 9.14: over every width, both signs and both cast modes
+pub record CastLaws : Type 0 where
+  -- a number is written as w bits
+  pub fits : (s : Sign) (c : Cast) (w : ℕ) (z : ℤ) → castBits s c w z < 2 ^ w
+  -- saturated, they stand for the nearest number that w bits hold
+  pub saturates : (s : Sign) (w : ℕ) (z : ℤ) → 1 ≤ w → clip s saturated w z ≡ nearest s w z
+  -- a number that w bits hold is kept
+  pub keeps : (s : Sign) (c : Cast) (w : ℕ) (z : ℤ) → 1 ≤ w → holds s w z ≡ true → clip s c w z ≡ z
+  -- and every w bits are those of such a number
+  pub back : (s : Sign) (c : Cast) (w n : ℕ) → 1 ≤ w → n < 2 ^ w → (castBits s c w (valueOf s w n) ≡ n) × (holds s w (valueOf s w n) ≡ true)
 
 -- The return trip of one type. `of` is what its reader's struct shows of the values, `at` what is in a payload at the places of the numbers
 -- and in the parts that the list functions give.
 pub record Trips (d : Shape) {A : Type 0} (of : Values d → A) (at : List ℕ → Values d) : Type 0 where
   -- what was read stands at its place, every list byte for byte
   pub placed : (p : List ℕ) → Octets p → (v : Values d) → decoded d p ≡ got v → v ≡ at p
-  -- what was written is read: the struct, and each number and list at its place
-  pub there : (v : Values d) (room : ℕ) (p : List ℕ) → encoded d v room ≡ got p → (mapAnswer of (decoded d p) ≡ got (of v)) × (at p ≡ v)
+  -- what was written is read, numbers as they were clipped: the struct, and each number and list at its place
+  pub there : (v : Values d) (room : ℕ) (p : List ℕ) → encoded d v room ≡ got p → (mapAnswer of (decoded d p) ≡ got (of (clipped d v))) × (at p ≡ clipped d v)
   -- what was read is shown by the struct, and is written as it came, the ignored bits zero
   pub back : (p : List ℕ) → Octets p → (x : A) (room : ℕ) → mapAnswer of (decoded d p) ≡ got x → length p ≤ room
       → (x ≡ of (at p)) × (encoded d (at p) room ≡ got (cleared d p))

@@ -3,17 +3,21 @@ use mathlib.Core.Bool.{Bool, true, not, _&&_}
 use mathlib.Core.List.{List, [], _∷_, _++_}
 use Prim.Native.Nat.{ℕ, zero, suc, _*_, _/_, _%_, _^_}
 use lib.Dec.{ltb, leb, eqb}
+use lib.IntN.{ℤ}
 use lib.ListN.{length, take, drop}
 use Rattle.bits.specs.Order.{toBits, fromBits, unpack, bytes, pack}
 use Rattle.bits.specs.Width.{widthOf}
 use Rattle.shape.specs.Answer.{Answer, got, Numbered, refuseIf, mapAnswer, wrote}
+use Rattle.shape.specs.Cast.{Sign, Cast, unsigned, saturated, valueOf, holds, castBits, clip}
 
 -- ── a description: each field holds what follows it, so that a list without a length field is last ──
 
 pub data Shape : Type 0 where
   end : Shape
-  -- a number of w bits (RULES 9.2)
-  num : ℕ → Shape → Shape
+  -- a number of w bits (RULES 9.2, 9.13, 9.14): its sign, its cast mode, w
+  num : Sign → Cast → ℕ → Shape → Shape
+  -- w bits that are kept as they are (RULES 9.2): those of a float, or of a number whose type has no other values
+  raw : ℕ → Shape → Shape
   -- w bits that are written as zero and ignored in reading (RULES 9.8)
   void : ℕ → Shape → Shape
   -- exactly k items of w bits (RULES 9.5): w, k
@@ -23,10 +27,15 @@ pub data Shape : Type 0 where
   -- at most m items of w bits, 8 or more, the last thing of all, with no length field (RULES 9.4): w, m, what the content must pass
   tail : ℕ → ℕ → (List ℕ → Bool) → Shape
 
--- what a message of this shape holds
+-- RULES 9.14: an unsigned number, of the cast mode that a definition has if it names none
+abbrev pub uint : ℕ → Shape → Shape
+uint w d = num unsigned saturated w d
+
+-- what a message of this shape holds; numbers may be any, in the field's range or not
 abbrev pub Values : Shape → Type 0
 Values end = Unit {0}
-Values (num w d) = ℕ × Values d
+Values (num s c w d) = ℤ × Values d
+Values (raw w d) = ℕ × Values d
 Values (void w d) = Values d
 Values (items w k d) = List ℕ × Values d
 Values (list w m d) = List ℕ × Values d
@@ -59,7 +68,8 @@ allBelow n (x ∷ xs) = ltb x n && allBelow n xs
 
 unfoldable pub encode : (d : Shape) → Values d → List Bool
 encode end v = []
-encode (num w d) v = toBits w (v .0) ++ encode d (v .1)
+encode (num s c w d) v = toBits w (castBits s c w (v .0)) ++ encode d (v .1)
+encode (raw w d) v = toBits w (v .0) ++ encode d (v .1)
 encode (void w d) v = toBits w 0 ++ encode d v
 encode (items w k d) v = itemBits w (v .0) ++ encode d (v .1)
 encode (list w m d) v = toBits (widthOf m) (length (v .0)) ++ (itemBits w (v .0) ++ encode d (v .1))
@@ -70,7 +80,8 @@ encode (tail w m ok) v = itemBits w v
 
 unfoldable pub decode : (d : Shape) → List Bool → Answer (Values d)
 decode end bs = refuseIf (leb 8 (length bs)) 16 (refuseIf (not (allZero bs)) 25 (got tt))
-decode (num w d) bs = refuseIf (ltb (length bs) w) 15 (mapAnswer (λ v. (fromBits w bs, v)) (decode d (drop w bs)))
+decode (num s c w d) bs = refuseIf (ltb (length bs) w) 15 (mapAnswer (λ v. (valueOf s w (fromBits w bs), v)) (decode d (drop w bs)))
+decode (raw w d) bs = refuseIf (ltb (length bs) w) 15 (mapAnswer (λ v. (fromBits w bs, v)) (decode d (drop w bs)))
 decode (void w d) bs = refuseIf (ltb (length bs) w) 15 (decode d (drop w bs))
 decode (items w k d) bs =
     refuseIf (ltb (length bs) (k * w)) 15 (mapAnswer (λ v. (itemsOf w k bs, v)) (decode d (drop (k * w) bs)))
@@ -87,15 +98,37 @@ decode (tail w m ok) bs =
     (refuseIf (not (allZero (drop (n * w) bs))) 25
     (refuseIf (not (ok (itemsOf w n bs))) 17 (got (itemsOf w n bs)))))
 
--- ── writing (RULES 9.7): 17 over all fields, then 8 ──
+-- ── writing (RULES 9.7): 17 over all lists, then 8 ──
 
 unfoldable pub fits : (d : Shape) → Values d → Bool
 fits end v = true
-fits (num w d) v = ltb (v .0) (2 ^ w) && fits d (v .1)
+fits (num s c w d) v = fits d (v .1)
+fits (raw w d) v = ltb (v .0) (2 ^ w) && fits d (v .1)
 fits (void w d) v = fits d v
 fits (items w k d) v = eqb (length (v .0)) k && (allBelow (2 ^ w) (v .0) && fits d (v .1))
 fits (list w m d) v = leb (length (v .0)) m && (allBelow (2 ^ w) (v .0) && fits d (v .1))
 fits (tail w m ok) v = leb (length v) m && (allBelow (2 ^ w) v && ok v)
+
+-- ── what is read of a message that was written (RULES 9.14) ──
+
+unfoldable pub clipped : (d : Shape) → Values d → Values d
+clipped end v = v
+clipped (num s c w d) v = (clip s c w (v .0), clipped d (v .1))
+clipped (raw w d) v = (v .0, clipped d (v .1))
+clipped (void w d) v = clipped d v
+clipped (items w k d) v = (v .0, clipped d (v .1))
+clipped (list w m d) v = (v .0, clipped d (v .1))
+clipped (tail w m ok) v = v
+
+-- every number is one that its field holds
+unfoldable pub within : (d : Shape) → Values d → Bool
+within end v = true
+within (num s c w d) v = holds s w (v .0) && within d (v .1)
+within (raw w d) v = within d (v .1)
+within (void w d) v = within d v
+within (items w k d) v = within d (v .1)
+within (list w m d) v = within d (v .1)
+within (tail w m ok) v = true
 
 -- ── whole payloads ──
 
@@ -116,7 +149,8 @@ written d v m = wrote (encoded d v (length m)) m
 
 unfoldable pub clear : Shape → List Bool → List Bool
 clear end bs = bs
-clear (num w d) bs = take w bs ++ clear d (drop w bs)
+clear (num s c w d) bs = take w bs ++ clear d (drop w bs)
+clear (raw w d) bs = take w bs ++ clear d (drop w bs)
 clear (void w d) bs = toBits w 0 ++ clear d (drop w bs)
 clear (items w k d) bs = take (k * w) bs ++ clear d (drop (k * w) bs)
 clear (list w m d) bs =

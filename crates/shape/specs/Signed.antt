@@ -5,18 +5,13 @@ use lib.Dec.{ltb}
 use lib.IntN.{ℤ, pos, negsuc}
 
 -- `pos n` is n, `negsuc n` is -(n + 1)
-abbrev pub signed : Bool → ℕ → ℕ → ℤ
-signed true w n = pos n
-signed false w n = negsuc (2 ^ w - suc n)
+abbrev pub signedIf : Bool → ℕ → ℕ → ℤ
+signedIf true w n = pos n
+signedIf false w n = negsuc (2 ^ w - suc n)
 
 -- the number that w bits stand for: from 2^(w - 1) on, 2^w less
 unfoldable pub signedOf : ℕ → ℕ → ℤ
-signedOf w n = signed (ltb n (2 ^ (w - 1))) w n
-
--- the w bits of a number
-unfoldable pub patternOf : ℕ → ℤ → ℕ
-patternOf w (pos n) = n
-patternOf w (negsuc n) = 2 ^ w - suc n
+signedOf w n = signedIf (ltb n (2 ^ (w - 1))) w n
 
 -- the numbers that w bits hold: -2^(w - 1) and up, below 2^(w - 1)
 unfoldable pub inRange : ℕ → ℤ → Bool

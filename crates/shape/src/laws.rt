@@ -1,8 +1,13 @@
-// The laws of specs/Laws.antt: a function with no body for each, whose contract is the law.
-ghost use Rattle.shape.specs.Laws.{There, Back, Same, Tails, ByteLists, SignedLaws};
+// The laws of specs/Laws.antt and the facts of specs/Samples.antt: a function with no body for each, whose contract they are.
+ghost use Rattle.shape.specs.Laws.{There, Kept, Back, Same, Tails, ByteLists, CastLaws};
+ghost use Rattle.shape.specs.Samples.{Samples};
 
 pub fn there()
     ensures { λ _. ⌜ There ⌝ }
+{}
+
+pub fn kept()
+    ensures { λ _. ⌜ Kept ⌝ }
 {}
 
 pub fn back()
@@ -21,6 +26,10 @@ pub fn byte_lists()
     ensures { λ _. ⌜ ByteLists ⌝ }
 {}
 
-pub fn signed_numbers()
-    ensures { λ _. ⌜ SignedLaws ⌝ }
+pub fn casts()
+    ensures { λ _. ⌜ CastLaws ⌝ }
+{}
+
+pub fn samples()
+    ensures { λ _. ⌜ Samples ⌝ }
 {}

@@ -1,12 +1,11 @@
-// Signed numbers (RULES 9.13): what w bits stand for in two's complement, and the bits of a number.
+// Signed numbers (RULES 9.13): what w bits stand for in two's complement.
 ghost use mathlib.Core.Path.{_≡_};
-ghost use mathlib.Core.Bool.{true};
 ghost use Prim.Native.Nat.{_+_, _^_, _≤_, _<_};
 ghost use lib.Signed.{mag};
-ghost use Rattle.shape.specs.Signed.{signedOf, patternOf, inRange};
+ghost use Rattle.shape.specs.Signed.{signedOf};
 
-// w bits, all set.
-fn ones(w: usize) -> u64
+// Internal. w bits, all set.
+pub fn ones(w: usize) -> u64
     requires { ⌜ (1 ≤ w) × (w ≤ 64) ⌝ }
     ensures { λ r. ⌜ r + 1 ≡ 2 ^ w ⌝ }
 {
@@ -24,14 +23,6 @@ pub fn size(v: i64) -> u64
     v as u64
 }
 
-// Internal. Whether w bits hold v.
-pub fn fits(v: i64, w: usize) -> bool
-    requires { ⌜ (1 ≤ w) × (w ≤ 64) ⌝ }
-    ensures { λ r. ⌜ r ≡ inRange w v ⌝ }
-{
-    size(v) <= ones(w) / 2
-}
-
 // Internal. The number that the w bits of x stand for.
 pub fn value(x: u64, w: usize) -> i64
     requires { ⌜ ((1 ≤ w) × (w ≤ 64)) × (x < 2 ^ w) ⌝ }
@@ -42,16 +33,4 @@ pub fn value(x: u64, w: usize) -> i64
         return x as i64;
     }
     -1 - (top - x) as i64
-}
-
-// Internal. The w bits of v, which they hold.
-pub fn pattern(v: i64, w: usize) -> u64
-    requires { ⌜ ((1 ≤ w) × (w ≤ 64)) × (inRange w v ≡ true) ⌝ }
-    ensures { λ r. ⌜ r ≡ patternOf w v ⌝ }
-{
-    let n = size(v);
-    if v < 0 {
-        return ones(w) - n;
-    }
-    n
 }

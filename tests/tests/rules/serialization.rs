@@ -2,16 +2,17 @@
 
 use crate::allocation_log::{ALLOCATION_LOG, UNIQUE_ID};
 use reference::binary16::{narrow, widen};
-use reference::bits::{Reader, Refusal, Writer};
+use reference::bits::{signed, Reader, Refusal, Writer};
 use reference::messages::{
     decode, encode, Allocation, BatteryInfo, HardwareVersion, KeyValue, LogMessage, Message,
     MessageType, NodeInfo, NodeStatus, RawCommand, SoftwareVersion, MOST_COMMANDS,
 };
 
-fn written(fields: &[(i64, u32)]) -> Vec<u8> {
+/// Numbers as their low bits.
+fn written(fields: &[(i128, u32)]) -> Vec<u8> {
     let mut writer = Writer::default();
     for &(value, bits) in fields {
-        writer.number(value as u64, bits);
+        writer.truncated(value, bits);
     }
     writer.into_bytes()
 }
@@ -77,40 +78,127 @@ fn node_status() {
     let with_sub_mode = [1, 2, 3, 4, 0b1010_1111, 0xEF, 0xBE];
     let read = decode(MessageType::NodeStatus, &with_sub_mode);
     assert_eq!(read, Ok(Message::NodeStatus(status())));
-    let given = NodeStatus {
-        sub_mode: u64::MAX,
-        ..status()
-    };
-    assert_eq!(encoded(&Message::NodeStatus(given)).unwrap(), bytes);
+    for sub_mode in [-1, 7, 8, i128::MIN, i128::MAX] {
+        let given = NodeStatus {
+            sub_mode,
+            ..status()
+        };
+        assert_eq!(encoded(&Message::NodeStatus(given)).unwrap(), bytes);
+    }
     for length in 0..7 {
         assert_eq!(refusal(MessageType::NodeStatus, &bytes[..length]), 15);
     }
     assert_eq!(refusal(MessageType::NodeStatus, &[0; 8]), 16);
 }
 
+/// Both cast modes (RULES 9.14) by the values of RULES 15.2.
 #[test]
-fn numbers_too_large_for_their_fields() {
-    let refused = [
-        NodeStatus {
-            uptime: 1 << 32,
-            ..status()
-        },
-        NodeStatus {
-            health: 4,
-            ..status()
-        },
-        NodeStatus {
-            mode: 8,
-            ..status()
-        },
-        NodeStatus {
-            vendor_code: 65536,
-            ..status()
-        },
+fn cast_modes() {
+    let by = |write: fn(&mut Writer, i128, u32), value, bits| {
+        let mut writer = Writer::default();
+        write(&mut writer, value, bits);
+        writer.into_bytes()
+    };
+    let high = (1 << 56) + 5;
+    assert_eq!(by(Writer::truncated, high, 56), [5, 0, 0, 0, 0, 0, 0]);
+    assert_eq!(by(Writer::truncated, -1, 56), [255; 7]);
+    assert_eq!(by(Writer::number, high, 56), [255; 7]);
+    assert_eq!(by(Writer::number, -1, 56), [0; 7]);
+    assert_eq!(by(Writer::signed, 200, 8), [127]);
+    assert_eq!(by(Writer::signed, -200, 8), [128]);
+    assert_eq!(by(Writer::truncated, 200, 8), [200]);
+    assert_eq!(signed(200, 8), -56);
+    assert_eq!(by(Writer::truncated, -200, 8), [56]);
+}
+
+/// Over every width: a number inside stays in both modes, one outside takes the nearest end in the
+/// one and its low bits in the other.
+#[test]
+fn casts_of_every_width() {
+    for bits in 1..=64 {
+        let (size, half) = (1i128 << bits, 1i128 << (bits - 1));
+        let mut numbers = vec![0, 1, half - 1, half, size - 1, size, size + 1, i128::MAX];
+        numbers.extend(numbers.clone().iter().map(|number| -number));
+        numbers.push(i128::MIN);
+        for value in numbers {
+            let mut writer = Writer::default();
+            writer.number(value, bits);
+            writer.signed(value, bits);
+            writer.truncated(value, bits);
+            let bytes = writer.into_bytes();
+            let mut reader = Reader::new(&bytes);
+            let nearest = value.max(0).min(size - 1);
+            assert_eq!(reader.number(bits), Ok(nearest), "{value} in {bits}");
+            let nearest = value.max(-half).min(half - 1);
+            let read = reader.number(bits).map(|pattern| signed(pattern, bits));
+            assert_eq!(read, Ok(nearest), "signed {value} in {bits}");
+            assert_eq!(reader.number(bits), Ok(value.rem_euclid(size)));
+        }
+    }
+}
+
+/// Numbers outside of their fields, by the values of RULES 15.2.
+#[test]
+fn clipped_messages() {
+    let status = Message::NodeStatus(NodeStatus {
+        uptime: 1 << 32,
+        health: 5,
+        mode: -1,
+        sub_mode: 0,
+        vendor_code: 65_536,
+    });
+    let bytes = b"\xFF\xFF\xFF\xFF\xC0\xFF\xFF";
+    assert_eq!(encoded(&status).unwrap(), bytes);
+    for (node_id, first_part, byte) in [(200, -1, 0xFE), (128, 2, 0xFF), (-1, 2, 0x01)] {
+        let message = Message::Allocation(Allocation {
+            node_id,
+            first_part,
+            unique_id: &[],
+        });
+        assert_eq!(encoded(&message).unwrap(), [byte]);
+    }
+    for (level, first) in [(8, 0xE2), (-1, 0x02), (i128::MAX, 0xE2)] {
+        let message = Message::LogMessage(LogMessage {
+            level,
+            source: b"ab",
+            text: b"hot",
+        });
+        let bytes = [&[first], &b"abhot"[..]].concat();
+        assert_eq!(encoded(&message).unwrap(), bytes);
+    }
+}
+
+/// Each field by itself, with its bits; the sub-mode, as one of no bits, is always 0.
+#[test]
+fn numbers_of_node_info() {
+    type Give = fn(&mut NodeInfo, i128);
+    let fields: [(Give, u32); 12] = [
+        (|one, number| one.status.uptime = number, 32),
+        (|one, number| one.status.health = number, 2),
+        (|one, number| one.status.mode = number, 3),
+        (|one, number| one.status.sub_mode = number, 0),
+        (|one, number| one.status.vendor_code = number, 16),
+        (|one, number| one.software.major = number, 8),
+        (|one, number| one.software.minor = number, 8),
+        (|one, number| one.software.flags = number, 8),
+        (|one, number| one.software.commit = number, 32),
+        (|one, number| one.software.image_crc = number, 64),
+        (|one, number| one.hardware.major = number, 8),
+        (|one, number| one.hardware.minor = number, 8),
     ];
-    for status in refused {
-        let message = Message::NodeStatus(status);
-        assert_eq!(encode(&message, &mut []), Err(Refusal::NotAllowed));
+    for (give, bits) in fields {
+        let top = (1i128 << bits) - 1;
+        let half = top - top / 2;
+        let inside = [(0, 0), (half, half), (top, top)];
+        let outside = [(-1, 0), (i128::MIN, 0), (top + 1, top), (i128::MAX, top)];
+        for (number, nearest) in inside.into_iter().chain(outside) {
+            let (mut given, mut read) = (info(), info());
+            give(&mut given, number);
+            give(&mut read, nearest);
+            let bytes = encoded(&Message::NodeInfoResponse(given)).unwrap();
+            let actual = decode(MessageType::NodeInfoResponse, &bytes);
+            assert_eq!(actual, Ok(Message::NodeInfoResponse(read)));
+        }
     }
 }
 
@@ -135,15 +223,12 @@ fn allocation() {
     assert_eq!(refusal(MessageType::Allocation, &[]), 15);
     assert!(decode(MessageType::Allocation, &[0; 17]).is_ok());
     assert_eq!(refusal(MessageType::Allocation, &[0; 18]), 16);
-    let refused = [(128, 0, 16), (0, 2, 16), (0, 0, 17)];
-    for (node_id, first_part, length) in refused {
-        let message = Message::Allocation(Allocation {
-            node_id,
-            first_part,
-            unique_id: &[0; 17][..length],
-        });
-        assert_eq!(encoded(&message), Err(Refusal::NotAllowed));
-    }
+    let long = Message::Allocation(Allocation {
+        node_id: 0,
+        first_part: 0,
+        unique_id: &[0; 17],
+    });
+    assert_eq!(encoded(&long), Err(Refusal::NotAllowed));
 }
 
 #[test]
@@ -179,10 +264,9 @@ fn log_message() {
     assert_eq!(refusal(MessageType::LogMessage, b"\x03sr"), 15);
     assert!(decode(MessageType::LogMessage, &[0; 91]).is_ok());
     assert_eq!(refusal(MessageType::LogMessage, &[0; 92]), 16);
-    let refused = [(8, 0, 0), (0, 32, 0), (0, 0, 91)];
-    for (level, source, text) in refused {
+    for (source, text) in [(32, 0), (0, 91)] {
         let message = Message::LogMessage(LogMessage {
-            level,
+            level: 9,
             source: &[0; 99][..source],
             text: &[0; 99][..text],
         });
@@ -268,25 +352,49 @@ fn battery_info() {
     }
     assert!(decode(MessageType::BatteryInfo, &[0; 54]).is_ok());
     assert_eq!(refusal(MessageType::BatteryInfo, &[0; 55]), 16);
-    let refused: [fn(&mut BatteryInfo); 7] = [
-        |one| one.status_flags = 2048,
-        |one| one.health = 128,
-        |one| one.charge = 128,
-        |one| one.charge_deviation = 128,
-        |one| one.battery_id = 256,
-        |one| one.model_instance_id = 1 << 32,
-        |one| one.model_name = &[0; 32],
+    let long = Message::BatteryInfo(BatteryInfo {
+        status_flags: 2048,
+        model_name: &[0; 32],
+        ..battery()
+    });
+    assert_eq!(encoded(&long), Err(Refusal::NotAllowed));
+}
+
+#[test]
+fn numbers_of_battery_info() {
+    let given = |numbers: [i128; 6]| {
+        let [status_flags, health, charge, charge_deviation, battery_id, model_instance_id] =
+            numbers;
+        Message::BatteryInfo(BatteryInfo {
+            floats: [0; 7],
+            status_flags,
+            health,
+            charge,
+            charge_deviation,
+            battery_id,
+            model_instance_id,
+            model_name: b"",
+        })
+    };
+    let sample = given([4095, 200, -1, 128, 300, 1 << 32]);
+    let bytes = [&[0; 14], &b"\xFF\xFF\xC0\x7F\xFF\xFF\xFF\xFF\xFF"[..]].concat();
+    assert_eq!(encoded(&sample).unwrap(), bytes);
+    let highest = [2047, 127, 127, 127, 255, u32::MAX.into()];
+    let clipped = [
+        ([2048, 128, 128, 128, 256, 1 << 32], highest),
+        ([i128::MAX; 6], highest),
+        ([-1; 6], [0; 6]),
+        ([i128::MIN; 6], [0; 6]),
     ];
-    for spoil in refused {
-        let mut one = battery();
-        spoil(&mut one);
-        let refused = encoded(&Message::BatteryInfo(one));
-        assert_eq!(refused, Err(Refusal::NotAllowed));
+    for (numbers, nearest) in clipped {
+        let bytes = encoded(&given(numbers)).unwrap();
+        let read = decode(MessageType::BatteryInfo, &bytes);
+        assert_eq!(read, Ok(given(nearest)));
     }
 }
 
 /// These numbers, and in the places past them the last argument.
-fn commands(numbers: &[i64], past: i64) -> Message<'static> {
+fn commands(numbers: &[i128], past: i128) -> Message<'static> {
     let mut places = [past; MOST_COMMANDS];
     places[..numbers.len()].copy_from_slice(numbers);
     Message::RawCommand(RawCommand {
@@ -302,13 +410,12 @@ fn raw_command() {
     assert_eq!(encoded(&commands(&numbers, 7)).unwrap(), bytes);
     let read = decode(MessageType::RawCommand, bytes);
     assert_eq!(read, Ok(commands(&numbers, 0)));
-    for number in [-8193, 8192, i64::MIN, i64::MAX] {
-        let refused = encoded(&commands(&[number], 0));
-        assert_eq!(refused, Err(Refusal::NotAllowed));
-    }
+    let outside = [-8193, 8192, i64::MIN.into(), i64::MAX.into()];
+    let nearest = encoded(&commands(&[-8192, 8191, -8192, 8191], 0));
+    assert_eq!(encoded(&commands(&outside, 0)), nearest);
     let too_many = Message::RawCommand(RawCommand {
         count: 21,
-        places: [0; MOST_COMMANDS],
+        places: [8192; MOST_COMMANDS],
     });
     assert_eq!(encoded(&too_many), Err(Refusal::NotAllowed));
 }
@@ -343,7 +450,7 @@ fn lists_at_the_end_of_every_width() {
         for count in 0..10 {
             let mut writer = Writer::default();
             writer.number(0, start);
-            let items: Vec<u64> = (0..count).map(|item| !item >> (64 - bits)).collect();
+            let items: Vec<i128> = (0..count).map(|item| (1 << bits) - 1 - item).collect();
             for &item in &items {
                 writer.number(item, bits);
             }

@@ -10,11 +10,11 @@ use Rattle.shape.specs.Answer.{Answer, refused, got}
 use Rattle.shape.specs.Shape.{Values, decoded}
 use Rattle.protocol_dynamic_node_id.specs.Allocation.{allocation, uniqueIdIn}
 use Rattle.allocator_table.specs.Layout.{soundState}
-use Rattle.allocator.specs.Allocate.{result, performs, decide, onMessage, allocated}
+use Rattle.allocator.specs.Allocate.{result, performs, Fields, fieldsOf, decide, onMessage, allocated}
 use Rattle.allocator.specs.Stage.{joined}
 use Rattle.allocator.specs.declared.Request.{Request}
 use Rattle.allocator.specs.declared.answer.Answer.the-variants.{Refused, Faulty}
-use Rattle.allocator.proofs.Messages.{read-refused, read-got}
+use Rattle.allocator.proofs.Messages.{casts, cast-is, read-refused, node-held, first-held, read-got}
 use borrow.Author.Needs.{needs}
 use Rattle.allocator.proofs.allocate.Statement.{statement}
 use Rattle.allocator.proofs.allocate.Tie as tie
@@ -44,9 +44,12 @@ unfolding onMessage
 unread n x m q out e = rw e
 
 read : (v : Values allocation) (x : Answer (Values allocation)) (m : List ℕ) (q : Request) (out : List ℕ) → x ≡ got v
-    → performs (decide m q v) m (q .time) (joined m (q .time) (v .1 .1)) out ≡ onMessage x m q out
+    → performs (decide m q (fieldsOf v)) m (q .time) (joined m (q .time) (v .1 .1)) out ≡ onMessage x m q out
 unfolding onMessage
 read v x m q out e = rw e
+
+fields : {n n' f f' : ℕ} {u u' : List ℕ} → n ≡ n' → f ≡ f' → u ≡ u' → _≡_ {A = Fields} (n, (f, u)) (n', (f', u'))
+fields a b c = cc
 
 is-sound-requires : tie.Need-is-sound-requires
 is-sound-requires c κs = search needs
@@ -87,11 +90,29 @@ enum-known-read c = search needs
 enum-known-read-2 : tie.Need-enum-known-read-2
 enum-known-read-2 c = search needs
 
+cast-message : tie.Need-cast-message
+cast-message c =
+    let r = c .before .before .before .before in
+    let d = r .before .before in
+    let s = d .before .before .before .before .before .before .before .before .before .before in
+    let p = s .before .before .args .payload .now in
+    let x = r .read2 .given .0 .0 in
+    casts (x .«node_id») (node-held p (d .decode .result) (d .decode .ensures) (octets-all p (λ i. omega (arith, s .shared-slice-known .given i))) x (r .read2 .given .1))
+
+cast-message-2 : tie.Need-cast-message-2
+cast-message-2 c =
+    let r = c .before .before .before .before .before .before in
+    let d = r .before .before in
+    let s = d .before .before .before .before .before .before .before .before .before .before in
+    let p = s .before .before .args .payload .now in
+    let x = r .read2 .given .0 .0 in
+    casts (x .«first_part_of_unique_id») (first-held p (d .decode .result) (d .decode .ensures) (octets-all p (λ i. omega (arith, s .shared-slice-known .given i))) x (r .read2 .given .1))
+
 unique-id-requires : tie.Need-unique-id-requires
 unique-id-requires c κs = search needs
 
 message-requires : tie.Need-message-requires
-message-requires c κs = let f = c .before .before .before .before .before .before .before .before .before .before .before .before in let k = f .before in sym (k .is-sound .ensures) ∙ not-false _ (f .if1 .left)
+message-requires c κs = let f = c .before .before .before .before .before .before .before .before .before .before .before .before .before .before .before .before in let k = f .before in sym (k .is-sound .ensures) ∙ not-false _ (f .if1 .left)
 
 same-length-4 : tie.Need-same-length-4
 same-length-4 c = search needs
@@ -118,7 +139,7 @@ returns-5 : tie.Need-returns-5
 returns-5 c =
     let w = c .before .before .before .before in
     let y = w .before .before in
-    let r = y .before .before .before in
+    let r = y .before .before .before .before .before .before .before in
     let d = r .before .before in
     let l = d .before in
     let z = d .before .before .before in
@@ -129,7 +150,10 @@ returns-5 c =
     let p = a .payload .now in
     let x = r .read2 .given .0 .0 in
     let o = octets-all p (λ i. omega (arith, s .shared-slice-known .given i)) in
-    w .message .ensures ∙ ap (λ (u : List ℕ). performs (decide (a .state .now) (a .q) (x .«node_id», (x .«first_part_of_unique_id», u))) (a .state .now) (a .q .time) (joined (a .state .now) (a .q .time) u) (a .out .now)) (y .unique-id .ensures)
+    let node = cast-is (x .«node_id») (node-held p (d .decode .result) (d .decode .ensures) o x (r .read2 .given .1)) in
+    let first = cast-is (x .«first_part_of_unique_id») (first-held p (d .decode .result) (d .decode .ensures) o x (r .read2 .given .1)) in
+    w .message .ensures
+    ∙ ap (λ (v : Fields). performs (decide (a .state .now) (a .q) v) (a .state .now) (a .q .time) (joined (a .state .now) (a .q .time) (v .1 .1)) (a .out .now)) (fields node first (y .unique-id .ensures))
     ∙ read (x .«node_id», (x .«first_part_of_unique_id», uniqueIdIn p)) (decoded allocation p) (a .state .now) (a .q) (a .out .now) (read-got p (d .decode .result) (d .decode .ensures) o x (r .read2 .given .1))
     ∙ by-message (a .state .now) (a .q) p (a .out .now) (sym (k .is-sound .ensures) ∙ not-false _ (f .if1 .left)) (z .if2 .left) (omega arith)
 
@@ -147,6 +171,8 @@ allocate-spec =
     decode-requires
     enum-known-read
     enum-known-read-2
+    cast-message
+    cast-message-2
     unique-id-requires
     message-requires
     same-length-4

@@ -6,6 +6,8 @@
 mod allocations;
 mod allocator_mutants;
 mod cables;
+mod clipping;
+mod clipping_mutants;
 mod entry_points;
 mod faults;
 mod interface_mutants;

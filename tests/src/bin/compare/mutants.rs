@@ -6,9 +6,9 @@ use crate::entry_points::{
     frames_in, receive, send, Allocate, Allocating, Arrival, Departure, EntryPoints, Receive,
     Reception, Send, Sending, Serialization, REFERENCE,
 };
-use crate::{interface_mutants, reason_mutants};
+use crate::{clipping_mutants, interface_mutants, reason_mutants};
 use reference::bits::Refusal;
-use reference::codec::Decode;
+use reference::codec::{Decode, Encode};
 use reference::frame::{Stream, Tail};
 use reference::map::Map;
 use reference::messages::{self, Message, MessageType};
@@ -73,11 +73,13 @@ pub fn all() -> Vec<Mutant> {
         reading("unused-place-not-zero", Part::Payloads, unused_place),
     ];
     let allocators = allocator_mutants::ALL.map(|(name, allocate)| allocating(name, allocate));
+    let clipping = clipping_mutants::ALL.map(|(name, encode)| writing(name, encode));
     others
         .into_iter()
         .chain(interfaces)
         .chain(reasons)
         .chain(allocators)
+        .chain(clipping)
         .collect()
 }
 
@@ -127,10 +129,17 @@ fn allocating(name: &'static str, allocate: Allocate) -> Mutant {
 }
 
 fn reading(name: &'static str, part: Part, decode: Decode) -> Mutant {
-    let serialization = Some(Serialization {
-        decode,
-        encode: messages::encode,
-    });
+    let encode = messages::encode;
+    serializing(name, part, Serialization { decode, encode })
+}
+
+fn writing(name: &'static str, encode: Encode) -> Mutant {
+    let decode = messages::decode;
+    serializing(name, Part::Requests, Serialization { decode, encode })
+}
+
+fn serializing(name: &'static str, part: Part, calls: Serialization) -> Mutant {
+    let serialization = Some(calls);
     Mutant {
         name,
         part,

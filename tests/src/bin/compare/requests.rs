@@ -1,12 +1,15 @@
 //! The codec program compared: requests as lines through a pipe, and its answers line by line.
 
+use crate::clipping::{self, causes, clips, edges, is_float, range, COMMAND, HUGE};
 use crate::entry_points::{Serialization, REFERENCE};
 use crate::payloads::{message, numbers, Lists};
 use crate::random::Random;
 use crate::tally::{Difference, Tally};
 use reference::binary16::{narrow, widen};
 use reference::bits::Writer;
-use reference::codec::{answer, fields, hex, type_name, Value, FLOATS, LONGEST_LINE};
+use reference::codec::{
+    absent, answer, asked, fields, hex, type_name, Asked, Fields, Value, FLOATS, LONGEST_LINE,
+};
 use reference::messages::{encode, Message, MessageType};
 use std::io::{Read, Write};
 use std::process::{Command, Stdio};
@@ -35,6 +38,8 @@ struct Request {
 
 /// The lines of one run of the program.
 const BLOCK: u64 = 20_000;
+/// The index of RawCommand.
+const COMMANDS_TYPE: usize = 7;
 const MODES: [&str; 8] = [
     "mode 0", "mode 1", "mode 2", "mode 3", "mode 4", "mode 5", "mode 6", "mode 7",
 ];
@@ -43,6 +48,8 @@ const LEVELS: [&str; 8] = [
 ];
 const NAN: &str = "signalling NaN";
 const ANY_SUB_MODE: &str = "sub-mode outside of 64 bits";
+const FAR_BELOW: &str = "number of 30 digits below 0";
+const FAR_ABOVE: &str = "number of 30 digits above 0";
 /// What a float is on its way to 16 bits.
 const KEPT: &str = "float that a binary16 equals";
 const ROUNDED: &str = "float to be rounded";
@@ -64,20 +71,14 @@ const EMPTY: [(&str, &str); 7] = [
     ("model_name", "empty model name"),
 ];
 /// Commands on both sides of each edge.
-const COMMANDS: [(i64, &str); 4] = [
+const COMMANDS: [(i128, &str); 4] = [
     (-8193, "command -8193"),
     (-8192, "command -8192"),
     (8191, "command 8191"),
     (8192, "command 8192"),
 ];
-/// Numbers that no field but the sub-mode takes.
-const OUTSIDE: [&str; 5] = [
-    "-1",
-    "-18446744073709551615",
-    "18446744073709551616",
-    "36893488147419103233",
-    "99999999999999999999999999999",
-];
+/// Numbers that 32 bits do not make.
+const NO_PATTERNS: [i128; 6] = [-HUGE, i64::MIN as i128, -1, 1 << 32, 1 << 64, HUGE];
 /// A signalling NaN is all ones in the exponent, and below it a zero and then some one.
 const SIGNALLING: u32 = 0x7F80_0001;
 
@@ -87,13 +88,13 @@ impl Requests {
             let ((read, reading), (written, writing)) = numbers(message_type);
             (
                 Tally::new(read, reading, &[]),
-                Tally::new(written, writing, &[]),
+                Tally::new(written, writing, &clipping::cases(message_type)),
             )
         });
         let empty = EMPTY.map(|(_, case)| case);
         let floats = [KEPT, ROUNDED, CLIPPED, MINUS_ZERO, INFINITE, NO_NUMBER];
         let commands = COMMANDS.map(|(_, case)| case);
-        let others = [NAN, ANY_SUB_MODE];
+        let others = [NAN, ANY_SUB_MODE, FAR_BELOW, FAR_ABOVE];
         let cases = [&MODES[..], &LEVELS, &empty, &floats, &commands, &others].concat();
         Requests {
             answerer,
@@ -112,10 +113,11 @@ impl Requests {
         pairs.chain([self.ill_formed, self.cases]).collect()
     }
 
-    /// Compares about so many lines, every cut of one message of each type, and commands of every
-    /// count and length.
+    /// Compares about so many lines, every cut of one message of each type, the edges of each
+    /// number, and commands of every count and length.
     pub fn run(&mut self, lines: u64) -> Result<(), Difference> {
         let mut block = self.every_cut();
+        block.extend(every_edge());
         block.extend(self.every_command());
         for line in 0..lines {
             let request = self.request();
@@ -145,7 +147,7 @@ impl Requests {
                     expected[at]
                 )));
             }
-            self.count(request, &expected[at]);
+            self.count(request, &expected[at])?;
         }
         if actual.len() == block.len() {
             return Ok(());
@@ -157,14 +159,34 @@ impl Requests {
         )))
     }
 
-    fn count(&mut self, request: &Request, answer: &str) {
+    /// Counts an answer. Of a message to be written, 17 must have a cause, and a cause give 17.
+    fn count(&mut self, request: &Request, answer: &str) -> Result<(), Difference> {
         let number = answer.split(' ').next().and_then(|word| word.parse().ok());
-        let tallies = &mut self.tallies[request.index];
-        match number {
-            None => self.ill_formed.case("?"),
-            Some(number) if request.encodes => tallies.1.number(number),
-            Some(number) => tallies.0.number(number),
+        let (read, written) = &mut self.tallies[request.index];
+        let Some(number) = number else {
+            self.ill_formed.case("?");
+            return Ok(());
+        };
+        if !request.encodes {
+            read.number(number);
+            return Ok(());
         }
+        written.number(number);
+        let Some(Asked::Encode(message_type, _, given)) = asked(&request.line) else {
+            return Ok(());
+        };
+        let fields = given.fields(message_type);
+        let causes = causes(&fields);
+        if (number == 17) == causes.is_empty() {
+            let line = String::from_utf8_lossy(&request.line);
+            return Err(Difference(format!("line {line:?}: {number}, {causes:?}")));
+        }
+        causes.into_iter().for_each(|cause| written.case(cause));
+        if number == 0 {
+            let clips = clips(&fields);
+            clips.into_iter().for_each(|clip| written.case(clip));
+        }
+        Ok(())
     }
 
     /// A message of each type with every list as long as it may be, cut at every length.
@@ -193,31 +215,30 @@ impl Requests {
     /// RawCommand: every length from 0 to 40 bytes, every count from 0 to 21, each bit of padding
     /// set by itself, and numbers on both sides of each edge.
     fn every_command(&mut self) -> Vec<Request> {
-        const TYPE: usize = 7;
         const ROUNDS: usize = 20;
         let mut requests = Vec::new();
         for length in 0..=40 {
-            requests.push(decode_line(TYPE, &vec![0; length]));
-            requests.push(decode_line(TYPE, &vec![255; length]));
-            requests.push(decode_line(TYPE, &self.random.bytes(length)));
+            requests.push(decode_line(COMMANDS_TYPE, &vec![0; length]));
+            requests.push(decode_line(COMMANDS_TYPE, &vec![255; length]));
+            requests.push(decode_line(COMMANDS_TYPE, &self.random.bytes(length)));
         }
-        for number in [-8193, -8192, 8191, 8192] {
+        for number in edges(COMMAND) {
             for at in 0..20 {
                 let mut numbers = vec![0; 20];
                 numbers[at] = number;
-                requests.push(encode_line(TYPE, &numbers));
+                requests.push(command_line(&numbers));
             }
         }
         for count in (0..=21).cycle().take(22 * ROUNDS) {
-            let numbers: Vec<i64> = (0..count)
-                .map(|_| self.random.below(16_384) as i64 - 8192)
+            let numbers: Vec<i128> = (0..count)
+                .map(|_| i128::from(self.random.below(16_384)) - 8192)
                 .collect();
-            requests.push(encode_line(TYPE, &numbers));
+            requests.push(command_line(&numbers));
             let mut payload = payload_of(&numbers);
-            requests.push(decode_line(TYPE, &payload));
+            requests.push(decode_line(COMMANDS_TYPE, &payload));
             for bit in 0..8 * payload.len() - 14 * count {
                 *payload.last_mut().expect("padding is in a byte") ^= 1 << bit;
-                requests.push(decode_line(TYPE, &payload));
+                requests.push(decode_line(COMMANDS_TYPE, &payload));
                 *payload.last_mut().expect("padding is in a byte") ^= 1 << bit;
             }
         }
@@ -255,28 +276,26 @@ impl Requests {
         decode_line(index, &payload)
     }
 
-    /// Fields of a message in any order, some left out, some as other text for the same number or for one outside of 64 bits.
+    /// Fields of a message in any order, some left out, some as other text for the same number;
+    /// sometimes a float as a number that 32 bits do not make.
     fn encoding(&mut self, index: usize) -> Request {
         let lists = Lists::new(&mut self.random);
         let message = self.message(index, &lists);
         self.count_cases(&message);
-        let mut words: Vec<String> = Vec::new();
-        for (name, value) in fields(&message) {
-            if !self.random.once_in(20) {
-                let text = self.text(&name, &value);
-                words.insert(self.random.index(words.len() + 1), format!("{name}={text}"));
-            }
-        }
         let room = self.room(&message);
-        words.insert(
-            0,
-            format!("encode {} {room}", type_name(MessageType::ALL[index])),
-        );
-        Request {
-            line: words.join(" ").into_bytes(),
-            index,
-            encodes: true,
+        let mut words: Vec<String> = Vec::new();
+        for (name, mut value) in fields(&message) {
+            if self.random.once_in(20) {
+                continue;
+            }
+            let often = if name == "value" { 10 } else { 60 };
+            if is_float(&name) && self.random.once_in(often) {
+                value = Value::Number(self.random.pick(&NO_PATTERNS));
+            }
+            let text = self.text(&value);
+            words.insert(self.random.index(words.len() + 1), format!("{name}={text}"));
         }
+        encode_line(index, &room, &words)
     }
 
     /// Any message of the type; of a KeyValue often one with a signalling NaN.
@@ -294,20 +313,25 @@ impl Requests {
         for (name, value) in fields(message) {
             let name = name.rsplit("status.").next().unwrap_or("");
             match value {
-                Value::Number(Some(mode @ 0..=7)) if name == "mode" => {
+                Value::Number(mode @ 0..=7) if name == "mode" => {
                     self.cases.case(MODES[mode as usize])
                 }
-                Value::Number(Some(level @ 0..=7)) if name == "level.value" => {
+                Value::Number(level @ 0..=7) if name == "level.value" => {
                     self.cases.case(LEVELS[level as usize])
                 }
-                Value::Number(Some(bits))
+                Value::Number(bits)
                     if name == "value" && bits & 0x7FC0_0001 == SIGNALLING.into() =>
                 {
                     self.cases.case(NAN);
                 }
-                Value::Number(Some(bits)) if FLOATS.contains(&name) => {
+                Value::Number(bits) if FLOATS.contains(&name) => {
                     self.cases.case(float_case(bits as u32));
                 }
+                Value::Number(number) if name == "sub_mode" && u64::try_from(number).is_err() => {
+                    self.cases.case(ANY_SUB_MODE);
+                }
+                Value::Number(number) if number <= -HUGE => self.cases.case(FAR_BELOW),
+                Value::Number(number) if number >= HUGE => self.cases.case(FAR_ABOVE),
                 Value::Numbers(numbers) => {
                     let edges = COMMANDS.iter().filter(|(edge, _)| numbers.contains(edge));
                     edges.for_each(|(_, case)| self.cases.case(case));
@@ -335,19 +359,18 @@ impl Requests {
         }
     }
 
-    fn text(&mut self, name: &str, value: &Value) -> String {
-        let sub_mode = name.ends_with("sub_mode");
-        let often = if sub_mode { 4 } else { 100 };
-        if matches!(value, Value::Number(_)) && self.random.once_in(often) {
-            if sub_mode {
-                self.cases.case(ANY_SUB_MODE);
+    /// A zero in several ways, and a number of 30 digits with more of them.
+    fn text(&mut self, value: &Value) -> String {
+        let mut text = value.text();
+        match value {
+            Value::Number(0) => text = self.random.pick(&["0", "-0", "000"]).to_string(),
+            Value::Number(number) if number.abs() >= HUGE => {
+                let more = self.random.index(30);
+                text.extend(std::iter::repeat_n('9', more));
             }
-            return self.random.pick(&OUTSIDE).to_string();
+            _ => (),
         }
-        match value.text().as_str() {
-            "0" => self.random.pick(&["0", "-0", "000"]).to_string(),
-            plain => plain.to_string(),
-        }
+        text
     }
 }
 
@@ -371,19 +394,57 @@ fn decode_line(index: usize, payload: &[u8]) -> Request {
     }
 }
 
-/// A line that asks for these commands.
-fn encode_line(index: usize, numbers: &[i64]) -> Request {
+fn encode_line(index: usize, room: &str, words: &[String]) -> Request {
     let name = type_name(MessageType::ALL[index]);
-    let cmd = Value::Numbers(numbers.to_vec()).text();
+    let words: String = words.iter().map(|word| format!(" {word}")).collect();
     Request {
-        line: format!("encode {name} 512 cmd={cmd}").into_bytes(),
+        line: format!("encode {name} {room}{words}").into_bytes(),
         index,
         encodes: true,
     }
 }
 
+/// A line with all of these fields, in their order.
+fn fields_line(index: usize, fields: &Fields) -> Request {
+    let word = |(name, value): &(String, Value)| format!("{name}={}", value.text());
+    let words: Vec<String> = fields.iter().map(word).collect();
+    encode_line(index, "512", &words)
+}
+
+/// A line that asks for these commands.
+fn command_line(numbers: &[i128]) -> Request {
+    let cmd = ("cmd".to_string(), Value::Numbers(numbers.to_vec()));
+    fields_line(COMMANDS_TYPE, &vec![cmd])
+}
+
+/// Each number of each type at its edges, in a message that is else allowed.
+fn every_edge() -> Vec<Request> {
+    let mut requests = Vec::new();
+    for (index, message_type) in MessageType::ALL.into_iter().enumerate() {
+        let mut plain = absent(message_type);
+        for (name, value) in &mut plain {
+            match name.as_str() {
+                "hardware_version.unique_id" => *value = Value::List(vec![7; 16]),
+                "name" => *value = Value::List(b"a".to_vec()),
+                _ => (),
+            }
+        }
+        for at in 0..plain.len() {
+            let (name, Value::Number(_)) = &plain[at] else {
+                continue;
+            };
+            for number in range(name).map_or(vec![], |range| edges(range).to_vec()) {
+                let mut given = plain.clone();
+                given[at].1 = Value::Number(number);
+                requests.push(fields_line(index, &given));
+            }
+        }
+    }
+    requests
+}
+
 /// Commands as they are written, also more than there may be.
-fn payload_of(numbers: &[i64]) -> Vec<u8> {
+fn payload_of(numbers: &[i128]) -> Vec<u8> {
     let mut writer = Writer::default();
     for &number in numbers {
         writer.signed(number, 14);

@@ -14,7 +14,7 @@ use Rattle.allocator_table.specs.inside.Code.{orZero}
 use Rattle.allocator_table.proofs.Soundness.{long-enough}
 use Rattle.allocator.specs.Allocate.{Verdict, result, performs}
 use Rattle.allocator.specs.declared.answer.Answer.the-variants.{Exhausted}
-use Rattle.allocator.proofs.Decisions.{is-known, none-left, one-left, room-left}
+use Rattle.allocator.proofs.Decisions.{is-known, known-low, none-left, one-left, room-left}
 use borrow.Author.Needs.{needs}
 use Rattle.allocator.proofs.serve.complete.Statement.{statement}
 use Rattle.allocator.proofs.serve.complete.Tie as tie
@@ -30,7 +30,12 @@ node-of-requires : tie.Need-node-of-requires
 node-of-requires c κs = search needs
 
 confirm-requires : tie.Need-confirm-requires
-confirm-requires c κs = let s = c .before .before .before .before .before .before .before .before .before in long-enough (s .args .state .now) (s .pre .0)
+confirm-requires c κs =
+    let k = c .before .before .before in
+    let s = k .before .before .before .before .before .before in
+    let a = s .args in
+    let x = looked-up (a .state .now) (a .g .now) (k .node-of .result) _ (s .pre .1) (k .before .read .ensures) (k .node-of .ensures) in
+    (long-enough (a .state .now) (s .pre .0), known-low (a .state .now) (a .q) (a .g .now) (a .p) (s .pre .0) (k .node-of .result) x)
 
 same-length : tie.Need-same-length
 same-length c = search needs
@@ -89,7 +94,7 @@ enter-requires c κs =
     let a = s .args in
     let x = looked-up (a .state .now) (a .g .now) (k .node-of .result) _ (s .pre .1) (k .before .read .ensures) (k .node-of .ensures) in
     let y = v .given .ensures .0 ∙ ap (λ (p : ℕ). orZero (given (isFree (a .q .reserved) (tableOf (a .state .now))) p)) (n .preferred .ensures .0) in
-    (s .pre .0, (room-left (a .state .now) (a .q) (a .g .now) (a .p) (s .pre .0) (sym x ∙ i .if1 .left) (v .given .result) y (f .if2 .left), s .pre .1))
+    (s .pre .0, (room-left (a .state .now) (a .q) (a .g .now) (a .p) (s .pre .0) (sym x ∙ i .if1 .left) (v .given .result) y (f .if2 .left), (s .pre .1, v .given .ensures .1)))
 
 same-length-4 : tie.Need-same-length-4
 same-length-4 c = search needs

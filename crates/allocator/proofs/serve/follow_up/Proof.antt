@@ -2,6 +2,7 @@
 use mathlib.Core.Path.{ap, _∙_}
 use mathlib.Core.List.{List}
 use Prim.Native.Nat.{ℕ}
+use lib.IntN.{pos}
 use lib.ListN.{length}
 use Rattle.shape.specs.Shape.{encoded}
 use Rattle.protocol_dynamic_node_id.specs.Allocation.{allocation}
@@ -37,7 +38,7 @@ returns c =
     let k = c .before .before .before .before .before in
     let a = k .before .before .before .before .before .args in
     refused-reply (a .state .now) (withTime (withGathered (a .state .now) (a .g .now)) (a .t)) (a .out .now) (k .encode .last .1 .1 .1 .0) (c .before .reply .given .0 .0)
-    (encoded allocation (0, (0, a .g .now)) (length (a .out .now))) (k .encode .result) (c .before .reply .given .1) (k .encode .ensures)
+    (encoded allocation (pos 0, (pos 0, a .g .now)) (length (a .out .now))) (k .encode .result) (c .before .reply .given .1) (k .encode .ensures)
 
 same-length-2 : tie.Need-same-length-2
 same-length-2 c = search needs
@@ -57,7 +58,7 @@ returns-2 c =
     let o = k .encode .last .1 .1 .1 .0 in
     ap (λ (x : List ℕ). result (Replied n) x o) (t .time .ensures ∙ ap (λ (x : List ℕ). withTime x (a .t)) (g .gathered .ensures))
     ∙ wrote-reply (a .state .now) (withTime (withGathered (a .state .now) (a .g .now)) (a .t)) (a .out .now) o n
-    (encoded allocation (0, (0, a .g .now)) (length (a .out .now))) (k .encode .result) (r .reply2 .given .1) (k .encode .ensures)
+    (encoded allocation (pos 0, (pos 0, a .g .now)) (length (a .out .now))) (k .encode .result) (r .reply2 .given .1) (k .encode .ensures)
 
 pub follow-up-spec : {M : Type 1} → statement M
 follow-up-spec =

@@ -8,11 +8,9 @@ use borrow.Author.Tests.{not-true, not-false}
 use lib.ListN.{length, take}
 use lib.Seq.{take-all, length-take-le}
 use Rattle.bits.specs.Part.{span}
-use Rattle.shape.specs.Shape.{Values}
-use Rattle.protocol_dynamic_node_id.specs.Allocation.{allocation}
 use Rattle.allocator_table.specs.Layout.{gatheredAt, withCount}
 use Rattle.allocator_table.proofs.Soundness.{long-enough}
-use Rattle.allocator.specs.Allocate.{Verdict, result, gathers, completes, performs}
+use Rattle.allocator.specs.Allocate.{Verdict, result, gathers, completes, Fields, performs}
 use Rattle.allocator.specs.Stage.{accepts, keptAt, joined}
 use Rattle.allocator.specs.declared.answer.Answer.the-variants.{Silent}
 use Rattle.allocator.proofs.Decisions.{is-ignored, is-awaited, is-part, is-whole, kept-few, accepted-fits, length-joined}
@@ -110,7 +108,7 @@ returns-3 c =
     let m = a .state .now in
     let t = a .q .time in
     let u = a .u .now in
-    let v : Values allocation = (a .p, (a .first, u)) in
+    let v : Fields = (a .p, (a .first, u)) in
     let e = ap (accepts (a .first) (length u)) (sym (k .kept .ensures)) ∙ sym (x .accepts .ensures) ∙ not-false _ (f .if2 .left) in
     let d = length-joined m t u (s .pre) in
     let w = c .before .before .before .before in
@@ -142,7 +140,7 @@ returns-4 c =
     let m = a .state .now in
     let t = a .q .time in
     let u = a .u .now in
-    let v : Values allocation = (a .p, (a .first, u)) in
+    let v : Fields = (a .p, (a .first, u)) in
     let e = ap (accepts (a .first) (length u)) (sym (k .kept .ensures)) ∙ sym (x .accepts .ensures) ∙ not-false _ (f .if2 .left) in
     let d = length-joined m t u (s .pre) in
     let w = c .before .before .before .before in

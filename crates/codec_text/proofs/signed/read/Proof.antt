@@ -27,17 +27,17 @@ loop-holds c = search needs
 find-requires : tie.Need-find-requires Inv-loop μ-loop
 find-requires c κs = search needs
 
-sub-one : tie.Need-sub-one Inv-loop μ-loop
-sub-one c = search needs
+sub-read : tie.Need-sub-read Inv-loop μ-loop
+sub-read c = search needs
 
-part-one-start : tie.Need-part-one-start Inv-loop μ-loop
-part-one-start c = search needs
+part-read-start : tie.Need-part-read-start Inv-loop μ-loop
+part-read-start c = search needs
 
-part-one-end : tie.Need-part-one-end Inv-loop μ-loop
-part-one-end c = search needs
+part-read-end : tie.Need-part-read-end Inv-loop μ-loop
+part-read-end c = search needs
 
-one-requires : tie.Need-one-requires Inv-loop μ-loop
-one-requires c κs = search needs
+read-requires : tie.Need-read-requires Inv-loop μ-loop
+read-requires c κs = search needs
 
 take-requires : tie.Need-take-requires Inv-loop μ-loop
 take-requires c κs = search needs
@@ -77,10 +77,10 @@ read-spec =
     returns
     loop-holds
     find-requires
-    sub-one
-    part-one-start
-    part-one-end
-    one-requires
+    sub-read
+    part-read-start
+    part-read-end
+    read-requires
     take-requires
     same-length
     returns-2

@@ -1,4 +1,7 @@
 -- `battery_info::read_numbers` meets its contract, field by field.
+use native.Mathlib.Omega.{arith}
+use lib.Dec.{lit≤}
+use Rattle.shape.proofs.CastFacts.{number-read}
 use Rattle.equipment_power.proofs.BatteryInfoFacts.{made}
 use Rattle.equipment_power.specs.BatteryInfo.{rawAt}
 use borrow.Author.Needs.{needs}
@@ -47,8 +50,26 @@ read-requires-6 c κs = search needs
 returns : tie.Need-returns
 unfolding rawAt
 returns c =
-    made (c .before .before .before .before .before .before .before .before .before .before .before .before .half .ensures) (c .before .before .before .before .before .before .before .before .before .before .before .half2 .ensures) (c .before .before .before .before .before .before .before .before .before .before .half3 .ensures) (c .before .before .before .before .before .before .before .before .before .half4 .ensures) (c .before .before .before .before .before .before .before .before .half5 .ensures) (c .before .before .before .before .before .before .before .half6 .ensures) (c .before .before .before .before .before .before .half7 .ensures)
-    (c .before .before .before .before .before .read .ensures) (c .before .before .before .before .read2 .ensures) (c .before .before .before .read3 .ensures) (c .before .before .read4 .ensures) (c .before .read5 .ensures) (c .read6 .ensures)
+    let r₅ = c .before in
+    let r₄ = r₅ .before in
+    let r₃ = r₄ .before in
+    let r₂ = r₃ .before in
+    let r₁ = r₂ .before in
+    let h₇ = r₁ .before in
+    let h₆ = h₇ .before in
+    let h₅ = h₆ .before in
+    let h₄ = h₅ .before in
+    let h₃ = h₄ .before in
+    let h₂ = h₃ .before in
+    let h₁ = h₂ .before in
+    let s = h₁ .before .before .args .s .now in
+    made (h₁ .half .ensures) (h₂ .half2 .ensures) (h₃ .half3 .ensures) (h₄ .half4 .ensures) (h₅ .half5 .ensures) (h₆ .half6 .ensures) (h₇ .half7 .ensures)
+    (number-read s 112 11 (lit≤ tt) (omega arith) (r₁ .read .result) (r₁ .read .ensures))
+    (number-read s 123 7 (lit≤ tt) (omega arith) (r₂ .read2 .result) (r₂ .read2 .ensures))
+    (number-read s 130 7 (lit≤ tt) (omega arith) (r₃ .read3 .result) (r₃ .read3 .ensures))
+    (number-read s 137 7 (lit≤ tt) (omega arith) (r₄ .read4 .result) (r₄ .read4 .ensures))
+    (number-read s 144 8 (lit≤ tt) (omega arith) (r₅ .read5 .result) (r₅ .read5 .ensures))
+    (number-read s 152 32 (lit≤ tt) (omega arith) (c .read6 .result) (c .read6 .ensures))
 
 pub read-numbers-spec : {M : Type 1} → statement M
 read-numbers-spec =

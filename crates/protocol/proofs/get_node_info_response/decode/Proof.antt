@@ -7,6 +7,7 @@ use borrow.Author.Tests.{not-true, not-false}
 use lib.ListN.{length}
 use Rattle.bits.proofs.Octets.{octets-all}
 use Rattle.shape.specs.Answer.{got, numbered}
+use Rattle.shape.proofs.SignedFacts.{is}
 use Rattle.protocol.proofs.ResponseReadFacts.{below, cut, long, bad-name, held, certificate-len, made}
 use Rattle.protocol.specs.Name.{isName}
 use Rattle.protocol.specs.declared.get_node_info_response.Response.{Response}
@@ -64,7 +65,8 @@ certificate-of-authenticity-requires c κs = search needs
 
 returns-4 : tie.Need-returns-4
 returns-4 c =
-    let r = c .before .before .before .before in
+    let d = c .before in
+    let r = d .before .before .before .before in
     let f = r .before in
     let q = f .before in
     let t = q .before .before in
@@ -76,7 +78,8 @@ returns-4 c =
     let b = sym (q .is-name .ensures ∙ ap (λ (l : List ℕ). isName l) (t .name .ensures)) ∙ not-false (q .is-name .result) (f .if3 .left) in
     let l = certificate-len s o (omega (arith, n .certificate-length .ensures)) in
     ap (λ (x : Response). numbered (got x))
-    (made s o _ _ _ _ _ (r .read-numbers .ensures) (ap (λ (l : List ℕ). length l) (c .before .unique-id .ensures)) (ap (λ (l : List ℕ). length l) (c .certificate-of-authenticity .ensures))
+    (made s o _ _ _ _ _ _ _ (r .read-numbers .ensures) (is _ (record { sfits = c .struct-told .given .1 .1 .0 .1 })) (is _ (record { sfits = c .struct-told .given .1 .1 .1 .0 .1 }))
+    (ap (λ (l : List ℕ). length l) (d .before .unique-id .ensures)) (ap (λ (l : List ℕ). length l) (d .certificate-of-authenticity .ensures))
     (omega (arith, l, n .certificate-length .ensures)) e)
     ∙ sym (held s o (omega (arith, n .certificate-length .ensures)) (omega (arith, e)) b)
 

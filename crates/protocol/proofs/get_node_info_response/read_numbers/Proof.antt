@@ -1,5 +1,8 @@
 -- `get_node_info_response::read_numbers` meets its contract, field by field.
 use Rattle.protocol.specs.GetNodeInfoResponse.{numbersAt}
+use native.Mathlib.Omega.{arith}
+use lib.Dec.{lit≤}
+use Rattle.shape.proofs.CastFacts.{number-read}
 use borrow.Author.Needs.{needs}
 use Rattle.protocol.proofs.get_node_info_response.read_numbers.Statement.{statement}
 use Rattle.protocol.proofs.get_node_info_response.read_numbers.Tie as tie
@@ -38,7 +41,17 @@ returns c =
     let r₂ = r₃ .before in
     let r₁ = r₂ .before in
     let r₀ = r₁ .before in
-    rw (r₀ .read-front .ensures, r₁ .read .ensures, r₂ .read2 .ensures, r₃ .read3 .ensures, r₄ .read4 .ensures, r₅ .read5 .ensures, r₆ .read6 .ensures, c .read7 .ensures)
+    let s = r₀ .before .before .args .s .now in
+    rw (
+      r₀ .read-front .ensures,
+      number-read s 56 8 (lit≤ tt) (omega arith) (r₁ .read .result) (r₁ .read .ensures),
+      number-read s 64 8 (lit≤ tt) (omega arith) (r₂ .read2 .result) (r₂ .read2 .ensures),
+      number-read s 72 8 (lit≤ tt) (omega arith) (r₃ .read3 .result) (r₃ .read3 .ensures),
+      number-read s 80 32 (lit≤ tt) (omega arith) (r₄ .read4 .result) (r₄ .read4 .ensures),
+      r₅ .read5 .ensures,
+      number-read s 176 8 (lit≤ tt) (omega arith) (r₆ .read6 .result) (r₆ .read6 .ensures),
+      number-read s 184 8 (lit≤ tt) (omega arith) (c .read7 .result) (c .read7 .ensures),
+    )
 
 pub read-numbers-spec : {M : Type 1} → statement M
 read-numbers-spec =

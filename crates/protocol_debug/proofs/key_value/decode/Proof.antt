@@ -4,6 +4,9 @@ use mathlib.Core.Path.{sym, ap, _∙_}
 use Prim.Native.Nat.{ℕ}
 use native.Mathlib.Omega.{arith}
 use lib.ListN.{length}
+use Rattle.bits.specs.Order.{unpack}
+use Rattle.bits.proofs.Bytes.{length-unpack}
+use Rattle.bits.proofs.Numbers.{fromBits-lt}
 use Rattle.bits.proofs.Octets.{octets-all}
 use Rattle.shape.specs.Answer.{got, numbered}
 use Rattle.protocol_debug.proofs.KeyValueFacts.{short, long, held, made}
@@ -32,6 +35,11 @@ returns-2 c =
 read-requires : tie.Need-read-requires
 read-requires c κs = search needs
 
+cast-t7 : tie.Need-cast-t7
+cast-t7 c =
+    let s = c .before .before .before .before .before .args .payload .now in
+    record { fits = omega (arith, c .read .ensures, fromBits-lt 32 (unpack s) (omega (arith, length-unpack s))) }
+
 returns-3 : tie.Need-returns-3
 returns-3 c =
     let q = c .before .before in
@@ -42,4 +50,4 @@ returns-3 c =
     ∙ sym (held s (octets-all s (λ i. omega (arith, k .shared-slice-known .given i))) (omega arith) (omega (arith, e)))
 
 pub decode-spec : {M : Type 1} → statement M
-decode-spec = tie.close (tie.spec returns key-requires returns-2 read-requires returns-3)
+decode-spec = tie.close (tie.spec returns key-requires returns-2 read-requires cast-t7 returns-3)

@@ -3,9 +3,11 @@ use mathlib.Core.List.{List}
 use mathlib.Core.Path.{sym, ap, _∙_}
 use Prim.Native.Nat.{ℕ}
 use native.Mathlib.Omega.{arith}
+use lib.Dec.{lit≤}
 use lib.ListN.{length}
 use Rattle.bits.proofs.Octets.{octets-all}
 use Rattle.shape.specs.Answer.{got, numbered}
+use Rattle.shape.proofs.CastFacts.{number-read}
 use Rattle.protocol_debug.proofs.LogMessageFacts.{below, cut, long, held, source-len, made}
 use Rattle.protocol_debug.specs.declared.log_message.LogMessage.{LogMessage}
 use borrow.Author.Needs.{needs}
@@ -53,7 +55,7 @@ returns-3 c =
     let e = ap (λ (l : List ℕ). length l) (t .text .ensures) in
     let l = source-len s o (omega (arith, n .source-length .ensures)) in
     ap (λ (x : LogMessage). numbered (got x))
-    (made (c .before .read .ensures) (ap (λ (l : List ℕ). length l) (c .source .ensures)) (omega (arith, l, n .source-length .ensures)) e)
+    (made (number-read s 0 3 (lit≤ tt) (omega (arith, n .source-length .ensures)) (c .before .read .result) (c .before .read .ensures)) (ap (λ (l : List ℕ). length l) (c .source .ensures)) (omega (arith, l, n .source-length .ensures)) e)
     ∙ sym (held s o (omega (arith, n .source-length .ensures)) (omega (arith, e)))
 
 pub decode-spec : {M : Type 1} → statement M

@@ -6,6 +6,7 @@ use borrow.Author.Tests.{not-true, not-false}
 use lib.ListN.{length}
 use Rattle.bits.specs.Order.{Octets}
 use Rattle.bits.proofs.Octets.{octets-all}
+use Rattle.shape.proofs.CastFacts.{number-given}
 use Rattle.shape.proofs.Writing.{refuse-17, refuse-8, write-all}
 use Rattle.protocol_debug.proofs.LogMessageFacts.{five, size, fit, stored}
 use Rattle.protocol_debug.specs.LogMessage.{logMessage}
@@ -85,7 +86,7 @@ returns-3 c =
     (size (a .level) xs ys)
     (octets-all (a .out .now) (λ i. omega (arith, m .slice-known .given i))) (g .if2 .left) (w₄ .write-bytes2 .last .0)
     (stored (a .level) xs ys (w .width .result) (w .width .ensures) (a .out .now) (w₁ .write .last .0) (w₂ .write2 .last .0) (w₃ .write-bytes .last .0) (w₄ .write-bytes2 .last .0) (omega (arith, g .if2 .left))
-    (w₁ .write .ensures) (w₂ .write2 .ensures) (w₃ .write-bytes .ensures) (w₄ .write-bytes2 .ensures))
+    (number-given (a .out .now) (w₁ .write .last .0) 0 3 (a .level) (k .before .fits .level) (w₁ .write .ensures)) (w₂ .write2 .ensures) (w₃ .write-bytes .ensures) (w₄ .write-bytes2 .ensures))
 
 pub encode-spec : {M : Type 1} → statement M
 encode-spec =

@@ -3,9 +3,11 @@ use mathlib.Core.List.{List}
 use mathlib.Core.Path.{sym, ap, _∙_}
 use Prim.Native.Nat.{ℕ}
 use native.Mathlib.Omega.{arith}
+use lib.Dec.{lit≤}
 use lib.ListN.{length}
 use Rattle.bits.proofs.Octets.{octets-all}
 use Rattle.shape.specs.Answer.{got, numbered}
+use Rattle.shape.proofs.CastFacts.{number-read}
 use Rattle.protocol_dynamic_node_id.proofs.AllocationFacts.{short, long, held, made}
 use Rattle.protocol_dynamic_node_id.specs.declared.allocation.Allocation.{Allocation}
 use borrow.Author.Needs.{needs}
@@ -41,7 +43,8 @@ returns-3 c =
     let k = q .before .before in
     let s = k .before .args .payload .now in
     let e = ap (λ (l : List ℕ). length l) (q .unique-id .ensures) in
-    ap (λ (x : Allocation). numbered (got x)) (made (c .before .read .ensures) (c .read2 .ensures) e)
+    ap (λ (x : Allocation). numbered (got x)) (made (number-read s 0 7 (lit≤ tt) (omega arith) (c .before .read .result) (c .before .read .ensures))
+    (number-read s 7 1 (lit≤ tt) (omega arith) (c .read2 .result) (c .read2 .ensures)) e)
     ∙ sym (held s (octets-all s (λ i. omega (arith, k .shared-slice-known .given i))) (omega arith) (omega (arith, e)))
 
 pub decode-spec : {M : Type 1} → statement M
