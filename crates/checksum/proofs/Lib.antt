@@ -2,3 +2,6 @@ mod Xor
 pub mod Linear
 mod Below
 mod Tables
+mod Window
+mod Parity
+pub mod Damage

@@ -17,7 +17,7 @@ use Rattle.checksum.proofs.Linear.{shifts-xor}
 
 module _ (k : Crc) where
   -- one place up, where nothing leaves at the top
-  shift-low : (n c : ℕ) → suc n ≡ k .width → c < 2 ^ n → shift k c ≡ c * 2
+  pub shift-low : (n c : ℕ) → suc n ≡ k .width → c < 2 ^ n → shift k c ≡ c * 2
   unfolding shift
   shift-low n c e h =
       let w : k .width - 1 ≡ n = omega arith in

@@ -5,7 +5,7 @@ use native.Mathlib.Nat.{mod-lt, zero-lt-suc, add-zero}
 use lib.Pow.{pow-pos}
 use native.Mathlib.Omega.{arith}
 use lib.Arith.{bin-ind}
-use lib.Bits.{bitXor, differ, xor-step, xor-comm, xor-shr, xor-mod, xor-block}
+use lib.Bits.{bitXor, differ, xor-step, xor-comm, xor-self, xor-zero-r, xor-shr, xor-mod, xor-block}
 
 -- what holds of 0 and 1 holds of a digit
 pub bit-cases {ℓ} : (P : ℕ → Type ℓ) → P 0 → P 1 → (x : ℕ) → x < 2 → P x
@@ -25,10 +25,10 @@ digit-assoc x y z hx hy hz =
     (bit-cases (λ (y : ℕ). differ (differ 1 y) z ≡ differ 1 (differ y z)) refl
     (bit-cases (λ (z : ℕ). differ (differ 1 1) z ≡ differ 1 (differ 1 z)) refl refl z hz) y hy) x hx
 
-half : (a b : ℕ) → bitXor a b / 2 ≡ bitXor (a / 2) (b / 2)
+pub half : (a b : ℕ) → bitXor a b / 2 ≡ bitXor (a / 2) (b / 2)
 half a b = xor-shr a b 1
 
-low : (a b : ℕ) → bitXor a b % 2 ≡ differ (a % 2) (b % 2)
+pub low : (a b : ℕ) → bitXor a b % 2 ≡ differ (a % 2) (b % 2)
 low a b = xor-mod a b 1 ∙ digit (a % 2) (b % 2) (odd-lt a) (odd-lt b)
 
 pub xor-assoc : (a b c : ℕ) → bitXor (bitXor a b) c ≡ bitXor a (bitXor b c)
@@ -46,6 +46,16 @@ xor-swap a b c d =
     xor-assoc a b (bitXor c d)
     ∙ ap (bitXor a) (sym (xor-assoc b c d) ∙ ap (λ (x : ℕ). bitXor x d) (xor-comm b c) ∙ xor-assoc c b d)
     ∙ sym (xor-assoc a c (bitXor b d))
+
+-- twice the same is nothing
+xor-back : (a b : ℕ) → bitXor (bitXor a b) b ≡ a
+xor-back a b = xor-assoc a b b ∙ ap (bitXor a) (xor-self b) ∙ xor-zero-r a
+
+pub xor-none : (a b : ℕ) → bitXor a b ≡ 0 → a ≡ b
+xor-none a b e = sym (xor-back a b) ∙ ap (λ (x : ℕ). bitXor x b) e
+
+pub xor-cancel-right : (c a b : ℕ) → bitXor a c ≡ bitXor b c → a ≡ b
+xor-cancel-right c a b e = sym (xor-back a c) ∙ ap (λ (x : ℕ). bitXor x c) e ∙ xor-back b c
 
 -- times a power of two
 pub xor-times : (k a b : ℕ) → bitXor a b * 2 ^ k ≡ bitXor (a * 2 ^ k) (b * 2 ^ k)

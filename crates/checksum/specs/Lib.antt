@@ -2,4 +2,5 @@ pub mod Crc
 pub mod Crc16
 pub mod Signature
 pub mod Laws
+pub mod Damage
 pub mod inside

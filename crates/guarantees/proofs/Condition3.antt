@@ -1,4 +1,4 @@
--- Condition 3 over lent bytes (RULES 14.14): they answer and move as the rules' table does, through the view.
+-- Condition 3 over lent bytes (RULES 14.14), and that bursts are caught (14.18): they answer and move as the rules' table does, through the view.
 use mathlib.Core.Path.{ap, _∙_}
 use mathlib.Core.List.{List}
 use Prim.Native.Nat.{ℕ}
@@ -7,9 +7,10 @@ use Rattle.guarantees.specs.Received.{Typed}
 use Rattle.guarantees.specs.Run.{Call, receptionOf, resultOf, readingOf}
 use Rattle.guarantees.proofs.Received.{view-law, sound-law}
 use Rattle.guarantees.proofs.Run.{reading-is}
-use Rattle.rules.proofs.Lift.{View, lifted}
+use Rattle.rules.proofs.Lift.{View, lifted, lifted-burst}
 use Rattle.rules.specs.Answer as rules
 use Rattle.rules.specs.Condition3.{Condition3, lent}
+use Rattle.rules.specs.Damage.{BurstIsCaught}
 use Rattle.rules.specs.Reception.{step}
 use Rattle.rules.specs.Setup.{Setup}
 use Rattle.answers.proofs.Reception.{told-number}
@@ -35,3 +36,6 @@ view u =
 
 pub lent-theorem : Condition3 lentBytes
 lent-theorem = lifted lentBytes view
+
+pub lent-burst : BurstIsCaught lentBytes
+lent-burst = lifted-burst lentBytes view

@@ -15,7 +15,7 @@ use Rattle.guarantees.specs.FromSetup.{SetUp, Reached, setUp, called, se
 use Rattle.guarantees.specs.Run.{Call, receptions, AllTyped, readings, readingOf}
 use Rattle.guarantees.proofs.Condition3.{lent-stays, view}
 use Rattle.guarantees.proofs.Run.{run-law}
-use Rattle.rules.proofs.Lift.{View, lifted}
+use Rattle.rules.proofs.Lift.{View, lifted, lifted-burst}
 use Rattle.rules.specs.Reception.{run}
 use Rattle.rules.specs.Setup.{Subscription, Setup, allFit, acceptable}
 use Rattle.rules.specs.Table.{Places, begun}
@@ -137,4 +137,4 @@ reached-view u =
     }
 
 pub from-setup : FromSetup
-from-setup = record { begins = begins; reads = reads; lasts = lasts; condition3 = lifted setUpBytes reached-view }
+from-setup = record { begins = begins; reads = reads; lasts = lasts; condition3 = lifted setUpBytes reached-view; bursts = lifted-burst setUpBytes reached-view }

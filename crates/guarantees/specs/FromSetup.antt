@@ -7,6 +7,7 @@ use Rattle.guarantees.specs.Condition3.{Lent, receiving}
 use Rattle.guarantees.specs.Received.{Typed}
 use Rattle.guarantees.specs.Run.{Call, resultOf, receptions, AllTyped, readings, readingOf}
 use Rattle.rules.specs.Condition3.{Machine, Condition3}
+use Rattle.rules.specs.Damage.{BurstIsCaught}
 use Rattle.rules.specs.Reception.{run}
 use Rattle.rules.specs.Setup.{Setup}
 use Rattle.rules.specs.Table.{begun}
@@ -39,3 +40,5 @@ pub record FromSetup : Type 0 where
   pub lasts : (u : Setup) (m : List ℕ) → Reached u m → Lent u m
   -- RULES 14.14: and condition 3 holds of two receivers that were set up alike, each with any calls since
   pub condition3 : Condition3 setUpBytes
+  -- RULES 14.18: and of each of them a burst is caught
+  pub bursts : BurstIsCaught setUpBytes

@@ -7,6 +7,7 @@ ghost use Rattle.guarantees.specs.Refusal.{RefusalLaws};
 ghost use Rattle.guarantees.specs.Run.{RunLaw};
 ghost use Rattle.guarantees.specs.Written.{TableLaw};
 ghost use Rattle.rules.specs.Condition3.{Condition3};
+ghost use Rattle.rules.specs.Damage.{BurstIsCaught};
 
 // RULES 5.7: every table without a fault, with times and data in range, is that of a lent state.
 pub fn tables_held()
@@ -43,7 +44,12 @@ pub fn condition3_lent_example()
     ensures { λ _. ⌜ LentExample ⌝ }
 {}
 
-// RULES 5.7, 14.14: from a call of setup to lists of calls, condition 3 among what holds of them.
+// RULES 14.18: a burst is caught, of lent bytes.
+pub fn burst_is_caught_lent()
+    ensures { λ _. ⌜ BurstIsCaught lentBytes ⌝ }
+{}
+
+// RULES 5.7, 14.14, 14.18: from a call of setup to lists of calls, condition 3 and that bursts are caught among what holds of them.
 pub fn setup_then_calls()
     ensures { λ _. ⌜ FromSetup ⌝ }
 {}

@@ -1,8 +1,9 @@
--- A session that hears its stream alone: of the answers to the frames that carry some bytes, one alone is neither 0, nor a passing over, nor a refusal. It is the
--- last frame's, and closes the transfer as the bytes decide.
+-- A session that hears its stream alone: of the answers to the frames that carry some bytes, that to the first copy of the last frame closes the
+-- transfer as the bytes decide, and the others are 0, a passing over or a refusal.
 use mathlib.Core.Path.{_≡_, refl, sym, ap, _∙_}
-use mathlib.Core.Bool.{Bool, true, false, true≢false, not, and-false, Bool·not-not}
+use mathlib.Core.Bool.{Bool, true, false, true≢false, not, _&&_, _||_, and-false, Bool·not-not}
 use mathlib.Core.List.{List, [], _∷_, _++_, append-assoc, nil≢cons, head-eq-of-cons-eq, tail-eq-of-cons-eq}
+use mathlib.Core.Logic.{inl, inr}
 use mathlib.Core.Option.{Option, none, some}
 use Prim.Native.Nat.{ℕ, zero, suc, _+_, _*_, _-_, _%_, _≤_, _<_}
 use native.Mathlib.Omega.{arith}
@@ -10,10 +11,11 @@ use lib.Dec.{eqb, leb}
 use lib.ListN.{length, take, drop, length-append, length-take, length-drop, take-append-drop}
 use lib.Seq.{length-take-le}
 use borrow.Author.Tests.{eq-eqb, ne-eqb, le-ltb, le-leb, lt-leb}
-use Rattle.rules.specs.Answer.{Answer, taken, handed, refused, full, passed, long, differs, Reason, noTransfer, wrongToggle, wrongTransfer, repeatedStart, otherInterface}
+use Rattle.rules.specs.Answer.{Answer, taken, handed, passed, Reason, noTransfer, wrongToggle, wrongTransfer, repeatedStart, otherInterface, numberOf}
 use Rattle.rules.specs.Check.{Parsed, orZero, parsed, badLength, badTail, frameCheck}
-use Rattle.rules.specs.Condition3.{keep, Brings, done, next as onward, again, beside}
-use Rattle.rules.specs.Frame.{Arrival, streamOf, priorityOf, isAnonymous}
+use Rattle.rules.specs.Condition3.{Brings, done, next as onward, again, beside}
+use Rattle.rules.specs.Damage.{endBy, elsewhere, beforeEnd}
+use Rattle.rules.specs.Frame.{Arrival, streamOf, priorityOf, isAnonymous, tailOf, isEnd}
 use Rattle.rules.specs.Limits.{oldAge, switchDelay}
 use Rattle.rules.specs.Sent.{tailByte, framed, arrivalAt, pieces, carrying}
 use Rattle.rules.specs.Session.{Session, Out, distance, next, restarts, overIf, over, sumOk, closing, takeEnd, takeLong, takes, proceedIf, proceed, react, fresh}
@@ -23,22 +25,36 @@ use Rattle.rules.proofs.Checks.{Accepted, none-of, check-time, badTailI
 use Rattle.rules.proofs.Frames.{framed-length, framed-tail, framed-payload, pieces-length, fulls}
 use Rattle.rules.proofs.Ids.{bit-is, flag-le}
 use Rattle.rules.proofs.Own.{proceed-taken, react-stays, refIf, ref, refRun}
-use Rattle.rules.proofs.Ranges.{Small, two-or-more, frame-small}
+use Rattle.rules.proofs.Ranges.{UpTo, frame-small}
 
--- ── answers that end a transfer ──
+-- ── how the answers to a transfer's frames go ──
 
-abbrev pub goesOn : Answer → Bool
-goesOn taken = true
-goesOn (handed p d priority t) = false
-goesOn (refused n) = not (eqb n 1)
-goesOn full = false
-goesOn (passed r) = true
-goesOn long = false
-goesOn differs = false
+-- beside the answer that closes; after it, what repeats a single frame is a start too
+abbrev quiet : Bool → Bool → ℕ → Bool
+quiet single false n = beforeEnd n
+quiet single true n = eqb n (pick single 32 30) || elsewhere n
 
-abbrev pub closings : List Answer → List Answer
-closings [] = []
-closings (a ∷ l) = keep (not (goesOn a)) a (closings l)
+-- whether the end has come by interface i; then frames, and the answers to them
+pub data Goes (i : ℕ) (v : Answer) (single : Bool) : Bool → List Arrival → List Answer → Type 0 where
+  over-now : Goes i v single true [] []
+  goes-on : {ended : Bool} {fs : List Arrival} {l : List Answer} (a : Arrival) (x : Answer) → (ended ≡ false → endBy i a ≡ false)
+      → quiet single ended (numberOf x) ≡ true → Goes i v single ended fs l → Goes i v single ended (a ∷ fs) (x ∷ l)
+  closes-by : {fs : List Arrival} {l : List Answer} (a : Arrival) → endBy i a ≡ true → Goes i v single true fs l → Goes i v single false (a ∷ fs) (v ∷ l)
+
+or-right : (a b : Bool) → b ≡ true → (a || b) ≡ true
+or-right true b e = refl
+or-right false b e = e
+
+quiet-elsewhere : (single ended : Bool) (n : ℕ) → elsewhere n ≡ true → quiet single ended n ≡ true
+quiet-elsewhere single false n e = or-right (eqb n 0) _ (or-right (eqb n 31) _ (or-right (eqb n 33) _ e))
+quiet-elsewhere single true n e = or-right (eqb n (pick single 32 30)) _ e
+
+pub not-one : (single ended : Bool) (n : ℕ) → quiet single ended n ≡ true → eqb n 1 ≡ false
+not-one single ended zero e = refl
+not-one true true (suc zero) e = absurd (true≢false (sym e))
+not-one false true (suc zero) e = absurd (true≢false (sym e))
+not-one single false (suc zero) e = absurd (true≢false (sym e))
+not-one single ended (suc (suc n)) e = ne-eqb (suc (suc n)) 1 (λ z. omega arith)
 
 -- ── frames in order, beside the one taken last ──
 
@@ -93,6 +109,9 @@ module _ (s l g : Bool) (t : ℕ) (h : t < 32) where
 
   tail-transfer : tailByte s l g t % 32 ≡ t
   tail-transfer = omega arith
+
+  framed-end : (xs : List ℕ) → isEnd (tailOf (framed xs (tailByte s l g t))) ≡ l
+  framed-end xs = ap isEnd (framed-tail xs (tailByte s l g t)) ∙ tail-last
 
 abbrev seen : Setup → ℕ → ℕ → ℕ → ℕ → Bool → Bool → Bool → List ℕ → Parsed
 seen u i id t x s l g xs =
@@ -201,22 +220,29 @@ module _ (s : Session) (v : Parsed) (other : eqb (v .interface) (s .follows) ≡
   unfolding over
   other-over = rw other
 
+checked-elsewhere : (n : ℕ) → UpTo 7 (some n) → elsewhere n ≡ true
+checked-elsewhere n (inl h) = rw (le-leb 2 n (h .0), le-leb n 7 (h .1))
+checked-elsewhere n (inr e) = rw e
+
 -- it changes nothing, and ends no transfer
 other-passes : (u : Setup) (s : Session) (a : Arrival) → eqb (a .interface) (s .follows) ≡ false → a .frame .time ≤ s .since + switchDelay
-    → (goesOn (ref u s a .answer) ≡ true) × (ref u s a .session ≡ s)
+    → (elsewhere (numberOf (ref u s a .answer)) ≡ true) × (ref u s a .session ≡ s)
 unfolding ref refIf parsed
 other-passes u s a e h = go (frameCheck u a) (frame-small u a)
   where
-    go : (o : Option ℕ) → Small o → (goesOn (refIf o s (parsed u a) .answer) ≡ true) × (refIf o s (parsed u a) .session ≡ s)
-    go (some n) k = (rw (ne-eqb n 1 (λ z. omega (arith, two-or-more n k))), refl)
+    go : (o : Option ℕ) → UpTo 7 o → (elsewhere (numberOf (refIf o s (parsed u a) .answer)) ≡ true) × (refIf o s (parsed u a) .session ≡ s)
+    go (some n) k = (checked-elsewhere n k, refl)
     go none k =
         let q = react-passed s (parsed u a) otherInterface (other-stays s (parsed u a) e h) (other-over s (parsed u a) e) in
-        (ap (λ o. goesOn (o .answer)) q, ap (λ o. o .session) q)
+        (ap (λ o. elsewhere (numberOf (o .answer))) q, ap (λ o. o .session) q)
 
-other-run : (u : Setup) (s : Session) (a : Arrival) (fs : List Arrival) → eqb (a .interface) (s .follows) ≡ false → a .frame .time ≤ s .since + switchDelay
-    → closings (refRun u s (a ∷ fs)) ≡ closings (refRun u s fs)
+other-run : (u : Setup) (s : Session) (v : Answer) (single ended : Bool) (a : Arrival) (fs : List Arrival) → eqb (a .interface) (s .follows) ≡ false
+    → a .frame .time ≤ s .since + switchDelay → Goes (s .follows) v single ended fs (refRun u s fs)
+    → Goes (s .follows) v single ended (a ∷ fs) (refRun u s (a ∷ fs))
 unfolding refRun
-other-run u s a fs e h = let q = other-passes u s a e h in rw (q .0, q .1)
+other-run u s v single ended a fs e h g =
+    let q = other-passes u s a e h in
+    rw (q .1) (goes-on a (ref u s a .answer) (λ z. ap (λ b. b && isEnd (tailOf (a .frame .bytes))) e) (quiet-elsewhere single ended (numberOf (ref u s a .answer)) (q .0)) g)
 
 -- ── a session, frame by frame ──
 
@@ -227,6 +253,13 @@ parsed-time u i id c x = refl
 parsed-interface : (u : Setup) (i id : ℕ) (c : List ℕ) (x : ℕ) → parsed u (arrivalAt i id c x) .interface ≡ i
 unfolding parsed
 parsed-interface u i id c x = refl
+
+end-by : (i id : ℕ) (c : List ℕ) (x : ℕ) (l : Bool) → isEnd (tailOf c) ≡ l → endBy i (arrivalAt i id c x) ≡ l
+end-by i id c x l e = ap (λ b. b && isEnd (tailOf c)) (eq-eqb i i refl) ∙ e
+
+quiet-repeat : (single b : Bool) → b ≡ single → quiet single true (numberOf (passed (pick b wrongTransfer noTransfer))) ≡ true
+quiet-repeat true b e = rw e
+quiet-repeat false b e = rw e
 
 -- closed: the transfer's ID is behind the expected one, so each repeat is passed over
 module _ (u : Setup) (i id t since : ℕ) (small : t < 32) where
@@ -248,16 +281,19 @@ module _ (u : Setup) (i id t since : ℕ) (small : t < 32) where
       → react idle v ≡ record { answer = passed (pick (v .start) wrongTransfer noTransfer); session = idle }
   idle-passes v n e h = react-passed idle v (pick (v .start) wrongTransfer noTransfer) (no-restart idle v h (rw e (omega arith))) (idle-over v n e)
 
-  idle-run : (c : List ℕ) (g : Bool) → Copy u i id t g c
-      → (more : List (List ℕ)) (fs : List Arrival) → more ≡ [] → Then i id (since + switchDelay) c more fs → closings (refRun u idle fs) ≡ []
+  -- each repeat of a frame c is a start, or none is
+  idle-run : (v : Answer) (single : Bool) (c : List ℕ) (g : Bool) → Copy u i id t g c
+      → ((x : ℕ) → parsed u (arrivalAt i id c x) .start ≡ single)
+      → (more : List (List ℕ)) (fs : List Arrival) → more ≡ [] → Then i id (since + switchDelay) c more fs → Goes i v single true fs (refRun u idle fs)
   unfolding refRun
-  idle-run c g k more fs e none-left = refl
-  idle-run c g k more fs e (repeated x h b) =
+  idle-run v single c g k st more fs e none-left = over-now
+  idle-run v single c g k st more fs e (repeated x h b) =
       rw (ref-is u i id t small c x idle (parsed u (arrivalAt i id c x)) (k .ok x) refl
       ∙ idle-passes (parsed u (arrivalAt i id c x)) (parsed-interface u i id c x) (k .transfer x) (rw (parsed-time u i id c x) h))
-      (idle-run c g k more _ e b)
-  idle-run c g k more fs e (astray {fs = gs} a n h b) = other-run u idle a gs n h ∙ idle-run c g k more _ e b
-  idle-run c g k more fs e (moved x h b) = absurd (nil≢cons (sym e))
+      (goes-on (arrivalAt i id c x) _ (λ z. absurd (true≢false z)) (quiet-repeat single (parsed u (arrivalAt i id c x) .start) (st x))
+      (idle-run v single c g k st more _ e b))
+  idle-run v single c g k st more fs e (astray {fs = gs} a n h b) = other-run u idle v single true a gs n h (idle-run v single c g k st more _ e b)
+  idle-run v single c g k st more fs e (moved x h b) = absurd (nil≢cons (sym e))
 
 same-not : (g : Bool) → sameBool (not g) g ≡ false
 same-not true = refl
@@ -278,12 +314,6 @@ unfolding closing
 same-closing true ok all v w p q r = λ i. handed all (p i) (q i) (r i)
 same-closing false true all v w p q r = λ i. handed (drop 2 all) (p i) (q i) (r i)
 same-closing false false all v w p q r = refl
-
-closing-kept : (b ok : Bool) (all : List ℕ) (v : Parsed) (l : List Answer) → closings (closing b ok all v ∷ l) ≡ closing b ok all v ∷ closings l
-unfolding closing
-closing-kept true ok all v l = refl
-closing-kept false true all v l = refl
-closing-kept false false all v l = refl
 
 -- the answer that closes frames of an ID that carry `all`: alone, or by the checksum in front
 abbrev pub verdict : Setup → ℕ → ℕ → List ℕ → Bool → Answer
@@ -334,9 +364,6 @@ module _ (u : Setup) (f : Arrival) (ok : Accepted u f) (named : isAnonymous (f .
   closes-as single l g x xs =
       same-closing single (sumOk (orZero (signatureFor u (f .frame .id))) all) all (seen u (f .interface) (f .frame .id) t x single l g xs) (seen u 0 (f .frame .id) t 0 true true false all) refl refl refl
 
-  verdict-kept : (single : Bool) (l : List Answer) → closings (verdict u (f .frame .id) t all single ∷ l) ≡ verdict u (f .frame .id) t all single ∷ closings l
-  verdict-kept single l = closing-kept single (sumOk (orZero (signatureFor u (f .frame .id))) all) all (seen u 0 (f .frame .id) t 0 true true false all) l
-
   -- the last frame, of several
   closes : (a rest : List ℕ) (g : Bool) (x : ℕ) → isEmpty a ≡ false → a ++ rest ≡ all → x ≤ till
       → react (gathering a g) (seen u (f .interface) (f .frame .id) t x false true g rest) ≡ record { answer = verdict u (f .frame .id) t all false; session = idle u (f .interface) (f .frame .id) t (f .frame .time) small }
@@ -346,20 +373,21 @@ module _ (u : Setup) (f : Arrival) (ok : Accepted u f) (named : isAnonymous (f .
       ∙ rw e (ap (λ (w : Answer). record { answer = w; session = idle u (f .interface) (f .frame .id) t (f .frame .time) small }) (closes-as false true g x rest))
 
   -- one that is not the last
-  goes-on : (a rest : List ℕ) (g : Bool) (x : ℕ) → isEmpty a ≡ false → a ++ rest ≡ all → x ≤ till
+  takes-one : (a rest : List ℕ) (g : Bool) (x : ℕ) → isEmpty a ≡ false → a ++ rest ≡ all → x ≤ till
       → react (gathering a g) (seen u (f .interface) (f .frame .id) t x false false g (take 7 rest)) ≡ record { answer = taken; session = gathering (a ++ take 7 rest) (not g) }
   unfolding takeEnd
-  goes-on a rest g x n e h =
+  takes-one a rest g x n e h =
       next-taken a (take 7 rest) g false x n
       (simp (length-append, length-take) (omega (arith, most, simp length-append at (ap length e)))) h
 
-  -- `a` is in hand, `rest` is to come in n full frames and a last one, and of the frame c taken last only copies may come before the next
+  -- `a` is in hand, `rest` is to come in n full frames and a last one, and of the frame c taken last, no end, only copies may come before the next
   abbrev ToCome : ℕ → Bool → List ℕ → List ℕ → List ℕ → Type 0
   ToCome n g a rest c =
-      (isEmpty a ≡ false) × (a ++ rest ≡ all) × (7 * n < length rest) × (length rest ≤ 7 * n + 7) × Copy u (f .interface) (f .frame .id) t (not g) c
+      (isEmpty a ≡ false) × (a ++ rest ≡ all) × (7 * n < length rest) × (length rest ≤ 7 * n + 7)
+      × Copy u (f .interface) (f .frame .id) t (not g) c × (isEnd (tailOf c) ≡ false)
 
   abbrev Goal : Bool → List ℕ → List Arrival → Type 0
-  Goal g a fs = closings (refRun u (gathering a g) fs) ≡ verdict u (f .frame .id) t all false ∷ []
+  Goal g a fs = Goes (f .interface) (verdict u (f .frame .id) t all false) false false fs (refRun u (gathering a g) fs)
 
   last-frame : (g : Bool) (a rest c d : List ℕ) (ms : List (List ℕ)) (gs : List Arrival) (x : ℕ) → x ≤ till → ToCome 0 g a rest c
       → d ∷ ms ≡ pieces 0 false g t rest → Then (f .interface) (f .frame .id) till d ms gs → Goal g a (arrivalAt (f .interface) (f .frame .id) d x ∷ gs)
@@ -372,8 +400,10 @@ module _ (u : Setup) (f : Arrival) (ok : Accepted u f) (named : isAnonymous (f .
       ∙ ref-is u (f .interface) (f .frame .id) t small (framed rest (tailByte false true g t)) x (gathering a g) (seen u (f .interface) (f .frame .id) t x false true g rest) (cp .ok x)
       (sees u (f .interface) (f .frame .id) t small false true g rest x)
       ∙ closes a rest g x (w .0) (w .1) h in
-      rw q (verdict-kept false (refRun u (idle u (f .interface) (f .frame .id) t (f .frame .time) small) gs)
-      ∙ ap (λ l. verdict u (f .frame .id) t all false ∷ l) (idle-run u (f .interface) (f .frame .id) t (f .frame .time) small d g (rw ed cp) ms gs (tail-eq-of-cons-eq e) b))
+      rw q
+      (closes-by (arrivalAt (f .interface) (f .frame .id) d x) (end-by (f .interface) (f .frame .id) d x true (rw ed (framed-end false true g t small rest)))
+      (idle-run u (f .interface) (f .frame .id) t (f .frame .time) small (verdict u (f .frame .id) t all false) false d g (rw ed cp)
+      (λ y. rw ed (ap (λ v. v .start) (sees u (f .interface) (f .frame .id) t small false true g rest y))) ms gs (tail-eq-of-cons-eq e) b))
 
   full-frame : (n : ℕ) (g : Bool) (a rest c d : List ℕ) (ms : List (List ℕ)) (gs : List Arrival) (x : ℕ) → x ≤ till → ToCome (suc n) g a rest c
       → d ∷ ms ≡ pieces (suc n) false g t rest
@@ -388,16 +418,19 @@ module _ (u : Setup) (f : Arrival) (ok : Accepted u f) (named : isAnonymous (f .
       ap (λ y. ref u (gathering a g) (arrivalAt (f .interface) (f .frame .id) y x)) ed
       ∙ ref-is u (f .interface) (f .frame .id) t small (framed (take 7 rest) (tailByte false false g t)) x (gathering a g) (seen u (f .interface) (f .frame .id) t x false false g (take 7 rest)) (cp .ok x)
       (sees u (f .interface) (f .frame .id) t small false false g (take 7 rest) x)
-      ∙ goes-on a rest g x (w .0) (w .1) h in
+      ∙ takes-one a rest g x (w .0) (w .1) h in
+      let no-end : isEnd (tailOf d) ≡ false = rw ed (framed-end false false g t small (take 7 rest)) in
       rw q
+      (goes-on (arrivalAt (f .interface) (f .frame .id) d x) taken (λ z. end-by (f .interface) (f .frame .id) d x false no-end) refl
       (go (
         append-hand a (take 7 rest) (w .0),
         append-assoc a (take 7 rest) (drop 7 rest) ∙ ap (λ l. a ++ l) (take-append-drop 7 rest) ∙ w .1,
         simp length-drop (omega arith),
         simp length-drop (omega arith),
         rw (ed, Bool·not-not g) cp,
+        no-end,
       )
-      (tail-eq-of-cons-eq e))
+      (tail-eq-of-cons-eq e)))
 
   next-frame : (n : ℕ) (g : Bool) (a rest c d : List ℕ) (ms : List (List ℕ)) (gs : List Arrival) (x : ℕ) → x ≤ till → ToCome n g a rest c
       → d ∷ ms ≡ pieces n false g t rest → Then (f .interface) (f .frame .id) till d ms gs
@@ -406,6 +439,10 @@ module _ (u : Setup) (f : Arrival) (ok : Accepted u f) (named : isAnonymous (f .
   next-frame zero g a rest c d ms gs x h w e b go = last-frame g a rest c d ms gs x h w e b
   next-frame (suc n) g a rest c d ms gs x h w e b go = full-frame n g a rest c d ms gs x h w e (go n (not g) (a ++ take 7 rest) (drop 7 rest))
 
+  quiet-again : (b : Bool) → quiet false false (numberOf (passed (pick b repeatedStart wrongToggle))) ≡ true
+  quiet-again true = refl
+  quiet-again false = refl
+
   run-on : (c : List ℕ) (more : List (List ℕ)) (fs : List Arrival) → Then (f .interface) (f .frame .id) till c more fs
       → (n : ℕ) (g : Bool) (a rest : List ℕ) → ToCome n g a rest c → more ≡ pieces n false g t rest → Goal g a fs
   unfolding refRun
@@ -413,8 +450,10 @@ module _ (u : Setup) (f : Arrival) (ok : Accepted u f) (named : isAnonymous (f .
   run-on c more fs (repeated x h b) n g a rest w e =
       rw (ref-is u (f .interface) (f .frame .id) t small c x (gathering a g) (parsed u (arrivalAt (f .interface) (f .frame .id) c x)) (w .4 .ok x) refl
       ∙ repeat-passed a g (parsed u (arrivalAt (f .interface) (f .frame .id) c x)) (parsed-interface u (f .interface) (f .frame .id) c x) (w .0) (w .4 .transfer x) (w .4 .toggle x) (rw (parsed-time u (f .interface) (f .frame .id) c x) h))
-      (run-on c more _ b n g a rest w e)
-  run-on c more fs (astray {fs = gs} y n' h b) n g a rest w e = other-run u (gathering a g) y gs n' h ∙ run-on c more _ b n g a rest w e
+      (goes-on (arrivalAt (f .interface) (f .frame .id) c x) _ (λ z. end-by (f .interface) (f .frame .id) c x false (w .5))
+      (quiet-again (parsed u (arrivalAt (f .interface) (f .frame .id) c x) .start)) (run-on c more _ b n g a rest w e))
+  run-on c more fs (astray {fs = gs} y n' h b) n g a rest w e =
+      other-run u (gathering a g) (verdict u (f .frame .id) t all false) false false y gs n' h (run-on c more _ b n g a rest w e)
   run-on c more fs (moved {n = d} {more = ms} {fs = gs} x h b) n g a rest w e =
       next-frame n g a rest c d ms gs x h w e b (λ n' g' a' rest' w' e'. run-on d ms gs b n' g' a' rest' w' e')
 
@@ -442,14 +481,22 @@ module _ (u : Setup) (f : Arrival) (ok : Accepted u f) (named : isAnonymous (f .
         ∙ ap (λ c. takeLong c (fresh (seen u (f .interface) (f .frame .id) t (f .frame .time) true l false xs)) (seen u (f .interface) (f .frame .id) t (f .frame .time) true l false xs) xs)
         (le-ltb 514 (length xs) (omega arith))
 
+  abbrev Answered : Bool → List Arrival → Type 0
+  Answered single fs = Goes (f .interface) (verdict u (f .frame .id) t all single) single false (f ∷ fs) (first .answer ∷ refRun u (first .session) fs)
+
+  first-end : (l : Bool) (xs : List ℕ) → f .frame .bytes ≡ framed xs (tailByte true l false t) → endBy (f .interface) f ≡ l
+  first-end l xs e =
+      ap (λ b. b && isEnd (tailOf (f .frame .bytes))) (eq-eqb (f .interface) (f .interface) refl) ∙ ap (λ c. isEnd (tailOf c)) e ∙ framed-end true l false t small xs
+
   -- one frame, and its repeats
   alone : (fs : List Arrival) (more : List (List ℕ)) → length all ≤ 7 → f .frame .bytes ≡ framed all (tailByte true true false t) → more ≡ []
-      → Then (f .interface) (f .frame .id) till (f .frame .bytes) more fs → closings (first .answer ∷ refRun u (first .session) fs) ≡ verdict u (f .frame .id) t all true ∷ []
+      → Then (f .interface) (f .frame .id) till (f .frame .bytes) more fs → Answered true fs
   unfolding takeEnd
   alone fs more h e m b =
       rw (first-is true all e h, closes-as true true false (f .frame .time) all)
-      (verdict-kept true (refRun u (idle u (f .interface) (f .frame .id) t (f .frame .time) small) fs)
-      ∙ ap (λ l. verdict u (f .frame .id) t all true ∷ l) (idle-run u (f .interface) (f .frame .id) t (f .frame .time) small (f .frame .bytes) false (first-copy true all e) more fs m b))
+      (closes-by f (first-end true all e)
+      (idle-run u (f .interface) (f .frame .id) t (f .frame .time) small (verdict u (f .frame .id) t all true) true (f .frame .bytes) false (first-copy true all e)
+      (λ y. ap (λ v. v .start) (first-seen true all e y)) more fs m b))
 
   take-hand : (l : List ℕ) → 7 < length l → isEmpty (take 7 l) ≡ false
   take-hand [] h = absurd (omega arith)
@@ -458,21 +505,28 @@ module _ (u : Setup) (f : Arrival) (ok : Accepted u f) (named : isAnonymous (f .
   -- several frames
   several : (n : ℕ) (fs : List Arrival) (more : List (List ℕ)) → fulls all ≡ suc n → f .frame .bytes ≡ framed (take 7 all) (tailByte true false false t)
       → more ≡ pieces n false true t (drop 7 all) → Then (f .interface) (f .frame .id) till (f .frame .bytes) more fs
-      → closings (first .answer ∷ refRun u (first .session) fs) ≡ verdict u (f .frame .id) t all false ∷ []
+      → Answered false fs
   unfolding takeEnd
   several n fs more h e m b =
       let s : 7 < length all = omega arith in
       rw (first-is false (take 7 all) e (simp length-take (omega arith)))
-      (run-on (f .frame .bytes) more fs b n true (take 7 all) (drop 7 all)
-      (take-hand all s, take-append-drop 7 all, simp length-drop (omega arith), simp length-drop (omega arith), first-copy false (take 7 all) e) m)
+      (goes-on f taken (λ z. first-end false (take 7 all) e) refl
+      (run-on (f .frame .bytes) more fs b n true (take 7 all) (drop 7 all) (
+        take-hand all s,
+        take-append-drop 7 all,
+        simp length-drop (omega arith),
+        simp length-drop (omega arith),
+        first-copy false (take 7 all) e,
+        ap (λ c. isEnd (tailOf c)) e ∙ framed-end true false false t small (take 7 all),
+      ) m))
 
   pub closes-once : (fs : List Arrival) → Brings (f .interface) (f .frame .id) till (carrying t all) (f ∷ fs)
-      → closings (first .answer ∷ refRun u (first .session) fs) ≡ verdict u (f .frame .id) t all (leb (length all) 7) ∷ []
+      → Answered (leb (length all) 7) fs
   unfolding carrying pieces
   closes-once fs b = go (fulls all) refl b
     where
       go : (n : ℕ) → fulls all ≡ n → Brings (f .interface) (f .frame .id) till (pieces n true false t all) (f ∷ fs)
-          → closings (first .answer ∷ refRun u (first .session) fs) ≡ verdict u (f .frame .id) t all (leb (length all) 7) ∷ []
+          → Answered (leb (length all) 7) fs
       go zero e b =
           let o = opened (eq-eqb (f .interface) (f .interface) refl) b in
           let s : length all ≤ 7 = omega arith in

@@ -1,6 +1,7 @@
--- The cases of specs/Example.antt, specs/WhyPremises.antt and specs/Interfaces.antt, by computing; the example's claim follows by condition 3.
+-- The cases of specs/Example.antt, specs/DamageExample.antt, specs/WhyPremises.antt and specs/Interfaces.antt, by computing; the examples' claims follow by the
+-- theorems.
 use mathlib.Core.Path.{_≡_, refl, sym, ap, subst}
-use mathlib.Core.Bool.{Bool, true, false}
+use mathlib.Core.Bool.{Bool, true, false, true≢false}
 use mathlib.Core.List.{List, [], _∷_}
 use mathlib.Core.Option.{some}
 use Prim.Native.Nat.{ℕ, _+_}
@@ -8,22 +9,29 @@ use native.Mathlib.Omega.{arith}
 use borrow.Author.Tests.{ltb-true, leb-true, eqb-true}
 use lib.ListN.{length, getD}
 use Rattle.bits.specs.Little.{leBytes}
+use Rattle.bits.specs.Order.{digits, unpack}
+use Rattle.checksum.proofs.Damage.{burst-by-test}
 use Rattle.checksum.specs.Crc.{shift, shifts, crcByte, crcOver}
 use Rattle.checksum.specs.Crc16.{checksum}
+use Rattle.checksum.specs.Damage.{burstMax}
 use Rattle.rules.specs.Check.{parsed, frameCheck, check}
 use Rattle.rules.specs.Condition3.{framesWith, answersTo, upTo, frames, Premises, While, Brings, done, next, again, beside, Transfer, fromSetup, lent, heard, rulesTable}
 use Rattle.rules.specs.Example.{setup, stream, payload, one, three, frame, copied, start, crowd, earlier, spacious, crowded, Example}
+use Rattle.rules.specs.Damage.{Opens, Damaged}
+use Rattle.rules.specs.DamageExample.{altered, damaged, unseen, DamageExample}
 use Rattle.rules.specs.Frame.{sameStream, streamOf}
 use Rattle.rules.specs.Interfaces.{Interfaces}
 use Rattle.rules.specs.Limits.{switchDelay}
 use Rattle.rules.specs.Reception.{stepNew, stepStart, stepSeek, stepAnonymous, stepChecked, step, after, run}
 use Rattle.rules.specs.Sent.{tailByte, framed, pieces, carrying, carried, sent, idOf}
+use Rattle.rules.specs.SentLaws.{joined}
 use Rattle.rules.specs.Session.{restarts, over, closing, takeEnd, takeLong, takes, proceedIf, proceed, restarted, met, react}
 use Rattle.rules.specs.Setup.{subscribed, signatureFor}
 use Rattle.rules.specs.Sound.{streamFits, sessionFits, sound}
 use Rattle.rules.specs.Table.{seek, placeFor}
 use Rattle.rules.specs.WhyPremises.{tests, all, agreed, Sent, Tests, unnamed, twice, hearing, long, degrees, inOrder, handedOut, WhyPremises}
 use Rattle.rules.proofs.Arrivals.{opening, frames-each, brings-each}
+use Rattle.rules.proofs.Caught.{burst-caught}
 use Rattle.rules.proofs.Lift.{free}
 use Rattle.rules.proofs.Theorem.{theorem}
 
@@ -54,6 +62,48 @@ example =
           fields = (omega arith, omega arith);
           signature = 0x0123456789ABCDEF;
           subscribed = refl;
+          brings =
+              again 10000000 (omega arith)
+              (beside (copied one 10000000 .arrival) refl (omega arith)
+              (next 10000001 (omega arith)
+              (again 10001000 (omega arith)
+              (beside (copied three 10001000 .arrival) refl (omega arith)
+              (next 10002000 (omega arith)
+              (again 10999999 (omega arith) (next 11000000 (omega arith) (beside (copied one 11000000 .arrival) refl (omega arith) done))))))));
+        }
+
+-- ── a burst ──
+
+pub damage-example : DamageExample
+unfolding sound streamFits sessionFits framesWith answersTo upTo after step stepChecked stepAnonymous stepSeek stepStart stepNew seek placeFor check frameCheck parsed streamOf sameStream subscribed react met restarted restarts proceed proceedIf over takes takeLong takeEnd closing idOf sent carrying carried pieces joined checksum crcOver crcByte shifts shift leBytes unpack digits
+damage-example =
+    record {
+      opens = opens;
+      arrives = arrives;
+      while = while;
+      caught = burst-caught setup stream damaged opens 16 5 payload altered arrives while;
+      numbers = refl;
+      limit = (burst-by-test (burstMax + 1) payload unseen 39 39 refl (λ e. true≢false (sym e)) tt, refl);
+    }
+  where
+    opens : Opens (rulesTable setup) stream damaged
+    opens = record { past = heard fromSetup earlier; typed = free setup (damaged .start ∷ damaged .list); named = omega arith; start = refl; take = refl }
+
+    while : While (rulesTable setup) stream 8 damaged
+    while = record { time = refl; room = refl; table = refl }
+
+    arrives : Damaged setup stream (damaged .start .arrival) (frames (rulesTable setup) stream damaged) 16 5 payload altered
+    arrives =
+        record {
+          size = (omega arith, omega arith);
+          fields = (omega arith, omega arith);
+          signature = 0x0123456789ABCDEF;
+          subscribed = refl;
+          arriving = _;
+          tails = refl;
+          lengths = refl;
+          carried = refl;
+          burst = burst-by-test burstMax payload altered 32 32 refl (λ e. true≢false (sym e)) tt;
           brings =
               again 10000000 (omega arith)
               (beside (copied one 10000000 .arrival) refl (omega arith)

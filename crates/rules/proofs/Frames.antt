@@ -1,16 +1,16 @@
 -- The frames that carry bytes: how many, what the n-th is, and what a front part of them is.
-use mathlib.Core.Path.{_≡_, refl, ap, _∙_}
+use mathlib.Core.Path.{_≡_, refl, sym, ap, ap₂, _∙_}
 use mathlib.Core.Bool.{Bool, true, false, not, _&&_, and-true, and-false, Bool·not-not}
-use mathlib.Core.List.{List, [], _∷_, append-nil}
+use mathlib.Core.List.{List, [], _∷_, _++_, map, append-nil, nil≢cons, cons≢nil, head-eq-of-cons-eq, tail-eq-of-cons-eq}
 use Prim.Native.Nat.{ℕ, zero, suc, _+_, _*_, _-_, _/_, _%_, _≤_, _<_}
 use native.Mathlib.Nat.{zero-add, suc-add}
 use native.Mathlib.Omega.{arith}
 use lib.Dec.{eqb, eqb·zero-suc, eqb·suc-zero, eqb·suc-suc}
 use lib.ListN.{length, getD, take, drop, length-append, length-take, length-drop, take-append-drop}
-use lib.Seq.{getD-at, take-at, take-all, take-take, take-nil, drop-drop}
+use lib.Seq.{getD-at, take-at, drop-at, take-all, take-take, take-nil, drop-drop, drop-cons, drop-length, length-take-le}
 use borrow.Author.Tests.{eqb-true, eqb-false, le-leb, lt-leb}
 use Rattle.rules.specs.Frame.{tailOf, payloadOf}
-use Rattle.rules.specs.Sent.{tailByte, framed, pieces, carrying, withSum, carried, sent}
+use Rattle.rules.specs.Sent.{tailByte, framed, pieces, carrying, summed, withSum, carried, sent}
 use Rattle.rules.specs.SentLaws.{joined, opening, SentLaws}
 use Rattle.rules.specs.Tests.{pick}
 
@@ -24,6 +24,16 @@ framed-tail xs b = getD-at xs b [] 0 (length (framed xs b) - 1) (omega (arith, f
 
 pub framed-payload : (xs : List ℕ) (b : ℕ) → payloadOf (framed xs b) ≡ xs
 framed-payload xs b = take-at xs (b ∷ []) (length (framed xs b) - 1) (omega (arith, framed-length xs b))
+
+-- a frame is its payload and its tail
+framed-back : (c : List ℕ) → 1 ≤ length c → c ≡ framed (payloadOf c) (tailOf c)
+framed-back c h =
+    let e : suc (length c - 1) ≡ length c = omega arith in
+    sym (take-append-drop (length c - 1) c)
+    ∙ ap (λ l. payloadOf c ++ l) (drop-cons c (length c - 1) 0 (omega arith) ∙ ap (λ l. tailOf c ∷ l) (ap (λ n. drop n c) e ∙ drop-length c))
+
+payload-length : (c : List ℕ) (n : ℕ) → length c ≡ n + 1 → length (payloadOf c) ≡ n
+payload-length c n e = length-take-le (length c - 1) c (omega arith) ∙ omega arith
 
 -- ── several ──
 
@@ -64,6 +74,36 @@ unfolding pieces joined
 pieces-joined zero s g t xs = append-nil (payloadOf (framed xs (tailByte s true g t))) ∙ framed-payload xs (tailByte s true g t)
 pieces-joined (suc n) s g t xs =
     rw (framed-payload (take 7 xs) (tailByte s false g t), pieces-joined n false (not g) t (drop 7 xs)) (take-append-drop 7 xs)
+
+joined-length : (cs ds : List (List ℕ)) → map length cs ≡ map length ds → length (joined cs) ≡ length (joined ds)
+unfolding joined
+joined-length [] [] e = refl
+joined-length [] (d ∷ ds) e = absurd (nil≢cons e)
+joined-length (c ∷ cs) [] e = absurd (cons≢nil e)
+joined-length (c ∷ cs) (d ∷ ds) e =
+    let h : length c ≡ length d = head-eq-of-cons-eq e in
+    simp (length-append, length-take) (omega (arith, joined-length cs ds (tail-eq-of-cons-eq e)))
+
+-- frames that have the tails and the lengths of such frames are those that carry what they carry together
+pieces-known : (n : ℕ) (s g : Bool) (t : ℕ) (xs : List ℕ) (cs : List (List ℕ)) → 7 * n ≤ length xs
+    → map tailOf cs ≡ map tailOf (pieces n s g t xs) → map length cs ≡ map length (pieces n s g t xs) → cs ≡ pieces n s g t (joined cs)
+unfolding pieces joined
+pieces-known zero s g t xs [] h a b = absurd (nil≢cons a)
+pieces-known (suc n) s g t xs [] h a b = absurd (nil≢cons a)
+pieces-known zero s g t xs (c ∷ d ∷ cs) h a b = absurd (cons≢nil (tail-eq-of-cons-eq a))
+pieces-known zero s g t xs (c ∷ []) h a b =
+    let l : length c ≡ length xs + 1 = head-eq-of-cons-eq b ∙ framed-length xs (tailByte s true g t) in
+    let e : tailOf c ≡ tailByte s true g t = head-eq-of-cons-eq a ∙ framed-tail xs (tailByte s true g t) in
+    ap (λ x. x ∷ []) (framed-back c (omega arith) ∙ ap₂ framed (sym (append-nil (payloadOf c))) e)
+pieces-known (suc n) s g t xs (c ∷ cs) h a b =
+    let k : length (take 7 xs) ≡ 7 = length-take-le 7 xs (omega arith) in
+    let l : length c ≡ 7 + 1 = head-eq-of-cons-eq b ∙ framed-length (take 7 xs) (tailByte s false g t) ∙ ap (λ m. m + 1) k in
+    let e : tailOf c ≡ tailByte s false g t = head-eq-of-cons-eq a ∙ framed-tail (take 7 xs) (tailByte s false g t) in
+    let m : length (payloadOf c) ≡ 7 = payload-length c 7 l in
+    ap₂ (λ (x : List ℕ) (l : List (List ℕ)). x ∷ l)
+    (framed-back c (omega arith) ∙ ap₂ framed (sym (take-at (payloadOf c) (joined cs) 7 m)) e)
+    (pieces-known n false (not g) t (drop 7 xs) cs (simp length-drop (omega arith)) (tail-eq-of-cons-eq a) (tail-eq-of-cons-eq b)
+    ∙ ap (pieces n false (not g) t) (sym (drop-at (payloadOf c) (joined cs) 7 m)))
 
 pieces-front : (n : ℕ) (s g : Bool) (t : ℕ) (xs : List ℕ) (k : ℕ) → k ≤ n → take k (pieces n s g t xs) ≡ opening k s g t xs
 unfolding pieces opening
@@ -148,3 +188,17 @@ sent-laws =
       whole = λ signature t p. pieces-joined (fulls (carried signature p)) true false t (carried signature p);
       front = λ signature t p n h. carrying-front t (carried signature p) n h;
     }
+
+-- frames that have the tails and the lengths of a payload's, and carry bytes that begin with some checksum
+pub frames-known : (signature t : ℕ) (p : List ℕ) (cs : List (List ℕ)) (c : ℕ) (q : List ℕ) → 7 < length p → map tailOf cs ≡ map tailOf (sent signature t p)
+    → map length cs ≡ map length (sent signature t p) → joined cs ≡ summed c q → (length p ≡ length q) × (cs ≡ carrying t (summed c q))
+unfolding sent carrying
+frames-known signature t p cs c q h a b e =
+    let xs = carried signature p in
+    let l : length (summed c q) ≡ length (withSum signature p) =
+    ap length (sym e) ∙ joined-length cs (sent signature t p) b ∙ ap length (pieces-joined (fulls xs) true false t xs ∙ carried-long signature p h) in
+    let m : length xs ≡ length (summed c q) = ap length (carried-long signature p h) ∙ sym l in (
+      omega arith,
+      pieces-known (fulls xs) true false t xs cs (omega arith) a b
+          ∙ ap₂ (λ (n : ℕ) (ys : List ℕ). pieces n true false t ys) (ap (λ (k : ℕ). (k - 1) / 7) m) e,
+    )

@@ -1,5 +1,6 @@
 pub mod Arrivals
 pub mod Calls
+pub mod Caught
 pub mod Checks
 pub mod Delivered
 pub mod Delivery

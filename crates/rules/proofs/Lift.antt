@@ -1,14 +1,15 @@
--- From the rules to a machine of code: one that answers and moves as `step` does, through the table that its state stands for, meets condition 3 as the
--- rules' table does.
+-- From the rules to a machine of code: of one that answers and moves as `step` does, through the table that its state stands for, condition 3 holds, and
+-- bursts are caught, as of the rules' table.
 use mathlib.Core.Path.{_≡_, refl, sym, ap, ap₂, _∙_, subst}
 use mathlib.Core.Bool.{Bool, true, false, not, _&&_}
-use mathlib.Core.List.{List, [], _∷_, map}
+use mathlib.Core.List.{List, [], _∷_, _++_, map, map-append}
 use Prim.Native.Nat.{ℕ, zero, suc}
 use lib.Dec.{leb, eqb}
 use lib.ListN.{length, take}
-use Rattle.rules.specs.Answer.{Answer, handed, numberOf}
+use Rattle.rules.specs.Answer.{Answer, handed, differs, numberOf}
 use Rattle.rules.specs.Check.{Reception}
 use Rattle.rules.specs.Condition3.{Machine, ofStream, startOf, took, keep, All, arrivalOf, frameOf, framesWith, answersTo, upTo, Receiver, startFrame, frames, answers, tookStart, Premises, forward, roomy, never, front, While, Transfer, handouts, Claim, Condition3, Past, rulesTable}
+use Rattle.rules.specs.Damage.{Opens, Damaged, endAt, beforeEnd, afterEnd, Caught, BurstIsCaught}
 use Rattle.rules.specs.Frame.{Frame, Stream}
 use Rattle.rules.specs.Limits.{payloadMax}
 use Rattle.rules.specs.Range.{Ranged}
@@ -16,6 +17,7 @@ use Rattle.rules.specs.Reception.{step}
 use Rattle.rules.specs.Setup.{Setup}
 use Rattle.rules.specs.Table.{Places}
 use Rattle.rules.specs.Tests.{pick}
+use Rattle.rules.proofs.Caught.{burst-caught}
 use Rattle.rules.proofs.Ranges.{ranges}
 use Rattle.rules.proofs.Theorem.{theorem}
 
@@ -23,6 +25,10 @@ use Rattle.rules.proofs.Theorem.{theorem}
 pub free : (u : Setup) (l : List Reception) → All (rulesTable u .Typed) l
 free u [] = tt
 free u (r ∷ rs) = (tt, free u rs)
+
+ranged-parts : (l k : List Answer) → All Ranged (l ++ k) → All Ranged l × All Ranged k
+ranged-parts [] k h = (tt, h)
+ranged-parts (a ∷ l) k h = let r = ranged-parts l k (h .1) in ((h .0, r .0), r .1)
 
 -- the view that shows the rules' table in the states of a machine
 pub record View (u : Setup) (M : Machine) : Type 0 where
@@ -77,6 +83,10 @@ module _ (u : Setup) (M : Machine) where
   keep-map true a l = refl
   keep-map false a l = refl
 
+  shown-length : (l : List Answer) → length (map (M .shows) l) ≡ length l
+  shown-length [] = refl
+  shown-length (a ∷ l) = ap suc (shown-length l)
+
   take-map : (k : ℕ) (l : List Answer) → take k (map (M .shows) l) ≡ map (M .shows) (take k l)
   take-map zero l = refl
   take-map (suc k) [] = refl
@@ -121,8 +131,8 @@ module _ (u : Setup) (M : Machine) where
           let r = M .reception (x .start) in
           ap (λ a. took (M .number a)) (v .says (x .state) (x .start) p (h .0)) ∙ ap took (v .numbers (step u ps r .answer) (ranges u ps r))
 
-      handouts-of : (a : Answer) → handouts (rulesTable u) (answers (rulesTable u) d (viewOf x)) ≡ a ∷ [] → handouts M (answers M d x) ≡ M .shows a ∷ []
-      handouts-of a e =
+      handouts-of : (l : List Answer) → handouts (rulesTable u) (answers (rulesTable u) d (viewOf x)) ≡ l → handouts M (answers M d x) ≡ map (M .shows) l
+      handouts-of l e =
           let y = viewOf x in
           ap (handouts M) answers-of ∙ handouts-map (answers (rulesTable u) d y) (all-ranged (ofStream d) (y .state) (y .start ∷ y .list)) ∙ ap (map (M .shows)) e
 
@@ -198,7 +208,40 @@ module _ (u : Setup) (M : Machine) where
                 let q = c .delivered priority t p (subst (λ fs. Transfer u d (startFrame M x) fs priority t p) fx tr)
                 (subst (λ fs. While (rulesTable u) d (length fs) (viewOf x)) fx (while-is d x px tx (length (frames M d x)) a))
                 (subst (λ fs. While (rulesTable u) d (length fs) (viewOf y)) fy (while-is d y py ty (length (frames M d y)) b)) in
-                (handouts-of d x px tx (handed p d priority t) (q .0), handouts-of d y py ty (handed p d priority t) (q .1));
+                (handouts-of d x px tx (handed p d priority t ∷ []) (q .0), handouts-of d y py ty (handed p d priority t ∷ []) (q .1));
+          }
+
+    -- ── one, a burst (RULES 14.18) ──
+
+    module _ (d : Stream) (x : Receiver M) (o : Opens M d x) where
+      abbrev y : Receiver (rulesTable u)
+      y = viewOf x
+
+      opens-are : Opens (rulesTable u) d y
+      opens-are =
+          record {
+            past = v .past (x .state) (o .past);
+            typed = free u (y .start ∷ y .list);
+            named = o .named;
+            start = o .start;
+            take = sym (took-is d x (o .past) (o .typed)) ∙ o .take;
+          }
+
+      numbered : (t : ℕ → Bool) (l : List Answer) → All Ranged l → All (λ a. t (numberOf a) ≡ true) l → All (λ a. t (M .number a) ≡ true) (map (M .shows) l)
+      numbered t [] h k = tt
+      numbered t (a ∷ l) h k = (ap t (v .numbers a (h .0)) ∙ k .0, numbered t l (h .1) (k .1))
+
+      caught-back : Caught (rulesTable u) d y → Caught M d x
+      caught-back c =
+          let r = ranged-parts (c .before) (differs ∷ c .after) (subst (All Ranged) (c .parts) (all-ranged (ofStream d) (y .state) (y .start ∷ y .list))) in
+          record {
+            before = map (M .shows) (c .before);
+            after = map (M .shows) (c .after);
+            parts = answers-of d x (o .past) (o .typed) ∙ ap (map (M .shows)) (c .parts) ∙ map-append (M .shows) (c .before) (differs ∷ c .after);
+            end = shown-length (c .before) ∙ c .end ∙ ap (λ fs. endAt (startFrame M x .interface) (startFrame M x ∷ fs)) (sym (frames-are (ofStream d) (x .list)));
+            number = v .numbers differs tt;
+            silent = handouts-of d x (o .past) (o .typed) [] (c .silent);
+            others = (numbered beforeEnd (c .before) (r .0) (c .others .0), numbered afterEnd (c .after) (r .1 .1) (c .others .1));
           }
 
 pub lifted : (machine : Setup → Machine) → ((u : Setup) → View u (machine u)) → Condition3 machine
@@ -206,3 +249,12 @@ lifted machine views u d x y h =
     let M = machine u in
     let v = views u in
     claim-back u M v d x y h (theorem u d (viewOf u M v x) (viewOf u M v y) (premises-are u M v d x y h))
+
+pub lifted-burst : (machine : Setup → Machine) → ((u : Setup) → View u (machine u)) → BurstIsCaught machine
+lifted-burst machine views u d x o priority t p q dm w =
+    let M = machine u in
+    let v = views u in
+    let fs = frames-are u M (ofStream d) (x .list) in
+    caught-back u M v d x o
+    (burst-caught u d (viewOf u M v x) (opens-are u M v d x o) priority t p q (subst (λ l. Damaged u d (startFrame M x) l priority t p q) fs dm)
+    (subst (λ l. While (rulesTable u) d (length l) (viewOf u M v x)) fs (while-is u M v d x (o .past) (o .typed) (length (frames M d x)) w)))

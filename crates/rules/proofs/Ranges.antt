@@ -156,19 +156,23 @@ module _ (v : Parsed) (h : Headed v) where
 
 -- ── the checks ──
 
+abbrev pub UpTo : ℕ → Option ℕ → Type 0
+UpTo m none = Unit {0}
+UpTo m (some n) = ((2 ≤ n) × (n ≤ m)) ⊎ (n ≡ 19)
+
 abbrev pub Small : Option ℕ → Type 0
-Small none = Unit {0}
-Small (some n) = ((2 ≤ n) × (n ≤ 8)) ⊎ (n ≡ 19)
+Small o = UpTo 8 o
 
 pub two-or-more : (n : ℕ) → Small (some n) → 2 ≤ n
 two-or-more n (inl h) = h .0
 two-or-more n (inr e) = omega arith
 
-or-next : (b : Bool) (n : ℕ) (o : Option ℕ) → ((2 ≤ n) × (n ≤ 8)) ⊎ (n ≡ 19) → Small o → Small (pick b (some n) o)
+or-next : (b : Bool) (n : ℕ) (o : Option ℕ) → ((2 ≤ n) × (n ≤ 7)) ⊎ (n ≡ 19) → UpTo 7 o → UpTo 7 (pick b (some n) o)
 or-next true n o h k = h
 or-next false n o h k = k
 
-pub frame-small : (u : Setup) (f : Arrival) → Small (frameCheck u f)
+-- without the room
+pub frame-small : (u : Setup) (f : Arrival) → UpTo 7 (frameCheck u f)
 unfolding frameCheck
 frame-small u f =
     or-next (largeId (f .frame .id)) 2 _ (inl (omega arith, omega arith))
@@ -183,8 +187,9 @@ pub check-small : (u : Setup) (r : Reception) → Small (check u r)
 unfolding check
 check-small u r = go (frameCheck u (r .arrival)) (ltb (r .room) 512) (frame-small u (r .arrival))
   where
-    go : (o : Option ℕ) (b : Bool) → Small o → Small (roomCheck o b)
-    go (some n) b k = k
+    go : (o : Option ℕ) (b : Bool) → UpTo 7 o → Small (roomCheck o b)
+    go (some n) b (inl h) = inl (h .0, omega arith)
+    go (some n) b (inr e) = inr e
     go none true k = inl (omega arith, omega arith)
     go none false k = tt
 

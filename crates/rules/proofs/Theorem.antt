@@ -1,6 +1,6 @@
 -- Condition 3 (RULES 14.1): the theorem.
 use mathlib.Core.Path.{_≡_, refl, sym, ap, ap₂, _∙_, subst}
-use mathlib.Core.Bool.{Bool, true, false, true≢false, not}
+use mathlib.Core.Bool.{Bool, true, false, true≢false}
 use mathlib.Core.List.{List, [], _∷_}
 use mathlib.Core.Option.{some}
 use mathlib.Mathlib.Data.Bool.Basic.{and-elim-left, and-elim-right}
@@ -9,11 +9,12 @@ use native.Mathlib.Omega.{arith}
 use lib.Dec.{eqb, leb}
 use lib.ListN.{length, take}
 use lib.Seq.{take-all, take-length}
-use borrow.Author.Tests.{eq-eqb, ne-eqb, lt-leb, leb-true, leb-false}
+use borrow.Author.Tests.{eq-eqb, lt-leb, leb-true, leb-false}
 use Rattle.checksum.specs.Crc16.{checksum}
-use Rattle.rules.specs.Answer.{Answer, taken, handed, refused, full, passed, long, differs, reasonNumber}
+use Rattle.rules.specs.Answer.{Answer, handed, numberOf}
 use Rattle.rules.specs.Check.{Reception, parsed}
-use Rattle.rules.specs.Condition3.{Past, fromSetup, lent, heard, ofStream, startOf, keep, framesWith, answersTo, Receiver, startFrame, frames, answers, tookStart, front, While, Brings, next, again, beside, Transfer, handouts, Condition3, rulesTable}
+use Rattle.rules.specs.Condition3.{Past, fromSetup, lent, heard, ofStream, startOf, keep, framesWith, answersTo, Receiver, frames, answers, front, While, Brings, next, again, beside, Transfer, handouts, Condition3, rulesTable}
+use Rattle.rules.specs.Damage.{Opens}
 use Rattle.rules.specs.Frame.{Arrival, Stream, streamOf, priorityOf, isAnonymous, isStart, tailOf}
 use Rattle.rules.specs.Limits.{switchDelay}
 use Rattle.rules.specs.Reception.{step, after}
@@ -22,15 +23,15 @@ use Rattle.rules.specs.Session.{Out, closing, takes, fresh}
 use Rattle.rules.specs.Setup.{Setup, signatureFor}
 use Rattle.rules.specs.Sound.{streamFits, placesFit, sound}
 use Rattle.rules.specs.Table.{Places}
+use Rattle.rules.specs.Tests.{pick}
 use Rattle.rules.proofs.Checks.{Accepted, accepted, named-not-anonymous, of-stream}
-use Rattle.rules.proofs.Delivery.{closings, verdict, closes-once}
+use Rattle.rules.proofs.Delivery.{Goes, over-now, goes-on, closes-by, not-one, verdict, closes-once}
 use Rattle.rules.proofs.Follow.{frames-upto, answers-upto, answers-length, follow}
 use Rattle.rules.proofs.Frames.{carried-short, carried-long}
 use Rattle.rules.proofs.Ids.{id-priority}
 use Rattle.rules.proofs.Lasting.{apart-sole, stream-fits, sound-fits, lasting}
 use Rattle.rules.proofs.Others.{sole-step}
 use Rattle.rules.proofs.Own.{refRun, same}
-use Rattle.rules.proofs.Ranges.{reason-range}
 use Rattle.rules.proofs.Start.{took-checked, began-by}
 use Rattle.rules.proofs.Table.{Sole}
 
@@ -55,7 +56,7 @@ past-sole u ps h = apart-sole ps (and-elim-right (placesFit ps) _ (and-elim-righ
 
 -- ── the frames of a payload ──
 
-sender : {i id till : ℕ} {ms : List (List ℕ)} {f : Arrival} {fs : List Arrival} → eqb (f .interface) i ≡ true → Brings i id till ms (f ∷ fs)
+pub sender : {i id till : ℕ} {ms : List (List ℕ)} {f : Arrival} {fs : List Arrival} → eqb (f .interface) i ≡ true → Brings i id till ms (f ∷ fs)
     → f .frame .id ≡ id
 sender k (next t h b) = refl
 sender k (again t h b) = refl
@@ -86,34 +87,19 @@ unaltered u id t signature p e = go (leb (length p) 7) refl
           eq-eqb (checksum signature p % 256 + 256 * (checksum signature p / 256)) (checksum signature p) (omega arith),
         )
 
-handouts-closings : (u : Setup) (l : List Answer) → handouts (rulesTable u) l ≡ handouts (rulesTable u) (closings l)
-handouts-closings u [] = refl
-handouts-closings u (taken ∷ l) = handouts-closings u l
-handouts-closings u (handed p d priority t ∷ l) = ap (λ k. handed p d priority t ∷ k) (handouts-closings u l)
-handouts-closings u (refused n ∷ l) = go (eqb n 1) refl (handouts-closings u l)
-  where
-    go : (b : Bool) → eqb n 1 ≡ b → handouts (rulesTable u) l ≡ handouts (rulesTable u) (closings l)
-        → keep b (refused n) (handouts (rulesTable u) l) ≡ handouts (rulesTable u) (keep (not (not b)) (refused n) (closings l))
-    go true e h = rw e (ap (λ k. refused n ∷ k) h)
-    go false e h = h
-handouts-closings u (full ∷ l) = handouts-closings u l
-handouts-closings u (passed r ∷ l) = rw (ne-eqb (reasonNumber r) 1 (λ e. omega (arith, reason-range r))) (handouts-closings u l)
-handouts-closings u (long ∷ l) = handouts-closings u l
-handouts-closings u (differs ∷ l) = handouts-closings u l
+-- of the answers to a transfer's frames the one that closes it alone may be 1
+pub goes-handouts : (u : Setup) {i : ℕ} {v : Answer} {single ended : Bool} {fs : List Arrival} {l : List Answer} → Goes i v single ended fs l
+    → handouts (rulesTable u) l ≡ pick ended [] (handouts (rulesTable u) (v ∷ []))
+goes-handouts u over-now = refl
+goes-handouts u {single = single} {ended = ended} (goes-on a x e q g) = rw (not-one single ended (numberOf x) q) (goes-handouts u g)
+goes-handouts u {v = v} (closes-by a e g) = ap (keep (eqb (numberOf v) 1) v) (goes-handouts u g)
 
 -- ── one receiver ──
-
--- what one receiver owes at the start
-pub record Starts (u : Setup) (d : Stream) (x : Receiver (rulesTable u)) : Type 0 where
-  pub past : Past u (x .state)
-  pub named : 0 < d .source
-  pub start : startOf d (startFrame (rulesTable u) x .frame) ≡ true
-  pub takes : tookStart (rulesTable u) x ≡ true
 
 abbrev pub first : Setup → Arrival → Out
 first u f = takes (fresh (parsed u f)) (parsed u f)
 
-module _ (u : Setup) (d : Stream) (x : Receiver (rulesTable u)) (s : Starts u d x) where
+module _ (u : Setup) (d : Stream) (x : Receiver (rulesTable u)) (s : Opens (rulesTable u) d x) where
   abbrev f : Arrival
   f = x .start .arrival
 
@@ -126,7 +112,7 @@ module _ (u : Setup) (d : Stream) (x : Receiver (rulesTable u)) (s : Starts u d 
   unfolding answersTo parsed
   as-reference k w =
       let sole = past-sole u (x .state) (s .past) in
-      let b = began-by u d (x .state) (x .start) (s .named) mine (and-elim-right (ofStream d (f .frame)) _ (s .start)) sole (s .takes) in
+      let b = began-by u d (x .state) (x .start) (s .named) mine (and-elim-right (ofStream d (f .frame)) _ (s .start)) sole (s .take) in
       let qs = step u (x .state) (x .start) .places in
       let q = follow u d (s .named) (f .frame .time) qs (first u f .session) (front (rulesTable u) d k x) (w .time) (w .room) (w .table)
       (sole-step u (x .state) (x .start) sole) (same (b .session)) in
@@ -148,7 +134,7 @@ module _ (u : Setup) (d : Stream) (x : Receiver (rulesTable u)) (s : Starts u d 
   -- ── a transfer ──
 
   abbrev ok : Accepted u f
-  ok = accepted u f (took-checked u (x .state) (x .start) (s .takes))
+  ok = accepted u f (took-checked u (x .state) (x .start) (s .take))
 
   stream-is : streamOf (f .frame .id) ≡ d
   stream-is = of-stream d (f .frame) mine
@@ -156,11 +142,11 @@ module _ (u : Setup) (d : Stream) (x : Receiver (rulesTable u)) (s : Starts u d 
   not-anonymous : isAnonymous (f .frame .id) ≡ false
   not-anonymous = named-not-anonymous (f .frame .id) (rw stream-is (s .named))
 
-  -- of the answers to frames that carry some bytes, one alone ends the transfer
+  -- the answers to frames that carry some bytes
   pub closes : (t : ℕ) → t < 32 → (all : List ℕ) → length all ≤ 514 → While (rulesTable u) d (length (frames (rulesTable u) d x)) x
       → Brings (f .interface) (f .frame .id) (f .frame .time + switchDelay) (carrying t all) (f ∷ frames (rulesTable u) d x)
-      → closings (answers (rulesTable u) d x) ≡ verdict u (f .frame .id) t all (leb (length all) 7) ∷ []
-  closes t small all most w b = ap closings (all-answers w) ∙ closes-once u f ok not-anonymous t small all most (frames (rulesTable u) d x) b
+      → Goes (f .interface) (verdict u (f .frame .id) t all (leb (length all) 7)) (leb (length all) 7) false (f ∷ frames (rulesTable u) d x) (answers (rulesTable u) d x)
+  closes t small all most w b = rw (all-answers w) (closes-once u f ok not-anonymous t small all most (frames (rulesTable u) d x) b)
 
   hands-out : (priority t : ℕ) (p : List ℕ) → Transfer u d f (frames (rulesTable u) d x) priority t p
       → While (rulesTable u) d (length (frames (rulesTable u) d x)) x → handouts (rulesTable u) (answers (rulesTable u) d x) ≡ handed p d priority t ∷ []
@@ -168,11 +154,10 @@ module _ (u : Setup) (d : Stream) (x : Receiver (rulesTable u)) (s : Starts u d 
   hands-out priority t p tr w =
       let i : f .frame .id ≡ idOf d priority = sender (eq-eqb (f .interface) (f .interface) refl) (tr .brings) in
       let e : priorityOf (f .frame .id) ≡ priority = ap priorityOf i ∙ id-priority d priority (subst (λ k. streamFits k ≡ true) stream-is (stream-fits u f ok not-anonymous)) in
-      handouts-closings u (answers (rulesTable u) d x)
-      ∙ ap (handouts (rulesTable u))
+      goes-handouts u
       (closes t (tr .fields .1) (carried (tr .signature) p) (carried-most (tr .signature) p (tr .size)) w
-      (subst (λ id. Brings (f .interface) id (f .frame .time + switchDelay) (carrying t (carried (tr .signature) p)) (f ∷ frames (rulesTable u) d x)) (sym i) (tr .brings))
-      ∙ ap (λ a. a ∷ []) (unaltered u (f .frame .id) t (tr .signature) p (ap (signatureFor u) i ∙ tr .subscribed)))
+      (subst (λ id. Brings (f .interface) id (f .frame .time + switchDelay) (carrying t (carried (tr .signature) p)) (f ∷ frames (rulesTable u) d x)) (sym i) (tr .brings)))
+      ∙ ap (λ a. handouts (rulesTable u) (a ∷ [])) (unaltered u (f .frame .id) t (tr .signature) p (ap (signatureFor u) i ∙ tr .subscribed))
       ∙ λ j. handed p (stream-is j) (e j) t ∷ []
 
 pub theorem : Condition3 rulesTable
@@ -189,8 +174,8 @@ theorem u d x y h =
       );
     }
   where
-    sx : Starts u d x
-    sx = record { past = h .pasts .0; named = h .named; start = h .start; takes = h .take .0 }
+    sx : Opens (rulesTable u) d x
+    sx = record { past = h .pasts .0; typed = h .typed .0; named = h .named; start = h .start; take = h .take .0 }
 
-    sy : Starts u d y
-    sy = record { past = h .pasts .1; named = h .named; start = subst (λ f. startOf d (f .frame) ≡ true) (h .together) (h .start); takes = h .take .1 }
+    sy : Opens (rulesTable u) d y
+    sy = record { past = h .pasts .1; typed = h .typed .1; named = h .named; start = subst (λ f. startOf d (f .frame) ≡ true) (h .together) (h .start); take = h .take .1 }

@@ -16,8 +16,10 @@ pub mod Sending
 pub mod Sound
 pub mod Reasons
 pub mod Condition3
+pub mod Damage
 pub mod SendingLaws
 pub mod Example
+pub mod DamageExample
 pub mod WhyPremises
 pub mod Samples
 pub mod Interfaces

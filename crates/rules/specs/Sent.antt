@@ -32,9 +32,12 @@ pieces (suc n) start toggle t bytes = framed (take framePayload bytes) (tailByte
 unfoldable pub carrying : ℕ → List ℕ → List (List ℕ)
 carrying t bytes = pieces ((length bytes - 1) / framePayload) true false t bytes
 
--- RULES 6.3: the checksum in front, low byte first
+-- RULES 6.3: a checksum in front, low byte first
+abbrev pub summed : ℕ → List ℕ → List ℕ
+summed c p = c % 256 ∷ c / 256 ∷ p
+
 abbrev pub withSum : ℕ → List ℕ → List ℕ
-withSum signature p = checksum signature p % 256 ∷ checksum signature p / 256 ∷ p
+withSum signature p = summed (checksum signature p) p
 
 -- what the frames of a payload carry: up to 7 bytes alone, more with the checksum
 unfoldable pub carried : ℕ → List ℕ → List ℕ

@@ -2,6 +2,8 @@
 pub mod limits;
 
 ghost use Rattle.rules.specs.Condition3.{Condition3, rulesTable};
+ghost use Rattle.rules.specs.Damage.{BurstIsCaught};
+ghost use Rattle.rules.specs.DamageExample.{DamageExample};
 ghost use Rattle.rules.specs.Example.{Example};
 ghost use Rattle.rules.specs.Interfaces.{Interfaces};
 ghost use Rattle.rules.specs.Range.{RangeLaw, NumberLaw, OneLaw};
@@ -26,6 +28,16 @@ pub fn condition3_example()
 // RULES 14.13: why they are there. For each premise that the statement names, a case in which the claim fails.
 pub fn why_premises()
     ensures { λ _. ⌜ WhyPremises ⌝ }
+{}
+
+// RULES 14.18: a burst in a transfer of several frames is caught at the transfer's end, of the rules' table.
+pub fn burst_is_caught()
+    ensures { λ _. ⌜ BurstIsCaught rulesTable ⌝ }
+{}
+
+// RULES 14.19: its premises can be met together, and 17 bits are too many.
+pub fn burst_example()
+    ensures { λ _. ⌜ DamageExample ⌝ }
 {}
 
 // RULES 5.7: a table of places without a fault stays one.

@@ -1,4 +1,4 @@
--- Condition 3 over result words: a word fixes the answer that it was made of, so what C reads is what a Rattle caller reads, in another form.
+-- Condition 3 over result words, and that bursts are caught: a word fixes the answer that it was made of, so what C reads is what a Rattle caller reads, in another form.
 use mathlib.Core.Path.{_≡_, ap, _∙_}
 use mathlib.Core.List.{List}
 use Prim.Native.Nat.{ℕ}
@@ -11,8 +11,9 @@ use Rattle.answers.proofs.Reception.{told-number}
 use Rattle.answers.specs.Reception.{told}
 use Rattle.guarantees.proofs.Condition3.{view}
 use Rattle.guarantees.specs.Run.{Call, resultOf, Reading, reading}
-use Rattle.rules.proofs.Lift.{View, lifted}
+use Rattle.rules.proofs.Lift.{View, lifted, lifted-burst}
 use Rattle.rules.specs.Condition3.{Condition3}
+use Rattle.rules.specs.Damage.{BurstIsCaught}
 use Rattle.rules.specs.Setup.{Setup}
 
 -- a reading of the Rattle call, its answer as a word
@@ -38,3 +39,6 @@ word-view u =
 
 pub word-theorem : Condition3 wordBytes
 word-theorem = lifted wordBytes word-view
+
+pub word-burst : BurstIsCaught wordBytes
+word-burst = lifted-burst wordBytes word-view

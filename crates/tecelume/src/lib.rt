@@ -15,6 +15,7 @@ ghost use Rattle.id_map.specs.Layout as layout;
 ghost use Rattle.id_map.specs.Setup as setting;
 ghost use Rattle.receiver.specs.Receive.{arrivalOf, received};
 ghost use Rattle.rules.specs.Condition3.{Condition3};
+ghost use Rattle.rules.specs.Damage.{BurstIsCaught};
 ghost use Rattle.sender.specs.Send.{sends};
 ghost use Rattle.setup.specs.Setup.{afterSetup};
 ghost use Rattle.state.specs.Layout.{size};
@@ -171,4 +172,9 @@ pub fn allocation_word_fields()
 // RULES 14.14: condition 3, of what a C program reads.
 pub fn condition3_words()
     ensures { λ _. ⌜ Condition3 wordBytes ⌝ }
+{}
+
+// RULES 14.18: a burst is caught, of what a C program reads.
+pub fn burst_is_caught_words()
+    ensures { λ _. ⌜ BurstIsCaught wordBytes ⌝ }
 {}

@@ -1,4 +1,5 @@
-//! Checksums and signatures against the published numbers (RULES 11 and 15.1).
+//! Checksums and signatures against the published numbers (RULES 11 and 15.1), and what a checksum
+//! catches (RULES 6.6).
 
 use reference::crc::{crc16, extend, hash, transfer_checksum};
 use reference::definitions;
@@ -23,6 +24,19 @@ fn allocation_log_checksums() {
     let signature = definitions::allocation();
     assert_eq!(transfer_checksum(signature, second), 0xB005);
     assert_eq!(transfer_checksum(signature, third), 0xBA29);
+}
+
+/// Every burst of up to 16 bits that begins with the first bit, and the one of 17 that goes unseen.
+#[test]
+fn bursts_of_16_bits_are_caught_and_the_polynomial_is_not() {
+    for signature in [0, 0x0B2A_8126_20A1_1D40, u64::MAX] {
+        let whole = transfer_checksum(signature, &[0, 0, 0]);
+        for burst in 1..=u16::MAX {
+            let [high, low] = burst.to_be_bytes();
+            assert_ne!(transfer_checksum(signature, &[high, low, 0]), whole);
+        }
+        assert_eq!(transfer_checksum(signature, &[0x01, 0x10, 0x21]), whole);
+    }
 }
 
 #[test]

@@ -591,6 +591,44 @@ fn damaged_payload_or_signature_answers_12() {
     assert_eq!(number(&mut receiver, &frames[1], 0), 12);
 }
 
+/// RULES 14.19: a transfer altered across its first two frames, and the frames as sent by another
+/// interface. The numbers answered, and the payload handed out.
+fn altered_transfer(pattern: [u8; 3]) -> (Vec<u32>, Option<Vec<u8>>) {
+    let sent = split(b"\x00\x00\x34\x42pan_angle", SIGNATURE, 5);
+    let mut frames = sent.clone();
+    for (byte, altered) in (4..).zip(pattern) {
+        frames[(byte + 2) / 7][(byte + 2) % 7] ^= altered;
+    }
+    let mut receiver = receiver();
+    let [a, b, c] = [&frames[0], &frames[1], &frames[2]];
+    let list = [
+        (0, a),
+        (1, &sent[0]),
+        (0, a),
+        (0, b),
+        (1, &sent[2]),
+        (0, b),
+        (0, c),
+        (0, c),
+        (1, &sent[0]),
+    ];
+    let answers = list
+        .map(|(interface, data)| receive_by(&mut receiver, interface, STREAM.id(16, 0), data, 0));
+    let numbers = answers.iter().map(Answer::number).collect();
+    let handed = answers.into_iter().find(|answer| answer.number() == 1);
+    (numbers, handed.map(payload_of))
+}
+
+#[test]
+fn burst_of_16_bits_ends_with_12_and_one_of_17_may_not() {
+    let (numbers, handed) = altered_transfer([0xFF, 0xFF, 0]);
+    assert_eq!(numbers, [0, 34, 33, 0, 34, 31, 12, 30, 34]);
+    assert_eq!(handed, None);
+    let (numbers, handed) = altered_transfer([0x01, 0x10, 0x21]);
+    assert_eq!(numbers, [0, 34, 33, 0, 34, 31, 1, 30, 34]);
+    assert_eq!(handed.unwrap()[4..7], [0x71, 0x71, 0x4F]);
+}
+
 #[test]
 fn two_frames_may_carry_what_one_could() {
     let mut receiver = receiver();
