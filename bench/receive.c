@@ -46,19 +46,26 @@ enum { ROWS = sizeof rows / sizeof rows[0] };
 static struct frame frames[ROW_FRAMES_MAX];
 static size_t frame_count;
 
-/* All transfers of the row, the sources' frames taking turns. */
+/* All transfers of the row, the sources' frames taking turns. Each source is a part of a transfer behind the one before it: eight transfers
+ * of 512 bytes that came to their ends together would need 72 blocks. */
 static void make_frames(const struct row *row)
 {
     static struct frame transfer[32][TECELUME_FRAMES_MAX];
+    size_t per = make_transfer(&types[row->type], FIRST_SOURCE, 0, row->length, transfer[0]);
+    size_t behind = per / row->sources, each = per * row->turns;
     frame_count = 0;
-    for (unsigned turn = 0; turn < row->turns; turn++) {
-        size_t per = 0;
-        for (unsigned s = 0; s < row->sources; s++)
-            per = make_transfer(&types[row->type], FIRST_SOURCE + s, turn, row->length, transfer[s]);
-        for (size_t n = 0; n < per * row->sources * row->cables; n++) {
-            struct frame *f = &frames[frame_count++];
-            *f = transfer[n / row->cables % row->sources][n / row->cables / row->sources];
-            f->interface_number = (uint8_t)(n % row->cables);
+    for (size_t step = 0; step < each + behind * row->sources; step++) {
+        for (unsigned s = 0; s < row->sources; s++) {
+            if (step < behind * s || step - behind * s >= each)
+                continue;
+            size_t n = step - behind * s;
+            if (n % per == 0)
+                make_transfer(&types[row->type], FIRST_SOURCE + s, (unsigned)(n / per), row->length, transfer[s]);
+            for (unsigned cable = 0; cable < row->cables; cable++) {
+                struct frame *f = &frames[frame_count++];
+                *f = transfer[s][n % per];
+                f->interface_number = (uint8_t)cable;
+            }
         }
     }
 }

@@ -1,6 +1,6 @@
 #!/usr/bin/env bash
 # stack.sh ARCHIVE: from its object code, the stack that each C entry needs and the functions it wants from outside. Fails if
-# tecelume_receive_word needs more than 3072 bytes or another entry more than 1024, or if anything but memcpy, memset, memmove and memcmp is
+# tecelume_receive_word needs more than 2048 bytes or another entry more than 1024, or if anything but memcpy, memset, memmove and memcmp is
 # wanted.
 #
 # The figure is an upper bound. A function needs its return address, every push and every step down of %rsp that it has, each counted
@@ -126,7 +126,7 @@ awk -v entries="$work/entries" '
         while ((getline f < entries) > 0) {
             n = need(f)
             printf "%-28s %6d   %s\n", f, n, path[f]
-            limit = f == "tecelume_receive_word" ? 3072 : 1024
+            limit = f == "tecelume_receive_word" ? 2048 : 1024
             if (n > limit)
                 fail(f " needs more than " limit " bytes")
         }

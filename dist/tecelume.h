@@ -17,12 +17,12 @@
  * - From setup on, nothing but the library writes the state or the map. Neither holds pointers, so a copy of the whole works as well.
  *
  * Answer 20 helps where the last rule is broken. tecelume_receive, tecelume_send and tecelume_allocate first check that the state or map is
- * long enough, that no value in it is out of range, that no session has toggle 1 with nothing gathered, that no two entries are alike, and
- * that an allocator's table is in order. If the check fails they refuse and leave it as it was. So no call reaches outside the lent
- * buffers, whatever was written there. A write that leaves every value in range is not noticed: it counts as what was received, sent or
- * handed out before. A stream recovers from it at its next start that is taken; the own ID and the subscriptions do not recover, nor does
- * an allocator's table. All zeros are in range: as a state they are a receiver without an ID or subscriptions, so memory that was never set
- * up may answer 7 and not 20; as a map they are a map without entries, and as an allocator's state one with an empty table.
+ * long enough, that no value in it is out of range, that no session has toggle 1 with nothing gathered, that no two entries are alike, that
+ * each block of a receiver is free or in one session, and that an allocator's table is in order. If the check fails they refuse and leave it
+ * as it was. So no call reaches outside the lent buffers, whatever was written there. A write that leaves all this in order is not noticed:
+ * it counts as what was received, sent or handed out before. A stream recovers from it at its next start that is taken; the own ID and the
+ * subscriptions do not recover, nor does an allocator's table. Memory of zeros that was never set up answers 20 as a state; as a map it is
+ * one without entries, and as an allocator's state one with an empty table.
  *
  * docs/RULES.md in the repository has all rules in numbered sections; "RULES 4.5" below is one of them. */
 #ifndef TECELUME_H
@@ -47,7 +47,7 @@ uint32_t tecelume_version(void);
 
 /* ---- sizes in bytes ---- */
 
-#define TECELUME_RECEIVER_SIZE 17736   /* the state of a receiver */
+#define TECELUME_RECEIVER_SIZE 5680    /* the state of a receiver */
 #define TECELUME_OUTPUT_SIZE 512       /* the output buffer of tecelume_receive: the longest payload */
 #define TECELUME_MAP_SIZE 416          /* the transfer-ID map of a sender */
 #define TECELUME_RECORD_SIZE 13        /* a frame from tecelume_send: ID (4, low byte first), data length (1), data (8) */
@@ -64,6 +64,8 @@ uint32_t tecelume_version(void);
 
 #define TECELUME_SUBSCRIPTIONS_MAX 64
 #define TECELUME_SESSIONS_MAX 32     /* streams that a receiver follows at once */
+#define TECELUME_BLOCKS 64           /* blocks of a receiver, for the bytes of unfinished transfers; each has */
+#define TECELUME_BLOCK_SIZE 64       /* so many bytes */
 #define TECELUME_MAP_ENTRIES_MAX 32  /* topics that a map counts at once */
 #define TECELUME_INTERFACES 3        /* buses that carry the same transfers; a frame comes by interface 0, 1 or 2 */
 #define TECELUME_PAYLOAD_MAX 512
@@ -103,14 +105,17 @@ uint32_t tecelume_version(void);
  *  19   receive: interface number of 3 or more                                   number your interfaces from 0; with one, give 0
  *  20   setup: state or map too short                                            lend more
  *       receive, send: state or map too short, or it holds a value out of        set it up again, and look for what wrote over it
- *       range, toggle 1 with nothing gathered, or two like entries
+ *       range, toggle 1 with nothing gathered, two like entries, or a block
+ *       that is not either free or in one session
  *       allocate: state too short, or it holds a value out of range, a unique    take the last good copy of it. Setup would lose the
  *       or node ID twice, or unique IDs out of order                             table, and with it whose the node IDs are
  *  21   allocate: a new node, and none of the IDs 1 to 125 is free               clear marks of nodes that are gone; known nodes still
  *                                                                                get their IDs
+ *  26   receive: no block is free for the frame's bytes; the transfer is         let fewer long transfers be sent at once, or
+ *       dropped                                                                  subscribe to less: see blocks, below
  *  30   receive: passed over, no start and no transfer in hand. The start was    nothing, if it is rare or follows an 11; if often,
  *       lost, refused or is more than 2,000,000 back; or a repeat of the last    frames are lost before this call: look at the bus
- *       frame; or the rest of a transfer that 11 dropped                         and at the driver's queue; after 8 or 9 see there
+ *       frame; or the rest of a transfer that 11 or 26 dropped                   and at the driver's queue; after 8, 9 or 26 see there
  *  31   receive: passed over, wrong toggle. A repeat of a frame already taken,   nothing, if the transfer is handed out all the
  *       or a frame before this one was lost                                      same; if it ends with 12 or not at all, as for 30
  *  32   receive: passed over, not the transfer ID that is expected. A start      nothing, if that transfer was handed out; else as
@@ -123,10 +128,11 @@ uint32_t tecelume_version(void);
  *       stream follows                                                           has no other answer, the cable that it follows
  *                                                                                has failed: see interfaces, below
  *
- * Under 2 to 9, 13 to 16, 19, 20 and 31 to 34 a call leaves state or map and out byte for byte as they were. Under 11, 12 and 30
- * tecelume_receive leaves out as it was and changes at most the session of the frame's stream, under 30 only an old one; a tecelume_send
- * that answers 11 changes nothing. Under 21 tecelume_allocate leaves out as it was and drops the gathered bytes of the unique ID. 10 is no
- * answer any more: version 0.1 gave it for 30 to 33. */
+ * Under 2 to 9, 13 to 16, 19, 20 and 31 to 34 a call leaves state or map and out byte for byte as they were. Under 11, 12, 26 and 30
+ * tecelume_receive leaves out as it was. Of the sessions it changes the one of the frame's stream, under 30 only an old one; under 12 it may
+ * have emptied old ones for a block, and under 26 a new session may have got an old one's place. A tecelume_send that answers 11 changes
+ * nothing. Under 21 tecelume_allocate leaves out as it was and drops the gathered bytes of the unique ID. 10 is no answer any more: version
+ * 0.1 gave it for 30 to 33. */
 enum tecelume_answer {
     TECELUME_SUCCESS = 0, /* of setup, sending and handing out node IDs */
     TECELUME_TAKEN = 0,   /* of tecelume_receive */
@@ -148,6 +154,7 @@ enum tecelume_answer {
     TECELUME_NO_INTERFACE = 19,
     TECELUME_STATE_FAULT = 20,
     TECELUME_NONE_FREE = 21,
+    TECELUME_NO_BLOCK = 26,
     TECELUME_NO_TRANSFER = 30, /* this and the next four: passed over */
     TECELUME_WRONG_TOGGLE = 31,
     TECELUME_WRONG_TRANSFER = 32,
@@ -181,6 +188,7 @@ static inline const char *tecelume_text(uint32_t number)
     case 20: return "state or map too short or at fault";
     case 21: return "no node ID is free";
     case 25: return "padding not zero";
+    case 26: return "no block is free for the transfer's bytes";
     case 30: return "passed over, no transfer in hand: its start was lost, or it is over already";
     case 31: return "passed over, wrong toggle: a repeat of a frame already taken, or a frame before this one was lost";
     case 32: return "passed over, wrong transfer ID: a repeat of the transfer before, or the start of this one was lost";
@@ -267,9 +275,9 @@ uint32_t tecelume_setup(uint8_t *state, size_t state_len, uint32_t own, const ui
  *
  * A 32-bit timer of microseconds runs back when it wraps, after 71 minutes. What was stored before the wrap has age 0 for up to 71 minutes
  * after it, and what was stored in the last two seconds before it never grows old; for a stream this ends with its next start that is
- * taken, for a topic with its next send. Until then they keep their places, so that new streams and topics may answer 9, a start with the
- * transfer ID of the stream's last transfer answers 32, however late it comes, and of a stream whose cable has failed, what comes by another
- * one answers 34. Count the wraps, and give the time in 64 bits. */
+ * taken, for a topic with its next send. Until then they keep their places, and streams their blocks, so that new streams and topics may
+ * answer 9, and transfers 26, a start with the transfer ID of the stream's last transfer answers 32, however late it comes, and of a stream
+ * whose cable has failed, what comes by another one answers 34. Count the wraps, and give the time in 64 bits. */
 
 /* ---- reception ---- */
 
@@ -280,6 +288,20 @@ uint32_t tecelume_setup(uint8_t *state, size_t state_len, uint32_t own, const ui
  *
  * There are TECELUME_SESSIONS_MAX sessions. So if 40 nodes send a message each second, 32 of them are heard; the starts of the other 8
  * answer 9, and what follows a start 30. */
+
+/* ---- blocks ---- */
+
+/* The bytes of unfinished transfers, payload and two of checksum, lie in TECELUME_BLOCKS blocks of TECELUME_BLOCK_SIZE bytes, which all
+ * sessions share (RULES 4.12). A session has just as many as its bytes need, nine for the longest payload, and gives all of them back when
+ * its transfer is handed out or dropped, when it begins anew and when it loses its place. Single frames need none.
+ *
+ * When a frame needs a block and none is free, all old sessions drop the transfers that they have in hand. If none is free even then, the
+ * answer is 26, which drops the frame's transfer and no other; its end may be so answered, too. A start so answered counts as the last start
+ * of its stream: a repeat of it answers 32, and the rest of its transfer 30. The next transfer of the stream is taken as soon as there is a
+ * block.
+ *
+ * There is always a block (RULES 4.13) for up to 7 transfers at once of any length, for 8 of up to 510 bytes, for 16 of up to 254, and for
+ * 32, so for all sessions, of up to 126. Transfers that were begun more than 2,000,000 microseconds ago do not count. */
 
 /* ---- interfaces ---- */
 
@@ -315,9 +337,10 @@ uint64_t tecelume_receive_word(uint8_t *state, size_t state_len, uint32_t id, co
  *          1: the payload is at the front of out, bytes after it stay. The result also says whose it is.
  *          0: the frame was taken and its transfer goes on.
  * Refuses  20; then the first match of 2, 3, 19 and 4 to 8 (RULES 4.1); then 9 (4.3); then, of a start, the first match of 34, 32 and 33,
- *          and of any other frame that of 34, 30, 32 and 31 (4.3, 4.5, 4.6); then 11 and 12 (4.8). All leave out as it was, and so does 0.
+ *          and of any other frame that of 34, 30, 32 and 31 (4.3, 4.5, 4.6); then 11, 26 and 12 (4.8). All leave out as it was, and so does
+ *          0.
  * Costs    the check for 20, which grows with the subscriptions and sessions in use; a look at the session; the checksum, once, at the
- *          end of a transfer of several frames. In libtecelume.a at most 3072 bytes of stack, besides what memcpy and its like take. */
+ *          end of a transfer of several frames. In libtecelume.a at most 2048 bytes of stack, besides what memcpy and its like take. */
 static inline tecelume_result tecelume_receive(uint8_t *state, size_t state_len, uint32_t id, const uint8_t *frame, size_t frame_len,
                                                uint32_t interface_number, uint64_t time, uint8_t *out, size_t out_len)
 {

@@ -119,6 +119,24 @@ static uint32_t leading_zeros(uint64_t x, uint32_t bits)
     return bits;
 }'''
 
+# In six steps and not bit by bit: reception looks for the lowest free block by it.
+TRAILING_ZEROS = '''/* The zero bits below the lowest one of a number of that many bits. */
+static uint32_t trailing_zeros(uint64_t x, uint32_t bits)
+{
+    uint32_t zeros = 0u;
+    uint32_t half;
+    if (x == 0u) {
+        return bits;
+    }
+    for (half = 32u; half != 0u; half = half / 2u) {
+        if ((x & ((UINT64_C(1) << half) - 1u)) == 0u) {
+            x = x >> half;
+            zeros = zeros + half;
+        }
+    }
+    return zeros;
+}'''
+
 
 def negation(a):
     if a.type == ('bool',):
@@ -130,6 +148,10 @@ def leading_zeros(a):
     return Expr(f'leading_zeros({a.text}, {a.type[1]}u)', ('int', 32))
 
 
+def trailing_zeros(a):
+    return Expr(f'trailing_zeros({a.text}, {a.type[1]}u)', ('int', 32))
+
+
 def same_bits(a):
     """A cast of 64 bits to another sign. By the proofs the number is in both types."""
     return a if a.type == ('int', 64) else cast(a, 64)
@@ -138,11 +160,12 @@ def same_bits(a):
 OP1 = {
     ('Not',): negation,
     ('LeadingZeros',): leading_zeros,
+    ('TrailingZeros',): trailing_zeros,
     **{('Cast', 'Unsigned', 'Unsigned', width): lambda a, width=width: cast(a, width) for width in (8, 16, 32, 64)},
     ('Cast', 'Unsigned', 'Signed', 64): same_bits,
     ('Cast', 'Signed', 'Unsigned', 64): same_bits,
 }
-HELPERS = {('LeadingZeros',): LEADING_ZEROS}
+HELPERS = {('LeadingZeros',): LEADING_ZEROS, ('TrailingZeros',): TRAILING_ZEROS}
 
 
 def apply(rules, operator, *operands):

@@ -1,6 +1,6 @@
 // A log program written by hand for speed, to time the proved one against: the same output, with none of the checks on the
 // receiver's own state. `baseline --make BYTES` prints a log of about that size instead: NodeStatus from twenty nodes, and
-// transfers of several frames from eight others.
+// transfers of several frames from eight others, short enough that 26 never comes: each session here has room of its own.
 use std::io::{Read, Write};
 
 const OLD: u64 = 2_000_000;

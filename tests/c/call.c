@@ -144,7 +144,7 @@ static bool may_change_state(enum entry entry, uint32_t number)
     if (entry != RECEIVE)
         return number == TECELUME_SUCCESS;
     return number <= TECELUME_HANDED_OUT || number == TECELUME_PAYLOAD_TOO_LONG || number == TECELUME_CHECKSUM_DIFFERS ||
-           number == TECELUME_NO_TRANSFER;
+           number == TECELUME_NO_BLOCK || number == TECELUME_NO_TRANSFER;
 }
 
 enum { NUMBERS = 64 }; /* no answer is larger */
@@ -153,7 +153,7 @@ enum { NUMBERS = 64 }; /* no answer is larger */
 /* Which numbers an entry answers, as bits. */
 static const uint64_t answers[ENTRIES] = {
     BIT(0) | BIT(13) | BIT(20),
-    (BIT(10) - 1) | BIT(11) | BIT(12) | BIT(19) | BIT(20) | (BIT(35) - BIT(30)),
+    (BIT(10) - 1) | BIT(11) | BIT(12) | BIT(19) | BIT(20) | BIT(26) | (BIT(35) - BIT(30)),
     BIT(0) | BIT(20),
     BIT(0) | BIT(8) | BIT(9) | BIT(11) | BIT(14) | BIT(20),
     BIT(0) | BIT(20),

@@ -54,12 +54,12 @@ static size_t state_length(size_t size)
     return once_in(8) ? below((uint32_t)size) : once_in(8) ? size + below(STATE_EXTRA) : size;
 }
 
-enum { GATHERED_AT = 1288 }; /* where the gathered bytes of a receiver start */
+enum { BLOCKS_AT = 1584 }; /* where the blocks of a receiver start */
 
-/* Damages the numbers in front of a receiver's gathered bytes, or anything; of other buffers anything. */
+/* Damages the numbers in front of a receiver's blocks, or anything; of other buffers anything. */
 static void damage(struct buffer *b)
 {
-    uint32_t front = once_in(4) ? (uint32_t)b->length : GATHERED_AT;
+    uint32_t front = once_in(4) ? (uint32_t)b->length : BLOCKS_AT;
     for (uint32_t n = 1 + below(4); n > 0 && b->length > 0; n--)
         b->bytes[below(front) % b->length] = (uint8_t)(once_in(2) ? next_random() : below(40));
 }
@@ -352,6 +352,21 @@ static void crowd_map(void)
     }
 }
 
+/* Long transfers of more nodes at once than there are blocks for; none of them ends. */
+static void crowd_receiver(void)
+{
+    enum { NODES = 10, FRAMES = 60, FIRST_NODE = 1 + LANES * LANE_SOURCES };
+    struct frame f = {0, 8, {0}};
+    for (uint32_t i = 0; i < FRAMES; i++) {
+        f.data[7] = (uint8_t)(i == 0 ? 128 : (i & 1) << 5);
+        for (uint32_t node = 0; node < NODES; node++) {
+            f.id = 3u << 8 | (FIRST_NODE + node);
+            lend_frame(&f, 0);
+            run(&receiver);
+        }
+    }
+}
+
 /* ---- handing out node IDs ---- */
 
 enum { ALLOCATEES = 140, PART = 6 };
@@ -443,6 +458,8 @@ static void one_step(void)
         setup_map();
     if (once_in(1000))
         crowd_map();
+    if (once_in(10000))
+        crowd_receiver();
     if (once_in(5000) || allocator.state.length < TECELUME_ALLOCATOR_SIZE)
         setup_allocator();
     if (once_in(5))

@@ -348,7 +348,7 @@ static void reasons_in_order(void)
 static void texts(void)
 {
     for (uint32_t number = 0; number < 40; number++) {
-        bool known = (number <= TECELUME_NONE_FREE && number != 10) || number == 25 ||
+        bool known = (number <= TECELUME_NONE_FREE && number != 10) || number == 25 || number == TECELUME_NO_BLOCK ||
                      (number >= TECELUME_NO_TRANSFER && number <= TECELUME_OTHER_INTERFACE);
         CHECK(known == (strcmp(tecelume_text(number), "unknown number") != 0));
         CHECK((number >= TECELUME_NO_TRANSFER && known) == (strncmp(tecelume_text(number), "passed over", 11) == 0));
@@ -363,17 +363,105 @@ static void entry_at_two_seconds(void)
     CHECK(send_message(SPARE, TWO_SECONDS) == TECELUME_SUCCESS);
 }
 
+/* All frames of the longest transfer but the last: 511 bytes, in eight blocks. */
+static void begin_long(uint32_t source, uint64_t time)
+{
+    CHECK(frame(source, START, time) == TECELUME_TAKEN);
+    for (unsigned i = 1; i < TECELUME_FRAMES_MAX - 1; i++)
+        CHECK(frame(source, i % 2 * TOGGLE, time) == TECELUME_TAKEN);
+}
+
 /* 74 frames have 518 bytes, more than payload and checksum may have. */
 static void rest_of_a_transfer_too_long(void)
 {
     begin();
-    CHECK(frame(SOURCE, START, 0) == TECELUME_TAKEN);
-    for (unsigned i = 1; i < TECELUME_FRAMES_MAX - 1; i++)
-        CHECK(frame(SOURCE, i % 2 * TOGGLE, 0) == TECELUME_TAKEN);
+    begin_long(SOURCE, 0);
     CHECK(frame(SOURCE, TOGGLE, 0) == TECELUME_PAYLOAD_TOO_LONG);
     CHECK(frame(SOURCE, 0, 0) == TECELUME_NO_TRANSFER);
     CHECK(frame(SOURCE, TOGGLE | END, 0) == TECELUME_NO_TRANSFER);
     CHECK(frame(SOURCE, START | 1, 0) == TECELUME_TAKEN);
+}
+
+enum { BLOCKS_EACH = 8, FILL = TECELUME_BLOCKS / BLOCKS_EACH };
+
+/* So many sources have all blocks, from 1 on. */
+static void begin_without_blocks(uint64_t time)
+{
+    begin();
+    for (uint32_t source = 1; source <= FILL; source++)
+        begin_long(source, time);
+}
+
+/* At a start, for which there would be a place; single frames need no block. */
+static void start_without_a_block(void)
+{
+    begin_without_blocks(0);
+    CHECK(frame(SOURCE, START | 5, 1) == TECELUME_NO_BLOCK);
+    CHECK(frame(SOURCE, START | 5, 2) == TECELUME_WRONG_TRANSFER && frame(SOURCE, TOGGLE | 5, 2) == TECELUME_NO_TRANSFER);
+    CHECK(frame(SPARE, SINGLE, 2) == TECELUME_HANDED_OUT && frame(SPARE, SINGLE | 1, 2) == TECELUME_HANDED_OUT);
+    CHECK(frame(SPARE, START | 2, 2) == TECELUME_NO_BLOCK);
+    CHECK(frame(1, START | 9, 2) == TECELUME_TAKEN);
+    CHECK(frame(SOURCE, START | 6, 2) == TECELUME_TAKEN && frame(SOURCE, TOGGLE | 6, 2) == TECELUME_TAKEN);
+    CHECK(frame(2, TOGGLE, 2) == TECELUME_PAYLOAD_TOO_LONG);
+}
+
+/* The longest payload needs a ninth block at its last frame. One gets none, and what it gives back is enough for the others. */
+static void end_without_a_block(void)
+{
+    const uint8_t last[4] = {0, 0, 0, TOGGLE | END};
+    begin_without_blocks(0);
+    for (uint32_t source = 1; source <= FILL; source++)
+        CHECK(tecelume_number(receive_by(only_cable, message_id(TYPE, source), last, sizeof last, 0)) ==
+              (source == 1 ? TECELUME_NO_BLOCK : TECELUME_CHECKSUM_DIFFERS));
+    CHECK(frame(1, 0, 0) == TECELUME_NO_TRANSFER);
+    begin_long(SOURCE, 0);
+}
+
+/* The first source began at 0, the others at 1. */
+static void begin_one_before_the_others(void)
+{
+    begin();
+    begin_long(1, 0);
+    for (uint32_t source = 2; source <= FILL; source++)
+        begin_long(source, 1);
+}
+
+/* Old sessions drop what they have in hand when a block is needed, and not before; others do not. */
+static void blocks_of_old_sessions(void)
+{
+    begin_one_before_the_others();
+    CHECK(frame(SOURCE, START, TWO_SECONDS) == TECELUME_NO_BLOCK);
+    CHECK(frame(SPARE, SINGLE, 1 + TWO_SECONDS) == TECELUME_HANDED_OUT);
+    CHECK(frame(1, TOGGLE | END, TWO_SECONDS) == TECELUME_PAYLOAD_TOO_LONG);
+    begin_one_before_the_others();
+    CHECK(frame(SOURCE, START, 1 + TWO_SECONDS) == TECELUME_TAKEN);
+    CHECK(frame(1, TOGGLE | END, 0) == TECELUME_NO_TRANSFER);
+    CHECK(frame(2, TOGGLE | END, 1 + TWO_SECONDS) == TECELUME_PAYLOAD_TOO_LONG);
+}
+
+/* Every number of transfers with its length that always finds blocks, frame by frame in turn. */
+static void always_a_block(void)
+{
+    static const struct {
+        uint32_t count;
+        size_t length;
+    } rows[] = {{7, 512}, {8, 510}, {16, 254}, {32, 126}};
+    static uint8_t kept[TECELUME_SESSIONS_MAX + 1][sizeof records];
+    for (size_t row = 0; row < sizeof rows / sizeof rows[0]; row++) {
+        size_t frames = TECELUME_SEND_SIZE(rows[row].length) / TECELUME_RECORD_SIZE;
+        struct topic t = message(TYPE);
+        begin();
+        for (uint32_t source = 1; source <= rows[row].count; source++) {
+            t.own = source;
+            CHECK(tecelume_frames(send_signed(&t, rows[row].length, signature, 0, sizeof records)) == frames);
+            memcpy(kept[source], records, sizeof records);
+        }
+        for (size_t i = 0; i < frames; i++)
+            for (uint32_t source = 1; source <= rows[row].count; source++) {
+                memcpy(records, kept[source], sizeof records);
+                CHECK(tecelume_number(carry_record(i, 0)) == (i + 1 < frames ? TECELUME_TAKEN : TECELUME_HANDED_OUT));
+            }
+    }
 }
 
 static void forty_nodes(void)
@@ -396,7 +484,7 @@ static void never_set_up(void)
 {
     struct topic t = message(TYPE);
     memset(state, 0, sizeof state);
-    CHECK(frame(SOURCE, SINGLE, 0) == TECELUME_NO_SUBSCRIPTION);
+    CHECK(frame(SOURCE, SINGLE, 0) == TECELUME_STATE_FAULT);
     memset(state, 0xFF, sizeof state);
     CHECK(frame(SOURCE, SINGLE, 0) == TECELUME_STATE_FAULT);
     memset(map, 0, sizeof map);
@@ -606,7 +694,8 @@ static void refused_sends(void)
 /* The faults that answer 20 (RULES 5.4), at the places of docs/ARCHITECTURE.md; and a value in range, which is not noticed. */
 static void faults(void)
 {
-    enum { STREAMS = 1032, CONTROLS = 1160, FIELD = 4, EXPECTED = 2, FLAGS = 3 /* the toggle, and twice the interface */ };
+    enum { FREE = 776, STREAMS = 1040, CONTROLS = 1168, LISTS = 1296, LIST = 9 };
+    enum { FIELD = 4, EXPECTED = 2, FLAGS = 3 /* the toggle, and twice the interface */ };
     begin_full(0);
     state[CONTROLS + EXPECTED] = TRANSFER_IDS;
     CHECK(frame(SOURCE, SINGLE, 0) == TECELUME_STATE_FAULT);
@@ -618,6 +707,22 @@ static void faults(void)
     CHECK(frame(SOURCE, SINGLE, 0) == TECELUME_STATE_FAULT);
     begin_full(0);
     memcpy(state + STREAMS, state + STREAMS + FIELD, FIELD);
+    CHECK(frame(SOURCE, SINGLE, 0) == TECELUME_STATE_FAULT);
+    begin_full(0);
+    state[FREE]--; /* block 0 is neither free nor in a session */
+    CHECK(frame(SOURCE, SINGLE, 0) == TECELUME_STATE_FAULT);
+    for (unsigned i = 0; i < 3; i++) {
+        begin_full(0);
+        CHECK(frame(1, START | 1, 0) == TECELUME_TAKEN && frame(2, START | 1, 0) == TECELUME_TAKEN);
+        if (i == 0)
+            state[FREE]++; /* free and in a session, */
+        else
+            state[LISTS + LIST] = i == 1 ? 0 : TECELUME_BLOCKS; /* in two, and one too many */
+        CHECK(frame(SOURCE, SINGLE, 0) == TECELUME_STATE_FAULT);
+    }
+    begin_full(0);
+    CHECK(frame(1, START | 1, 0) == TECELUME_TAKEN);
+    state[CONTROLS] = TECELUME_BLOCK_SIZE + 1; /* bytes for a second block */
     CHECK(frame(SOURCE, SINGLE, 0) == TECELUME_STATE_FAULT);
     begin_full(0);
     memcpy(map, map + FIELD, FIELD);
@@ -676,6 +781,10 @@ static const struct {
     {"texts", texts},
     {"entry_at_two_seconds", entry_at_two_seconds},
     {"rest_of_a_transfer_too_long", rest_of_a_transfer_too_long},
+    {"start_without_a_block", start_without_a_block},
+    {"end_without_a_block", end_without_a_block},
+    {"blocks_of_old_sessions", blocks_of_old_sessions},
+    {"always_a_block", always_a_block},
     {"forty_nodes", forty_nodes},
     {"never_set_up", never_set_up},
     {"repeat_after_the_wrap", repeat_after_the_wrap},

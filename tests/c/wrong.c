@@ -8,9 +8,9 @@
 #include "tecelume.h"
 
 enum { GATHERED_COUNT = 8, TIME_SIZE = 8, ENTRIES = 9, TABLE = 26, ENTRY = 17 }; /* places in an allocator's state */
-enum { START = 0x80, TOGGLE = 0x20, TRANSFER_ID = 31, ID_AT = 55, SWITCH_DELAY = 1000000, OTHER = 99 /* a number that no call answers */ };
-/* of the first session: how many bytes it has gathered, the transfer ID that it expects, the toggle and twice the interface */
-enum { GATHERED = 1160, EXPECTED = 1162, FLAGS = 1163 };
+enum { START = 0x80, END = 0x40, TOGGLE = 0x20, TRANSFER_ID = 31, ID_AT = 55, SWITCH_DELAY = 1000000, OTHER = 99 /* a number that no call answers */ };
+/* of the first session: how many bytes it has gathered, the transfer ID that it expects, the toggle and twice the interface; free blocks */
+enum { GATHERED = 1168, EXPECTED = 1170, FLAGS = 1171, FREE = 776, FREE_SIZE = 8 };
 
 static bool is(const char *name)
 {
@@ -123,8 +123,12 @@ static uint32_t reception(uint32_t number, const uint8_t *state)
         return 10;
     if (is("unheard-unsubscribed") && number == TECELUME_TABLE_FULL)
         return TECELUME_NO_SUBSCRIPTION;
-    if (is("zeros-at-fault") && state[0] == 0 && number == TECELUME_NO_SUBSCRIPTION)
-        return TECELUME_STATE_FAULT;
+    if (is("zeros-accepted") && state[0] == 0 && number == TECELUME_STATE_FAULT)
+        return TECELUME_NO_SUBSCRIPTION;
+    if (is("no-block-as-table-full") && number == TECELUME_NO_BLOCK)
+        return TECELUME_TABLE_FULL;
+    if (is("block-fault-not-seen") && number == TECELUME_STATE_FAULT && state[FREE] == 0xFE)
+        return TECELUME_TABLE_FULL;
     if (is("fault-not-seen") && number == TECELUME_STATE_FAULT)
         return TECELUME_TABLE_FULL;
     if (is("interface-fault-not-seen") && number == TECELUME_STATE_FAULT && state[FLAGS] == 2 * TECELUME_INTERFACES)
@@ -156,6 +160,10 @@ static uint32_t reason(uint32_t number, const uint8_t *state, uint8_t tail, bool
 
 static void touch(uint32_t number, uint8_t *state, uint8_t *out, size_t out_len)
 {
+    static uint8_t had[FREE_SIZE];
+    if (is("26-keeps-blocks") && number == TECELUME_NO_BLOCK)
+        memcpy(state + FREE, had, sizeof had);
+    memcpy(had, state + FREE, sizeof had);
     if (is("output-touched") && number != TECELUME_HANDED_OUT && out_len > 0)
         out[0] ^= 1;
     if (is("output-touched-after-payload") && number == TECELUME_HANDED_OUT)
@@ -218,6 +226,12 @@ static uint64_t receive_by(const struct arrival *a, uint32_t interface_number, u
     if (is("interface-ignored") || (is("interface-3-accepted") && interface_number >= TECELUME_INTERFACES))
         interface_number = 0;
     uint64_t word = receive(a, interface_number);
+    static const uint8_t none[FREE_SIZE];
+    bool single = start && (a->frame[a->frame_len - 1] & END) != 0, none_free = memcmp(a->state + FREE, none, sizeof none) == 0;
+    if (is("single-frame-needs-a-block") && single && word % 256 == TECELUME_HANDED_OUT && none_free)
+        return TECELUME_NO_BLOCK;
+    if (is("last-block-not-given") && word == TECELUME_TAKEN && none_free)
+        return TECELUME_NO_BLOCK;
     if (is("far-ahead-switches") && word == TECELUME_OTHER_INTERFACE && start && age > SWITCH_DELAY)
         word = receive(a, 0);
     for (uint32_t i = 0; i < TECELUME_INTERFACES && is("other-interface-taken") && word == TECELUME_OTHER_INTERFACE; i++)

@@ -11,14 +11,14 @@
 #include "tecelume.h"
 
 enum { CALLS = 100000, FOLD = 1000, LANES = 6, NODES = 2, TYPES = 6, NUMBERS = TECELUME_OTHER_INTERFACE + 1, ALLOCATEES = 140 };
-enum { GATHERED_AT = 1288, FIRST_ENTRIES = 60 }; /* where the gathered bytes of a receiver start; of an allocator, counts and two entries */
+enum { BLOCKS_AT = 1584, FIRST_ENTRIES = 60 }; /* where the blocks of a receiver start; of an allocator, counts and two entries */
 enum entry { SETUP, RECEIVE, MAP_SETUP, SEND, ALLOCATOR_SETUP, ALLOCATE, OTHERS, ENTRIES };
 
 static const char *const names[ENTRIES] = {"setup", "receive", "map_setup", "send", "allocator_setup", "allocate", "others"};
 #define BIT(number) ((uint64_t)1 << (number))
 static const uint64_t must[ENTRIES] = {
     BIT(0) | BIT(13) | BIT(20),
-    (BIT(10) - 1) | BIT(11) | BIT(12) | BIT(19) | BIT(20) | (BIT(35) - BIT(30)),
+    (BIT(10) - 1) | BIT(11) | BIT(12) | BIT(19) | BIT(20) | BIT(26) | (BIT(35) - BIT(30)),
     BIT(0) | BIT(20),
     BIT(0) | BIT(8) | BIT(9) | BIT(11) | BIT(14) | BIT(20),
     BIT(0) | BIT(20),
@@ -217,9 +217,21 @@ static void receive_any(void)
     }
 }
 
+/* Long transfers of nine nodes at once, none of which ends: they need nearly all blocks. */
+static void crowd(void)
+{
+    uint8_t data[8] = {0};
+    uint32_t id = 0x10000000 | 2u << 8 | 100;
+    for (unsigned i = 0; i < 64; i++) {
+        data[7] = (uint8_t)(i == 0 ? 128 : i % 2 * 32);
+        for (uint32_t node = 0; node < 9; node++)
+            receive(id + node, data, sizeof data, 0);
+    }
+}
+
 static void damage(void)
 {
-    uint8_t *byte = once_in(2) ? state + below(once_in(2) ? GATHERED_AT : TECELUME_RECEIVER_SIZE) : maps[0] + below(sizeof maps);
+    uint8_t *byte = once_in(2) ? state + below(once_in(2) ? BLOCKS_AT : TECELUME_RECEIVER_SIZE) : maps[0] + below(sizeof maps);
     *byte = (uint8_t)below(256);
     byte = allocator + below(once_in(2) ? FIRST_ENTRIES : sizeof allocator);
     *byte = (uint8_t)below(256);
@@ -238,6 +250,8 @@ static void step(void)
     struct lane *lane = lanes + below(LANES);
     uint32_t which = below(1000);
     now += once_in(3000) ? 2500000 : below(2000);
+    if (once_in(8000))
+        crowd();
     if (which < 2)
         damage();
     else if (which < 8)

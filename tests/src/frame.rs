@@ -139,6 +139,11 @@ impl Tail {
         }
     }
 
+    /// Whether the frame is a transfer of its own.
+    pub fn is_single(&self) -> bool {
+        self.start && self.end
+    }
+
     pub fn byte(&self) -> u8 {
         u8::from(self.start) << 7
             | u8::from(self.end) << 6

@@ -4,6 +4,7 @@
 pub mod allocator;
 pub mod binary16;
 pub mod bits;
+pub mod blocks;
 pub mod codec;
 pub mod crc;
 pub mod definitions;

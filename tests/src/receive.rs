@@ -1,7 +1,8 @@
 //! The receiver: setup and the reception of one frame (RULES 3, 4 and 13).
 
+use crate::blocks;
 use crate::frame::{largest_type, priority_of, Stream, Tail, FRAME_PAYLOAD, ID_END, LONGEST_FRAME};
-use crate::session::{Piece, Reason, Session, Step};
+use crate::session::{Piece, Reason, Session, Step, MOST_GATHERED};
 
 pub const LARGEST_NODE: u32 = 127;
 pub const MOST_SUBSCRIPTIONS: usize = 64;
@@ -77,6 +78,7 @@ pub enum Answer {
     PayloadTooLong,
     ChecksumDiffers,
     NoInterface,
+    NoBlock,
     PassedOver(Reason),
 }
 
@@ -96,6 +98,7 @@ impl Answer {
             Answer::PayloadTooLong => 11,
             Answer::ChecksumDiffers => 12,
             Answer::NoInterface => 19,
+            Answer::NoBlock => 26,
             Answer::PassedOver(Reason::NoTransfer) => 30,
             Answer::PassedOver(Reason::WrongToggle) => 31,
             Answer::PassedOver(Reason::WrongTransfer) => 32,
@@ -145,12 +148,13 @@ impl Receiver {
         if head.stream.is_anonymous() {
             return head.hand_out(head.piece.payload.to_vec());
         }
-        match self.session_for(&head) {
-            Ok(session) => match session.accept(&head.piece) {
+        match self.place_for(&head) {
+            Ok(place) => match self.accept(place, &head.piece) {
                 Step::Taken => Answer::Taken,
                 Step::Closed(payload) => head.hand_out(payload),
                 Step::PassedOver(reason) => Answer::PassedOver(reason),
                 Step::TooLong => Answer::PayloadTooLong,
+                Step::NoBlock => Answer::NoBlock,
                 Step::ChecksumDiffers => Answer::ChecksumDiffers,
             },
             Err(refusal) => refusal,
@@ -207,21 +211,56 @@ impl Receiver {
             .map(|one| one.signature)
     }
 
-    /// The stream's session, made if the frame is a start and a place is to be had.
-    fn session_for(&mut self, head: &Head) -> Result<&mut Session, Answer> {
+    /// The place of the stream's session, made if the frame is a start and a place is to be had.
+    fn place_for(&mut self, head: &Head) -> Result<usize, Answer> {
         let (stream, piece) = (head.stream, &head.piece);
-        let place = match self.place_of(&stream) {
-            Some(place) => place,
-            None if !piece.tail.start => return Err(Answer::PassedOver(Reason::NoTransfer)),
+        match self.place_of(&stream) {
+            Some(place) => Ok(place),
+            None if !piece.tail.start => Err(Answer::PassedOver(Reason::NoTransfer)),
             None => {
                 let place = self.free_place(piece.time).ok_or(Answer::TableFull)?;
                 let transfer_id = piece.tail.transfer_id;
                 let session = Session::new(stream, transfer_id, piece.interface, piece.time);
                 self.places[place] = Some(session);
-                place
+                Ok(place)
             }
-        };
-        Ok(self.places[place].as_mut().expect("found or made above"))
+        }
+    }
+
+    /// What the session in a place makes of a frame of its stream.
+    fn accept(&mut self, place: usize, piece: &Piece) -> Step {
+        let session = self.session(place);
+        if let Some(reason) = session.meet(piece) {
+            return Step::PassedOver(reason);
+        }
+        if piece.tail.start {
+            session.time = piece.time;
+        }
+        let count = session.gathered.len() + piece.payload.len();
+        if count > MOST_GATHERED {
+            session.end();
+            return Step::TooLong;
+        }
+        if !piece.tail.is_single() && !self.provide(place, blocks::needed(count), piece.time) {
+            self.session(place).end();
+            return Step::NoBlock;
+        }
+        self.session(place).add(piece)
+    }
+
+    /// Gives the session in a place so many blocks in all; false if they are not to be had.
+    fn provide(&mut self, place: usize, needed: usize, time: u64) -> bool {
+        while self.session(place).blocks.len() < needed {
+            match blocks::take(&mut self.places, time) {
+                Some(block) => self.session(place).blocks.push(block),
+                None => return false,
+            }
+        }
+        true
+    }
+
+    fn session(&mut self, place: usize) -> &mut Session {
+        self.places[place].as_mut().expect("a place in use")
     }
 
     pub fn place_of(&self, stream: &Stream) -> Option<usize> {

@@ -21,6 +21,8 @@ pub struct Session {
     pub stream: Stream,
     pub expected_id: u8,
     pub gathered: Vec<u8>,
+    /// The blocks that the gathered bytes lie in, in the order taken.
+    pub blocks: Vec<u8>,
     pub toggle: bool,
     pub time: u64,
     /// The interface whose frames it takes.
@@ -68,6 +70,7 @@ pub enum Step {
     Closed(Vec<u8>),
     PassedOver(Reason),
     TooLong,
+    NoBlock,
     ChecksumDiffers,
 }
 
@@ -78,6 +81,7 @@ impl Session {
             stream,
             expected_id: transfer_id,
             gathered: Vec::new(),
+            blocks: Vec::new(),
             toggle: false,
             time,
             follows: interface,
@@ -93,20 +97,18 @@ impl Session {
         self.age(time) > TIMEOUT
     }
 
-    pub fn accept(&mut self, piece: &Piece) -> Step {
+    /// Restarts at a frame if it has to; then why the frame is passed over, if it is.
+    pub fn meet(&mut self, piece: &Piece) -> Option<Reason> {
         let tail = piece.tail;
         if self.restart(piece).is_some() {
             self.expect(tail.transfer_id);
             self.follows = piece.interface;
             if !tail.start {
                 self.expected_id = next_transfer_id(self.expected_id);
-                return Step::PassedOver(Reason::NoTransfer);
+                return Some(Reason::NoTransfer);
             }
         }
-        match self.passed_over(piece) {
-            Some(reason) => Step::PassedOver(reason),
-            None => self.take(piece),
-        }
+        self.passed_over(piece)
     }
 
     pub fn restart(&self, piece: &Piece) -> Option<Restart> {
@@ -124,10 +126,17 @@ impl Session {
         }
     }
 
+    /// Waits for a transfer, with nothing in hand.
     fn expect(&mut self, transfer_id: u8) {
         self.gathered.clear();
+        self.blocks.clear();
         self.toggle = false;
         self.expected_id = transfer_id;
+    }
+
+    /// Is done with its transfer, handed out or dropped.
+    pub fn end(&mut self) {
+        self.expect(next_transfer_id(self.expected_id));
     }
 
     /// Why a frame at which nothing restarts is passed over; where several reasons hold, the first.
@@ -149,21 +158,16 @@ impl Session {
         }
     }
 
-    fn take(&mut self, piece: &Piece) -> Step {
-        let tail = piece.tail;
-        if tail.start {
-            self.time = piece.time;
-        }
+    /// Adds the bytes of a frame that is taken, for which there is room.
+    pub fn add(&mut self, piece: &Piece) -> Step {
         self.gathered.extend_from_slice(piece.payload);
         self.toggle = !self.toggle;
-        if self.gathered.len() <= MOST_GATHERED && !tail.end {
+        if !piece.tail.end {
             return Step::Taken;
         }
         let gathered = std::mem::take(&mut self.gathered);
-        self.expect(next_transfer_id(self.expected_id));
-        if gathered.len() > MOST_GATHERED {
-            Step::TooLong
-        } else if tail.start {
+        self.end();
+        if piece.tail.start {
             Step::Closed(gathered)
         } else {
             checked(&gathered, piece.signature)

@@ -1,8 +1,10 @@
 //! The receiver as the bytes that C lends: layout, reading with faults (RULES 5.4), and writing.
 //!
-//! A write touches only what means something: nothing of an empty place but its key, and of a
-//! session's room only the bytes in hand. So it leaves all else as it was.
+//! A write touches only what means something: nothing of an empty place but its key, of a session's
+//! list only the blocks that it has, and of these only the bytes in hand. So it leaves all else as
+//! it was.
 
+use crate::blocks::{holders, needed, BLOCK, BLOCKS};
 use crate::frame::{largest_type, Stream, TransferType, TRANSFER_IDS};
 use crate::receive::{
     all_differ, Receiver, Subscription, INTERFACES, LARGEST_NODE, MOST_SUBSCRIPTIONS, PLACES,
@@ -13,11 +15,16 @@ pub const OWN: usize = 0;
 pub const COUNT: usize = 1;
 pub const SIGNATURES: usize = 8;
 pub const TIMES: usize = 520;
-pub const SUBSCRIPTION_KEYS: usize = 776;
-pub const STREAM_KEYS: usize = 1032;
-pub const CONTROLS: usize = 1160;
-pub const GATHERED: usize = 1288;
-pub const SIZE: usize = 17736;
+/// The free blocks: bit b, of value 2^b, is 1 where block b is free.
+pub const FREE: usize = 776;
+pub const SUBSCRIPTION_KEYS: usize = 784;
+pub const STREAM_KEYS: usize = 1040;
+pub const CONTROLS: usize = 1168;
+pub const BLOCK_LISTS: usize = 1296;
+pub const BLOCK_BYTES: usize = 1584;
+pub const SIZE: usize = 5680;
+/// The room of a place's list: the blocks of the longest transfer.
+pub const LIST: usize = MOST_GATHERED.div_ceil(BLOCK);
 
 /// The receiver that the bytes hold; none if they have a fault (RULES 5.4).
 pub fn read(bytes: &[u8]) -> Option<Receiver> {
@@ -33,7 +40,7 @@ pub fn read(bytes: &[u8]) -> Option<Receiver> {
     let places: Vec<Option<Session>> = (0..PLACES)
         .map(|place| read_place(bytes, place))
         .collect::<Option<_>>()?;
-    if !all_differ(&subscriptions) || !streams_differ(&places) {
+    if !all_differ(&subscriptions) || !streams_differ(&places) || !each_block_once(bytes, &places) {
         return None;
     }
     Some(Receiver {
@@ -58,6 +65,14 @@ pub fn write(receiver: &Receiver, bytes: &mut [u8]) {
             None => put_u32(bytes, STREAM_KEYS + 4 * place, 0),
         }
     }
+    put_u64(bytes, FREE, free_blocks(&receiver.places));
+}
+
+/// The blocks that no session has, as a state holds them.
+pub fn free_blocks(places: &[Option<Session>]) -> u64 {
+    let holders = holders(places);
+    let free = (0..BLOCKS).filter(|&block| holders[block] == 0);
+    free.map(|block| 1 << block).sum()
 }
 
 /// A stream's key: never 0, as every session has a named source.
@@ -86,10 +101,20 @@ fn read_place(bytes: &[u8], place: usize) -> Option<Option<Session>> {
     if !in_range || (toggle && count == 0) {
         return None;
     }
+    let blocks = bytes[list_at(place)..][..needed(count)].to_vec();
+    if blocks.iter().any(|&block| usize::from(block) >= BLOCKS) {
+        return None;
+    }
     Some(Some(Session {
         stream,
         expected_id,
-        gathered: bytes[gathered_at(place)..][..count].to_vec(),
+        gathered: blocks
+            .iter()
+            .flat_map(|&block| &bytes[block_at(block)..][..BLOCK])
+            .take(count)
+            .copied()
+            .collect(),
+        blocks,
         toggle,
         time: get_u64(bytes, TIMES + 8 * place),
         follows,
@@ -117,6 +142,12 @@ fn streams_differ(places: &[Option<Session>]) -> bool {
     (0..streams.len()).all(|index| !streams[..index].contains(&streams[index]))
 }
 
+/// Whether each block is either free or in one list, once.
+fn each_block_once(bytes: &[u8], places: &[Option<Session>]) -> bool {
+    let (free, holders) = (get_u64(bytes, FREE), holders(places));
+    (0..BLOCKS).all(|block| (free >> block & 1) as usize + holders[block] == 1)
+}
+
 fn write_session(session: &Session, bytes: &mut [u8], place: usize) {
     let count = session.gathered.len();
     put_u32(bytes, STREAM_KEYS + 4 * place, stream_key(&session.stream));
@@ -125,12 +156,20 @@ fn write_session(session: &Session, bytes: &mut [u8], place: usize) {
     control[2] = session.expected_id;
     control[3] = u8::from(session.toggle) | session.follows << 1;
     put_u64(bytes, TIMES + 8 * place, session.time);
-    bytes[gathered_at(place)..][..count].copy_from_slice(&session.gathered);
+    bytes[list_at(place)..][..session.blocks.len()].copy_from_slice(&session.blocks);
+    for (&block, part) in session.blocks.iter().zip(session.gathered.chunks(BLOCK)) {
+        bytes[block_at(block)..][..part.len()].copy_from_slice(part);
+    }
 }
 
-/// Where a place's room for gathered bytes begins.
-pub fn gathered_at(place: usize) -> usize {
-    GATHERED + MOST_GATHERED * place
+/// Where a place's list of blocks begins.
+pub fn list_at(place: usize) -> usize {
+    BLOCK_LISTS + LIST * place
+}
+
+/// Where a block begins.
+pub fn block_at(block: u8) -> usize {
+    BLOCK_BYTES + BLOCK * usize::from(block)
 }
 
 pub fn get_u32(bytes: &[u8], at: usize) -> u32 {

@@ -18,6 +18,7 @@ told-number (rules.refused n) = refl
 told-number rules.full = refl
 told-number (rules.passed r) = reason-number r
 told-number rules.long = refl
+told-number rules.noBlock = refl
 told-number rules.differs = refl
 
 pub told-length : (a : rules.Answer) → transferIn (told a) .len ≡ length (rules.handedPayload a)
@@ -27,4 +28,5 @@ told-length (rules.refused n) = refl
 told-length rules.full = refl
 told-length (rules.passed r) = refl
 told-length rules.long = refl
+told-length rules.noBlock = refl
 told-length rules.differs = refl

@@ -4,7 +4,7 @@ use Prim.Native.Nat.{ℕ}
 use lib.ListN.{length}
 use Rattle.bits.specs.Part.{splice}
 use Rattle.answers.specs.declared.Answer.{Answer}
-use Rattle.answers.specs.declared.Answer.the-variants.{Taken, Handed, Refused, Full, Passed, TooLong, BadChecksum, Faulty}
+use Rattle.answers.specs.declared.Answer.the-variants.{Taken, Handed, Refused, Full, Passed, TooLong, NoBlock, BadChecksum, Faulty}
 use Rattle.answers.specs.declared.Reason.{Reason}
 use Rattle.answers.specs.declared.Reason.the-variants.{NoTransfer, WrongToggle, WrongTransfer, RepeatedStart, OtherInterface}
 use Rattle.answers.specs.declared.Transfer.{Transfer}
@@ -26,6 +26,7 @@ numberOf (Refused n) = n
 numberOf Full = 9
 numberOf (Passed r) = reasonNumber r
 numberOf TooLong = 11
+numberOf NoBlock = 26
 numberOf BadChecksum = 12
 numberOf Faulty = 20
 
@@ -41,6 +42,7 @@ transferIn (Refused n) = noTransfer
 transferIn Full = noTransfer
 transferIn (Passed r) = noTransfer
 transferIn TooLong = noTransfer
+transferIn NoBlock = noTransfer
 transferIn BadChecksum = noTransfer
 transferIn Faulty = noTransfer
 
@@ -72,6 +74,7 @@ told (rules.refused n) = Refused n
 told rules.full = Full
 told (rules.passed r) = Passed (toldReason r)
 told rules.long = TooLong
+told rules.noBlock = NoBlock
 told rules.differs = BadChecksum
 
 -- the output buffer after it: the payload that is handed out at the front

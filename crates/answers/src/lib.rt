@@ -35,6 +35,7 @@ pub enum Answer {
     Full,
     Passed(Reason),
     TooLong,
+    NoBlock,
     BadChecksum,
     Faulty,
 }
@@ -101,6 +102,7 @@ impl Answer {
             Answer::Full => 9,
             Answer::Passed(r) => r.number(),
             Answer::TooLong => 11,
+            Answer::NoBlock => 26,
             Answer::BadChecksum => 12,
             Answer::Faulty => 20,
         }
@@ -117,6 +119,7 @@ impl Answer {
             Answer::Full => no_transfer(),
             Answer::Passed(_) => no_transfer(),
             Answer::TooLong => no_transfer(),
+            Answer::NoBlock => no_transfer(),
             Answer::BadChecksum => no_transfer(),
             Answer::Faulty => no_transfer(),
         }

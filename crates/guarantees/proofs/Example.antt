@@ -20,11 +20,12 @@ use Rattle.guarantees.proofs.FromSetup.{octets-zeros, octets-state}
 use Rattle.guarantees.proofs.Received.{table-law}
 use Rattle.rules.proofs.Examples.{example}
 use Rattle.rules.proofs.Lift.{viewOf, frames-are, while-back, premises-back}
+use Rattle.rules.specs.Blocks.{used, times, lowest, freeBlock, cleared, asks}
 use Rattle.rules.specs.Check.{Reception, parsed, frameCheck, check}
 use Rattle.rules.specs.Condition3.{ofStream, Receiver, frames, Premises, While, Transfer, rulesTable}
 use Rattle.rules.specs.Example.{setup, stream, payload, start, crowd, spacious, crowded}
 use Rattle.rules.specs.Frame.{Frame, sameStream, streamOf}
-use Rattle.rules.specs.Reception.{stepNew, stepStart, stepSeek, stepAnonymous, stepChecked, step, after}
+use Rattle.rules.specs.Reception.{stepBlock, stepAsk, stepAt, stepNew, stepStart, stepSeek, stepAnonymous, stepChecked, step, after}
 use Rattle.rules.specs.Session.{restarts, over, closing, takeEnd, takeLong, takes, proceedIf, proceed, met, restarted, react}
 use Rattle.rules.specs.Setup.{subscribed, acceptable}
 use Rattle.rules.specs.Sound.{streamFits, sessionFits, sound}
@@ -71,13 +72,13 @@ tested-list (r ∷ rs) e = (tested-frame (r .arrival .frame) (and-left (frameTes
 tableTest : Places → Bool
 tableTest [] = true
 tableTest (empty ∷ ps) = tableTest ps
-tableTest (held d s ∷ ps) = inRange (s .since) (s .gathered) && tableTest ps
+tableTest (held d s bs ∷ ps) = inRange (s .since) (s .gathered) && tableTest ps
 
 tested-table : (ps : Places) → tableTest ps ≡ true → AllWritable ps
 unfolding tableTest inRange
 tested-table [] e = tt
 tested-table (empty ∷ ps) e = (tt, tested-table ps e)
-tested-table (held d s ∷ ps) e =
+tested-table (held d s bs ∷ ps) e =
     let a = and-left (inRange (s .since) (s .gathered)) (tableTest ps) e in (
       record { since = ltb-true (s .since) (2 ^ 64) (and-left (ltb (s .since) (2 ^ 64)) (bytesTest (s .gathered)) a); bytes = tested-bytes (s .gathered) (and-right (ltb (s .since) (2 ^ 64)) (bytesTest (s .gathered)) a) },
       tested-table ps (and-right (inRange (s .since) (s .gathered)) (tableTest ps) e),
@@ -101,7 +102,7 @@ module _ (m : List ℕ) (x : Receiver (rulesTable setup)) (h : Lendable m x) whe
   stands : Stands m (x .state)
   stands = table-law m (x .state) (h .state .sound) (h .state .bytes) (h .table) (h .writable)
 
-  lends : Lent setup (written m 0 (x .state))
+  lends : Lent setup (written m (x .state))
   lends = record { setup = stands .setup ∙ h .state .setup; sound = stands .sound; bytes = stands .bytes }
 
   view-back : viewOf setup (lentBytes setup) (view setup) (lentOf m x) ≡ x
@@ -149,11 +150,11 @@ unfolding frameTest inRange bytesTest
 start-test = refl
 
 spacious-tests : (sound (spacious .state) ≡ true) × ((tableTest (spacious .state) ≡ true) × (listTest (spacious .list) ≡ true))
-unfolding sound streamFits sessionFits after step stepChecked stepAnonymous stepSeek stepStart stepNew seek placeFor check frameCheck parsed streamOf sameStream subscribed react met restarted restarts proceed proceedIf over takes takeLong takeEnd closing tableTest listTest frameTest inRange bytesTest
+unfolding sound streamFits sessionFits after step stepChecked stepAnonymous stepSeek stepStart stepNew used times lowest freeBlock cleared asks stepBlock stepAsk stepAt seek placeFor check frameCheck parsed streamOf sameStream subscribed react met restarted restarts proceed proceedIf over takes takeLong takeEnd closing tableTest listTest frameTest inRange bytesTest
 spacious-tests = (refl, (refl, refl))
 
 crowded-tests : (sound (crowded .state) ≡ true) × ((tableTest (crowded .state) ≡ true) × (listTest (crowded .list) ≡ true))
-unfolding crowd sound streamFits sessionFits sameStream tableTest listTest frameTest inRange bytesTest
+unfolding crowd used times sound streamFits sessionFits sameStream tableTest listTest frameTest inRange bytesTest
 crowded-tests = (refl, (refl, refl))
 
 lendable : (x : Receiver (rulesTable setup)) → x .start .arrival ≡ start → (sound (x .state) ≡ true) × ((tableTest (x .state) ≡ true) × (listTest (x .list) ≡ true))

@@ -1,5 +1,5 @@
 -- The state that setup leaves, and what calls make of it.
-use mathlib.Core.Path.{_≡_, refl, ap₂, subst, _∙_}
+use mathlib.Core.Path.{_≡_, refl, sym, ap₂, subst, _∙_}
 use mathlib.Core.Bool.{Bool, true, false}
 use mathlib.Core.List.{List, [], _∷_, _++_, map}
 use Prim.Native.Nat.{ℕ, zero, suc, _-_, _%_, _<_}
@@ -15,22 +15,32 @@ use Rattle.guarantees.specs.FromSetup.{SetUp, Reached, setUp, called, se
 use Rattle.guarantees.specs.Run.{Call, receptions, AllTyped, readings, readingOf}
 use Rattle.guarantees.proofs.Condition3.{lent-stays, view}
 use Rattle.guarantees.proofs.Run.{run-law}
+use Rattle.rules.proofs.Bounds.{block-bounds}
+use Rattle.rules.proofs.Lasting.{lasting}
 use Rattle.rules.proofs.Lift.{View, lifted, lifted-burst}
+use Rattle.rules.specs.Answer as rules
+use Rattle.rules.specs.BlockBounds.{modest}
+use Rattle.rules.specs.Condition3.{All}
 use Rattle.rules.specs.Reception.{run}
 use Rattle.rules.specs.Setup.{Subscription, Setup, allFit, acceptable}
 use Rattle.rules.specs.Table.{Places, begun}
 use Rattle.rules.specs.Tests.{pick}
 use Rattle.setup.proofs.Fresh.{fresh}
 use Rattle.setup.specs.Setup.{given, accepted, signatures, keys, filled, stateOf, Result, result, afterSetup}
+use Rattle.answers.specs.Reception.{told}
+use Rattle.answers.specs.declared.Answer.the-variants.{NoBlock}
 use Rattle.answers.specs.declared.Outcome.the-variants.{Done, Unacceptable, Short}
 use Rattle.state.proofs.Bools.{and-left, and-right}
-use Rattle.state.specs.Layout.{size, placesOf}
+use Rattle.state.specs.Layout.{size, streamKeysAt, placesOf}
 
 -- ── bytes ──
 
 pub octets-zeros : (n : ℕ) → Octets (replicate n 0)
 octets-zeros zero = tt
 octets-zeros (suc n) = (omega arith, octets-zeros n)
+
+octets-free : Octets (replicate 8 255)
+octets-free = (omega arith, (omega arith, (omega arith, (omega arith, (omega arith, (omega arith, (omega arith, (omega arith, tt))))))))
 
 octets-signatures : (l : List Subscription) → Octets (signatures l)
 unfolding signatures
@@ -49,15 +59,17 @@ pub octets-state : (u : Setup) → u .own < 256 → length (u .subscriptions) < 
 unfolding stateOf
 octets-state u a b =
     let s = u .subscriptions in
-    let ks : List ℕ = filled 256 (keys s) ++ replicate 16704 0 in
-    let gap : List ℕ = replicate 256 0 ++ ks in
+    let n = size - streamKeysAt in
+    let ks : List ℕ = filled 256 (keys s) ++ replicate n 0 in
+    let gap : List ℕ = replicate 256 0 ++ (replicate 8 255 ++ ks) in
     let ss : List ℕ = filled 512 (signatures s) ++ gap in (
       a,
       (
         b,
         octets-append (replicate 6 0) ss (octets-zeros 6)
             (octets-filled 512 (signatures s) gap (octets-signatures s)
-            (octets-append (replicate 256 0) ks (octets-zeros 256) (octets-filled 256 (keys s) (replicate 16704 0) (octets-keys s) (octets-zeros 16704)))),
+            (octets-append (replicate 256 0) (replicate 8 255 ++ ks) (octets-zeros 256)
+            (octets-append (replicate 8 255) ks octets-free (octets-filled 256 (keys s) (replicate n 0) (octets-keys s) (octets-zeros n))))),
       ),
     )
 
@@ -120,6 +132,26 @@ reads m own r h cs typed =
     run-law (afterSetup m own r .state) cs (b .0 .sound) (b .0 .bytes) typed .read
     ∙ ap₂ (λ (u : Setup) (ps : Places). map readingOf (run u ps (receptions cs))) (b .0 .setup) (b .1)
 
+not-told : (a : rules.Answer) → (a ≡ rules.noBlock → ⊥) → told a ≡ NoBlock → ⊥
+not-told rules.taken n e = let z : _≡_ {A = ℕ} 0 1 = cc in omega arith
+not-told (rules.handed p d priority t) n e = let z : _≡_ {A = ℕ} 0 1 = cc in omega arith
+not-told (rules.refused k) n e = let z : _≡_ {A = ℕ} 0 1 = cc in omega arith
+not-told rules.full n e = let z : _≡_ {A = ℕ} 0 1 = cc in omega arith
+not-told (rules.passed r) n e = let z : _≡_ {A = ℕ} 0 1 = cc in omega arith
+not-told rules.long n e = let z : _≡_ {A = ℕ} 0 1 = cc in omega arith
+not-told rules.noBlock n e = n refl
+not-told rules.differs n e = let z : _≡_ {A = ℕ} 0 1 = cc in omega arith
+
+none-told : (l : List rules.Answer) → All (λ a. a ≡ rules.noBlock → ⊥) l → All (λ r. r .answer ≡ NoBlock → ⊥) (map readingOf l)
+none-told [] h = tt
+none-told (a ∷ l) h = (not-told a (h .0), none-told l (h .1))
+
+served : (m : List ℕ) (own : ℕ) (r : List ℕ) → SetUp m own r → (cs : List Call) → AllTyped cs → modest 2 (given own r) begun (receptions cs) ≡ true
+    → All (λ x. x .answer ≡ NoBlock → ⊥) (readings (afterSetup m own r .state) cs)
+served m own r h cs typed small =
+    subst (All (λ x. x .answer ≡ NoBlock → ⊥)) (sym (reads m own r h cs typed))
+    (none-told (run (given own r) begun (receptions cs)) (block-bounds .ever 2 (omega arith) (given own r) begun (receptions cs) (lasting .setup) refl small))
+
 lasts : (u : Setup) (m : List ℕ) → Reached u m → Lent u m
 lasts u m (setUp n own r h e) = subst (λ w. Lent w (afterSetup n own r .state)) e (begins n own r h .0)
 lasts u m (called {m = n} h c typed) = lent-stays u n c (lasts u n h) typed
@@ -137,4 +169,12 @@ reached-view u =
     }
 
 pub from-setup : FromSetup
-from-setup = record { begins = begins; reads = reads; lasts = lasts; condition3 = lifted setUpBytes reached-view; bursts = lifted-burst setUpBytes reached-view }
+from-setup =
+    record {
+      begins = begins;
+      reads = reads;
+      served = served;
+      lasts = lasts;
+      condition3 = lifted setUpBytes reached-view;
+      bursts = lifted-burst setUpBytes reached-view;
+    }

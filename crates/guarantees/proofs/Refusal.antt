@@ -10,10 +10,11 @@ use Rattle.rules.proofs.Refusals.{refusals}
 use Rattle.rules.specs.Answer as rules
 use Rattle.rules.specs.Frame.{Arrival}
 use Rattle.rules.specs.Refusal.{refuses}
-use Rattle.receiver.proofs.Lent.{same-table}
 use Rattle.receiver.specs.Receive.{arriving, receivedIf, received}
 use Rattle.answers.proofs.Reception.{told-number}
 use Rattle.answers.specs.Reception.{numberOf, told, outAfter}
+use Rattle.state.proofs.Faultless.{ready}
+use Rattle.state.proofs.Good.{same-table}
 use Rattle.state.specs.Layout.{setupOf, placesOf}
 use Rattle.state.specs.Place.{written}
 use Rattle.state.specs.Sound.{soundState}
@@ -26,6 +27,7 @@ out-kept (rules.refused k) out n = refl
 out-kept rules.full out n = refl
 out-kept (rules.passed r) out n = refl
 out-kept rules.long out n = refl
+out-kept rules.noBlock out n = refl
 out-kept rules.differs out n = refl
 
 module _ (m : List ℕ) (f : Arrival) (out : List ℕ) where
@@ -37,7 +39,7 @@ module _ (m : List ℕ) (f : Arrival) (out : List ℕ) where
       go false e n = refl
       go true e n =
           let number = sym (told-number (stepOn m f out .answer)) in
-          ap (written m 0) (refusals (setupOf m) (placesOf m) (arriving f out) (ap refuses number ∙ n)) ∙ same-table m e bytes
+          ap (written m) (refusals (setupOf m) (placesOf m) (arriving f out) (ap refuses number ∙ n)) ∙ same-table m (ready m e) bytes
 
   output-kept : (numberOf (received m f out .answer) ≡ 1 → ⊥) → received m f out .out ≡ out
   unfolding received receivedIf

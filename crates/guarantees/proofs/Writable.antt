@@ -1,31 +1,34 @@
 -- What a step stores is the times and the bytes of frames: the layout holds them if it holds those that were there.
-use mathlib.Core.Path.{_≡_}
-use mathlib.Core.Bool.{Bool, true, false, _&&_}
-use mathlib.Core.List.{[], _∷_, _++_}
+use mathlib.Core.Path.{_≡_, refl, sym, subst}
+use mathlib.Core.Bool.{Bool, true, false}
+use mathlib.Core.List.{List, [], _∷_, _++_, map}
+use mathlib.Core.Logic.{_⊎_, inl, inr}
 use mathlib.Core.Option.{Option, none, some}
-use Prim.Native.Nat.{ℕ, zero, suc, _-_, _^_, _<_}
+use Prim.Native.Nat.{ℕ, zero, suc, _-_, _^_, _≤_, _<_}
 use native.Mathlib.Omega.{arith}
-use borrow.Author.Tests.{ltb-true, leb-true, eqb-true}
-use lib.Dec.{ltb, leb, eqb}
+use borrow.Author.Tests.{ltb-true, ltb-false}
+use lib.Dec.{ltb}
 use lib.ListN.{length, getD, set}
 use Rattle.bits.proofs.Octets.{octets-append, octets-take}
 use Rattle.bits.specs.Order.{Octets}
 use Rattle.guarantees.specs.Received.{Typed}
 use Rattle.guarantees.specs.Written.{Writable, WritableAt, AllWritable}
+use Rattle.rules.proofs.Landing.{Cleared, untouched, eased, landed}
+use Rattle.rules.proofs.Lasting.{test-fits, sound-fits, sound-shared, sound-size}
+use Rattle.rules.proofs.Shares.{times-append, times-here}
 use Rattle.rules.specs.Answer.{Reason}
+use Rattle.rules.specs.Blocks.{keeps, blocksIn, used, times, stale, relieved}
 use Rattle.rules.specs.Check.{Reception, Parsed, parsed, check}
-use Rattle.rules.specs.Frame.{Arrival, Stream, isAnonymous}
-use Rattle.rules.specs.Reception.{stepNew, stepStart, sessionIn, stepSeek, stepAnonymous, stepChecked, step}
-use Rattle.rules.specs.Session.{Session, restarts, restarted, met, over, sinceOf, takeEnd, takeLong, takes, proceedIf, proceed, react, fresh}
+use Rattle.rules.specs.Frame.{Arrival, isAnonymous}
+use Rattle.rules.specs.Reception.{stepAt, stepNew, stepStart, sessionIn, stepSeek, stepAnonymous, stepChecked, step}
+use Rattle.rules.specs.Session.{Session, restarts, restarted, met, over, sinceOf, closed, takeEnd, takeLong, takes, proceedIf, proceed, fresh}
 use Rattle.rules.specs.Setup.{Setup}
-use Rattle.rules.specs.Sound.{messageFits, serviceFits, streamFits, sessionFits, placesFit}
+use Rattle.rules.specs.Sound.{streamFits, sessionFits, placeFits, placesFit, sound}
 use Rattle.rules.specs.Table.{Place, empty, held, Places, seek, holds, placeFor}
 use Rattle.rules.specs.Tests.{pick}
 use Rattle.state.proofs.Bools.{and-left, and-right}
-use Rattle.state.proofs.Keys.{stream-key}
-use Rattle.state.proofs.Places.{Holdable}
-use Rattle.state.proofs.Written.{AllStorable, AllPlain}
-use Rattle.frame.specs.Key.{keyOf}
+use Rattle.state.proofs.Good.{AllTimed, Good}
+use Rattle.state.proofs.Written.{AllPlain}
 
 -- ── one session ──
 
@@ -58,9 +61,9 @@ module _ (s : Session) (v : Parsed) (h : Writable s) (b : Brings v) where
     go (some r) = h
     go none = long-writable (ltb 514 (length (s .gathered ++ v .payload)))
 
-react-writable : (s : Session) (v : Parsed) → Writable s → Brings v → Writable (react s v .session)
-unfolding react met restarted
-react-writable s v h b = proceed-writable (met s v) v (go (restarts s v)) b where
+met-writable : (s : Session) (v : Parsed) → Writable s → Writable (met s v)
+unfolding met restarted
+met-writable s v h = go (restarts s v) where
   go : (c : Bool) → Writable (pick c (restarted s v) s)
   go true = record { since = h .since; bytes = tt }
   go false = h
@@ -82,14 +85,37 @@ fresh-writable v b = record { since = b .time; bytes = tt }
 
 in-writable : (p : Place) (v : Parsed) → WritableAt p → Brings v → Writable (sessionIn p v)
 in-writable empty v h b = fresh-writable v b
-in-writable (held e s) v h b = h
+in-writable (held e s bs) v h b = h
+
+-- an emptied session has no bytes, and its time stays
+relieved-writable : (t : ℕ) (ps : Places) → AllWritable ps → AllWritable (map (relieved t) ps)
+relieved-writable t [] h = tt
+relieved-writable t (empty ∷ ps) h = (tt, relieved-writable t ps (h .1))
+relieved-writable t (held d s bs ∷ ps) h = (go (stale t s), relieved-writable t ps (h .1)) where
+  go : (c : Bool) → WritableAt (pick c (held d (closed s (s .since)) []) (held d s bs))
+  go true = record { since = h .0 .since; bytes = tt }
+  go false = h .0
+
+cleared-writable : {t : ℕ} {ps qs : Places} → Cleared t ps qs → AllWritable ps → AllWritable qs
+cleared-writable (untouched e) h = subst AllWritable (sym e) h
+cleared-writable {t} {ps} (eased e) h = subst AllWritable (sym e) (relieved-writable t ps h)
 
 module _ (ps : Places) (v : Parsed) (h : AllWritable ps) (b : Brings v) where
+  at-step : (i : ℕ) (s : Session) (bs : List ℕ) → Writable s → AllWritable (stepAt ps i s bs v .places)
+  at-step i s bs w =
+      let l = landed ps i s bs v in
+      subst AllWritable (sym (l .is))
+      (set-writable (l .table) i (held (v .stream) (l .session) (l .blocks))
+      (cleared-writable (l .clear) (set-writable ps i (held (v .stream) s bs) h w)) (ends (l .either)))
+    where
+      ends : {x : Session} → (x ≡ closed s (sinceOf s v)) ⊎ (x ≡ proceed s v .session) → Writable x
+      ends (inl e) = subst Writable (sym e) (record { since = since-lt s v w b; bytes = tt })
+      ends (inr e) = subst Writable (sym e) (proceed-writable s v w b)
+
   new-writable : (o : Option ℕ) → AllWritable (stepNew o ps v .places)
   unfolding stepNew
   new-writable none = h
-  new-writable (some i) =
-      set-writable ps i (held (v .stream) (proceed (fresh v) v .session)) h (proceed-writable (fresh v) v (fresh-writable v b) b)
+  new-writable (some i) = at-step i (fresh v) [] (fresh-writable v b)
 
   start-writable : (c : Bool) → AllWritable (stepStart c ps v .places)
   unfolding stepStart
@@ -100,9 +126,9 @@ module _ (ps : Places) (v : Parsed) (h : AllWritable ps) (b : Brings v) where
   unfolding stepSeek
   seek-writable none = start-writable (v .start)
   seek-writable (some i) =
-      let s = sessionIn (getD ps i empty) v in
-      set-writable ps i (held (v .stream) (react s v .session)) h
-      (react-writable s v (in-writable (getD ps i empty) v (at-writable ps i h) b) b)
+      let p = getD ps i empty in
+      let s = sessionIn p v in
+      at-step i (met s v) (keeps (met s v) (blocksIn p)) (met-writable s v (in-writable p v (at-writable ps i h) b))
 
   anonymous-writable : (c : Bool) → AllWritable (stepAnonymous c ps v .places)
   unfolding stepAnonymous
@@ -124,76 +150,33 @@ step-writable u ps r h t = checked-writable ps (parsed u (r .arrival)) h (brings
 
 -- ── a table without a fault, in the layout ──
 
-module _ (d : Stream) where
-  record InKey : Type 0 where
-    transferType : d .transferType < 3
-    type : d .type < 65536
-    source : d .source < 128
-    named : 0 < d .source
-    destination : d .destination < 128
+all-timed : (ps : Places) → AllWritable ps → AllTimed ps
+all-timed [] h = tt
+all-timed (empty ∷ ps) h = (tt, all-timed ps (h .1))
+all-timed (held d s bs ∷ ps) h = (h .0 .since, all-timed ps (h .1))
 
-  of-kind : (c : Bool) → pick c (messageFits d) (serviceFits d) ≡ true → (d .type < 65536) × (d .destination < 128)
-  of-kind true e =
-      let z = eqb-true (d .destination) 0 (and-right (ltb (d .type) 65536) (eqb (d .destination) 0) e) in
-      (ltb-true (d .type) 65536 (and-left (ltb (d .type) 65536) (eqb (d .destination) 0) e), omega arith)
-  of-kind false e =
-      let a = and-right (ltb (d .type) 256) (ltb 0 (d .destination) && ltb (d .destination) 128) e in
-      let t = ltb-true (d .type) 256 (and-left (ltb (d .type) 256) (ltb 0 (d .destination) && ltb (d .destination) 128) e) in
-      (omega arith, ltb-true (d .destination) 128 (and-right (ltb 0 (d .destination)) (ltb (d .destination) 128) a))
+pub good : (ps : Places) → sound ps ≡ true → AllWritable ps → Good ps
+good ps ok h = record { whole = sound-size ps ok; fit = sound-fits ps ok; shared = sound-shared ps ok; timed = all-timed ps h }
 
-  in-key : streamFits d ≡ true → InKey
-  unfolding streamFits
-  in-key e =
-      let a = and-left (ltb 0 (d .source) && ltb (d .source) 128) _ e in
-      let b = and-right (ltb 0 (d .source) && ltb (d .source) 128) (ltb (d .transferType) 3 && pick (eqb (d .transferType) 0) (messageFits d) (serviceFits d)) e in
-      let c = of-kind (eqb (d .transferType) 0) (and-right (ltb (d .transferType) 3) (pick (eqb (d .transferType) 0) (messageFits d) (serviceFits d)) b) in
-      record {
-        transferType = ltb-true (d .transferType) 3 (and-left (ltb (d .transferType) 3) _ b);
-        type = c .0;
-        source = ltb-true (d .source) 128 (and-right (ltb 0 (d .source)) (ltb (d .source) 128) a);
-        named = ltb-true 0 (d .source) (and-left (ltb 0 (d .source)) (ltb (d .source) 128) a);
-        destination = c .1;
-      }
+-- the number of a block is a byte
+octets-blocks : (bs : List ℕ) → ((b : ℕ) → 64 ≤ b → times b bs ≡ 0) → Octets bs
+octets-blocks [] h = tt
+octets-blocks (c ∷ bs) h =
+    (below (ltb c 64) refl, octets-blocks bs (λ b k. omega (arith, h b k, times-append b (c ∷ []) bs)))
+  where
+    below : (t : Bool) → ltb c 64 ≡ t → c < 256
+    below true e = omega (arith, ltb-true c 64 e)
+    below false e = absurd (omega (arith, h c (ltb-false c 64 e), times-here c bs))
 
-  holdable : (s : Session) → streamFits d ≡ true → sessionFits s ≡ true → Writable s → Holdable d s
-  unfolding sessionFits keyOf
-  holdable s e q w =
-      let k = in-key e in
-      let hk = k .transferType in
-      let ht = k .type in
-      let hs = k .source in
-      let hn = k .named in
-      let hd = k .destination in
-      record {
-        some = λ z. omega arith;
-        word = omega arith;
-        stream = stream-key d (omega arith) ht hs hd;
-        few = leb-true (length (s .gathered)) 514 (and-left (leb (length (s .gathered)) 514) _ (and-right (ltb (s .expected) 32 && ltb (s .follows) 3) _ q));
-        since = w .since;
-      }
-
-expected-lt : (s : Session) → sessionFits s ≡ true → s .expected < 32
-unfolding sessionFits
-expected-lt s q = ltb-true (s .expected) 32 (and-left _ _ (and-left (ltb (s .expected) 32 && ltb (s .follows) 3) _ q))
-
-follows-lt : (s : Session) → sessionFits s ≡ true → s .follows < 3
-unfolding sessionFits
-follows-lt s q = ltb-true (s .follows) 3 (and-right (ltb (s .expected) 32) _ (and-left (ltb (s .expected) 32 && ltb (s .follows) 3) _ q))
-
-pub all-storable : (ps : Places) → placesFit ps ≡ true → AllWritable ps → AllStorable ps
-all-storable [] e h = tt
-all-storable (empty ∷ ps) e h = (tt, all-storable ps e (h .1))
-all-storable (held d s ∷ ps) e h =
-    let f = and-left (streamFits d && sessionFits s) (placesFit ps) e in (
-      holdable d s (and-left (streamFits d) (sessionFits s) f) (and-right (streamFits d) (sessionFits s) f) (h .0),
-      all-storable ps (and-right (streamFits d && sessionFits s) (placesFit ps) e) (h .1),
+plain-from : (ps : Places) → placesFit ps ≡ true → ((b : ℕ) → 64 ≤ b → times b (used ps) ≡ 0) → AllWritable ps → AllPlain ps
+unfolding used
+plain-from [] e k h = tt
+plain-from (empty ∷ ps) e k h = (tt, plain-from ps e k (h .1))
+plain-from (held d s bs ∷ ps) e k h =
+    let f = test-fits s (and-left (sessionFits s) _ (and-right (streamFits d) _ (and-left (placeFits (held d s bs)) (placesFit ps) e))) in (
+      ((omega (arith, f .expected), omega (arith, f .follows)), (h .0 .bytes, octets-blocks bs (λ b g. omega (arith, k b g, times-append b bs (used ps))))),
+      plain-from ps (and-right (placeFits (held d s bs)) (placesFit ps) e) (λ b g. omega (arith, k b g, times-append b bs (used ps))) (h .1),
     )
 
-pub all-plain : (ps : Places) → placesFit ps ≡ true → AllWritable ps → AllPlain ps
-all-plain [] e h = tt
-all-plain (empty ∷ ps) e h = (tt, all-plain ps e (h .1))
-all-plain (held d s ∷ ps) e h =
-    let f = and-left (streamFits d && sessionFits s) (placesFit ps) e in
-    let l = expected-lt s (and-right (streamFits d) (sessionFits s) f) in
-    let k = follows-lt s (and-right (streamFits d) (sessionFits s) f) in
-    (((omega arith, omega arith), h .0 .bytes), all-plain ps (and-right (streamFits d && sessionFits s) (placesFit ps) e) (h .1))
+pub all-plain : (ps : Places) → sound ps ≡ true → AllWritable ps → AllPlain ps
+all-plain ps ok h = plain-from ps (sound-fits ps ok) (sound-shared ps ok .small) h

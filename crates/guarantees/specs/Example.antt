@@ -26,7 +26,7 @@ callOf r = record { arrival = r .arrival; out = replicate (r .room) 0 }
 
 -- a receiver of the rules on a lent state, with its table written there
 abbrev pub lentOf : List ℕ → Receiver (rulesTable setup) → Receiver (lentBytes setup)
-lentOf m x = record { state = written m 0 (x .state); start = callOf (x .start); list = map callOf (x .list) }
+lentOf m x = record { state = written m (x .state); start = callOf (x .start); list = map callOf (x .list) }
 
 abbrev pub lentSpacious : Receiver (lentBytes setup)
 lentSpacious = lentOf (stateOf setup) spacious

@@ -1,17 +1,20 @@
 -- RULES 5.7, 4.11 and 14.14: from a call of setup to lists of calls of `receive`. This is what an integrator may rely on.
 use mathlib.Core.Path.{_≡_}
+use mathlib.Core.Bool.{true}
 use mathlib.Core.List.{List, map}
 use Prim.Native.Nat.{ℕ}
 use Rattle.bits.specs.Order.{Octets}
 use Rattle.guarantees.specs.Condition3.{Lent, receiving}
 use Rattle.guarantees.specs.Received.{Typed}
 use Rattle.guarantees.specs.Run.{Call, resultOf, receptions, AllTyped, readings, readingOf}
-use Rattle.rules.specs.Condition3.{Machine, Condition3}
+use Rattle.rules.specs.BlockBounds.{modest}
+use Rattle.rules.specs.Condition3.{All, Machine, Condition3}
 use Rattle.rules.specs.Damage.{BurstIsCaught}
 use Rattle.rules.specs.Reception.{run}
 use Rattle.rules.specs.Setup.{Setup}
 use Rattle.rules.specs.Table.{begun}
 use Rattle.setup.specs.Setup.{given, afterSetup}
+use Rattle.answers.specs.declared.Answer.the-variants.{NoBlock}
 use Rattle.answers.specs.declared.Outcome.the-variants.{Done}
 use Rattle.state.specs.Layout.{placesOf}
 
@@ -36,6 +39,9 @@ pub record FromSetup : Type 0 where
   -- RULES 5.7: the calls after it read as the rules answer from an empty table
   pub reads : (m : List ℕ) (own : ℕ) (r : List ℕ) → SetUp m own r → (cs : List Call) → AllTyped cs
       → readings (afterSetup m own r .state) cs ≡ map readingOf (run (given own r) begun (receptions cs))
+  -- RULES 4.13: and none of them is answered 26, where no session ever needs more than two blocks
+  pub served : (m : List ℕ) (own : ℕ) (r : List ℕ) → SetUp m own r → (cs : List Call) → AllTyped cs → modest 2 (given own r) begun (receptions cs) ≡ true
+      → All (λ x. x .answer ≡ NoBlock → ⊥) (readings (afterSetup m own r .state) cs)
   -- every state reached so is one that condition 3 is about (RULES 14.2)
   pub lasts : (u : Setup) (m : List ℕ) → Reached u m → Lent u m
   -- RULES 14.14: and condition 3 holds of two receivers that were set up alike, each with any calls since

@@ -19,7 +19,7 @@ pub record Writable (s : Session) : Type 0 where
 
 abbrev pub WritableAt : Place → Type 0
 WritableAt empty = Unit {0}
-WritableAt (held d s) = Writable s
+WritableAt (held d s bs) = Writable s
 
 abbrev pub AllWritable : Places → Type 0
 AllWritable [] = Unit {0}
@@ -27,12 +27,12 @@ AllWritable (p ∷ ps) = WritableAt p × AllWritable ps
 
 -- with the table ps written a state has no fault and holds ps; all else of it stays
 pub record Stands (m : List ℕ) (ps : Places) : Type 0 where
-  pub sound : soundState (written m 0 ps) ≡ true
-  pub bytes : Octets (written m 0 ps)
-  pub setup : setupOf (written m 0 ps) ≡ setupOf m
-  pub places : placesOf (written m 0 ps) ≡ ps
-  pub as-long : length (written m 0 ps) ≡ length m
-  pub past : drop size (written m 0 ps) ≡ drop size m
+  pub sound : soundState (written m ps) ≡ true
+  pub bytes : Octets (written m ps)
+  pub setup : setupOf (written m ps) ≡ setupOf m
+  pub places : placesOf (written m ps) ≡ ps
+  pub as-long : length (written m ps) ≡ length m
+  pub past : drop size (written m ps) ≡ drop size m
 
 -- so every past of the rules whose times and data are in range is that of a lent state
 abbrev pub TableLaw : Type 0

@@ -1,4 +1,5 @@
 // What `receiver::receive` makes of a lent state, as theorems about its contract. The functions here have no body: each one's contract is a theorem.
+ghost use Rattle.guarantees.specs.Blocks.{BlockLaw};
 ghost use Rattle.guarantees.specs.Condition3.{lentBytes};
 ghost use Rattle.guarantees.specs.Example.{LentExample};
 ghost use Rattle.guarantees.specs.FromSetup.{FromSetup};
@@ -34,6 +35,11 @@ pub fn run_by_view()
     ensures { λ _. ⌜ RunLaw ⌝ }
 {}
 
+// RULES 4.12: no block of a state is lost or shared over any list of receptions.
+pub fn blocks_kept()
+    ensures { λ _. ⌜ BlockLaw ⌝ }
+{}
+
 // RULES 14.14: condition 3, of lent bytes.
 pub fn condition3_lent()
     ensures { λ _. ⌜ Condition3 lentBytes ⌝ }
@@ -49,7 +55,7 @@ pub fn burst_is_caught_lent()
     ensures { λ _. ⌜ BurstIsCaught lentBytes ⌝ }
 {}
 
-// RULES 5.7, 14.14, 14.18: from a call of setup to lists of calls, condition 3 and that bursts are caught among what holds of them.
+// RULES 5.7, 4.13, 14.14, 14.18: from a call of setup to lists of calls, condition 3 and that bursts are caught among what holds of them.
 pub fn setup_then_calls()
     ensures { λ _. ⌜ FromSetup ⌝ }
 {}

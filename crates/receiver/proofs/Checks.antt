@@ -98,12 +98,13 @@ readable id n i r e z = go (largeId id) refl (badLength n) refl (noInterface i) 
         interface = leb-false 3 i t;
       }
 
--- of a head that 4 to 6 let through: a start has toggle 0, and a frame that is not anonymous a named source
-pub record HeadPasses (d : Stream) (start toggle : Bool) : Type 0 where
+-- of a head that 4 to 6 let through: a start has toggle 0, a frame that is not anonymous a named source, and one that is no end eight bytes
+pub record HeadPasses (d : Stream) (start last toggle : Bool) (n : ℕ) : Type 0 where
   pub first : start ≡ true → toggle ≡ false
   pub named : unnamed d ≡ false → d .source ≡ 0 → ⊥
+  pub whole : last ≡ false → 8 ≤ n
 
-pub head-passes : (own : ℕ) (d : Stream) (start last toggle : Bool) (n r : ℕ) → r ≡ orZero (first (headTests own d start last toggle n)) → r ≤ 0 → HeadPasses d start toggle
+pub head-passes : (own : ℕ) (d : Stream) (start last toggle : Bool) (n r : ℕ) → r ≡ orZero (first (headTests own d start last toggle n)) → r ≤ 0 → HeadPasses d start last toggle n
 head-passes own d start last toggle n r e z = go (unnamedService d) refl (badTail (unnamed d) start last toggle n) refl (sym e) where
   named : (b : Bool) → eqb (d .transferType) 0 ≡ b → (not b && (eqb (d .source) 0 || eqb (d .destination) 0)) ≡ false → (b && eqb (d .source) 0) ≡ false → eqb (d .source) 0 ≡ false
   named true e p q = q
@@ -114,13 +115,16 @@ head-passes own d start last toggle n r e z = go (unnamedService d) refl (badTai
   off false c e k = let z : _≡_ {A = ℕ} 0 1 = cc in absurd (omega arith)
 
   go : (a : Bool) → unnamedService d ≡ a → (b : Bool) → badTail (unnamed d) start last toggle n ≡ b
-      → orZero (pick a (some 4) (pick b (some 5) (pick (forAnother own d) (some 6) none))) ≡ r → HeadPasses d start toggle
+      → orZero (pick a (some 4) (pick b (some 5) (pick (forAnother own d) (some 6) none))) ≡ r → HeadPasses d start last toggle n
   go true p b q e = absurd (omega arith)
   go false p true q e = absurd (omega arith)
   go false p false q e =
       record {
         first = off start toggle (or-left (start && toggle) _ q);
         named = λ a. eqb-false (d .source) 0 (named (eqb (d .transferType) 0) refl p a);
+        whole =
+            λ e. ltb-false n 8 (off (not last) (ltb n 8) (or-left (not last && ltb n 8) _ (or-right (unnamed d && not (start && last)) _ (or-right (start && toggle) _ q)))
+            (ap not e));
       }
 
 -- the head, the signature and the payload beside it are what the rules read
@@ -179,7 +183,7 @@ module _ (u : Setup) (id i time : ℕ) (bs out : List ℕ) where
       not-subscribed s = rw (in-order, reads-none, heads-none, s)
 
       module _ (g : ℕ) (s : signatureFor u id ≡ some g) where
-        all-passed : frameCheck u (arrivalOf id bs i time) ≡ none
+        pub all-passed : frameCheck u (arrivalOf id bs i time) ≡ none
         all-passed = rw (in-order, reads-none, heads-none, s)
 
         pub no-room : length out < 512 → check u (arriving (arrivalOf id bs i time) out) ≡ some 8

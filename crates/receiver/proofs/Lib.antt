@@ -1,4 +1,10 @@
-mod Seek
 pub mod Lent
-mod Checks
-mod Enter
+pub mod Steps
+pub mod Placed
+pub mod Kept
+pub mod Provided
+pub mod Lacking
+pub mod Begun
+pub mod Known
+pub mod Seek
+pub mod Checks

@@ -14,7 +14,7 @@ use Rattle.rules.specs.Limits.{oldAge}
 use Rattle.rules.specs.Table.{Place, empty, held, plus1, seek, holds, isFree, isOld, placeFor}
 use Rattle.rules.specs.Tests.{pick}
 use Rattle.bits.specs.Tabulate.{tabulate}
-use Rattle.state.specs.Layout.{size, keyAt, timeAt, sessionAt, placeAt, placesOf}
+use Rattle.state.specs.Layout.{size, keyAt, timeAt, blocksOf, sessionAt, placeAt, placesOf}
 use Rattle.frame.specs.Key.{streamOfKey}
 use Rattle.keys.specs.inside.Keys.{lowest}
 use Rattle.sessions.specs.inside.Scan.{fitsAt}
@@ -93,7 +93,7 @@ module _ (m : List ℕ) where
   pub free-at : seek isFree (placesOf m) ≡ found (lowest (fitsAt m (Key 0)) 0 32) 32
   unfolding fitsAt placeAt
   free-at = scanned m isFree (fitsAt m (Key 0)) (λ j b. go j (eqb (keyAt m j) 0)) where
-    go : (j : ℕ) (b : Bool) → isFree (pick b empty (held (streamOfKey (keyAt m j)) (sessionAt m j))) ≡ b
+    go : (j : ℕ) (b : Bool) → isFree (pick b empty (held (streamOfKey (keyAt m j)) (sessionAt m j) (blocksOf m j))) ≡ b
     go j true = refl
     go j false = refl
 
@@ -101,7 +101,7 @@ module _ (m : List ℕ) where
   pub old-at : (t : ℕ) → seek (isOld t) (placesOf m) ≡ found (lowest (fitsAt m (Old t)) 0 32) 32
   unfolding fitsAt placeAt sessionAt
   old-at t = scanned m (isOld t) (fitsAt m (Old t)) (λ j b. go j (eqb (keyAt m j) 0)) where
-    go : (j : ℕ) (b : Bool) → isOld t (pick b empty (held (streamOfKey (keyAt m j)) (sessionAt m j))) ≡ (not b && ltb oldAge (t - timeAt m j))
+    go : (j : ℕ) (b : Bool) → isOld t (pick b empty (held (streamOfKey (keyAt m j)) (sessionAt m j) (blocksOf m j))) ≡ (not b && ltb oldAge (t - timeAt m j))
     go j true = refl
     go j false = refl
 

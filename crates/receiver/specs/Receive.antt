@@ -29,7 +29,7 @@ arriving f out = record { arrival = f; room = length out }
 
 -- a step of the rules on the lent bytes
 abbrev pub lent : List ℕ → List ℕ → Step → Result
-lent m out s = result (told (s .answer)) (written m 0 (s .places)) (outAfter (s .answer) out)
+lent m out s = result (told (s .answer)) (written m (s .places)) (outAfter (s .answer) out)
 
 -- RULES 5.3: a state at fault answers 20, first of all
 unfoldable pub receivedIf : Bool → List ℕ → Arrival → List ℕ → Result

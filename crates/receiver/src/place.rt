@@ -1,124 +1,184 @@
-// A frame's session (RULES 4.3): the place that it has, or gets.
+// A frame's session (RULES 4.3): the place that it has, or gets, and what the frame does there.
 use answers::Answer;
 use answers::Reason;
 use rules::limits::GATHERED;
 use rules::limits::SESSIONS;
 use session::Incoming;
-use session::Progress;
 use session::Session;
+use sessions::gathered;
+use sessions::place;
+use sessions::relief;
 use sessions::scan::Want;
 ghost use mathlib.Core.Path.{_≡_};
-ghost use mathlib.Core.Bool.{true};
-ghost use Prim.Native.Nat.{_≤_, _<_};
+ghost use mathlib.Core.Bool.{true, false, not, _&&_};
+ghost use mathlib.Core.List.{[]};
+ghost use Prim.Native.Nat.{_+_, _≤_, _<_};
+ghost use lib.Count.{trailingZeros};
+ghost use lib.Dec.{ltb};
 ghost use lib.ListN.{length};
-ghost use Rattle.rules.specs.Limits.{sessionsMax, gatheredMax, interfacesMax};
-ghost use Rattle.rules.specs.Reception.{store, stepNew, stepSeek};
-ghost use Rattle.rules.specs.Session.{waiting, takes, react};
-ghost use Rattle.rules.specs.Table.{held, seek, holds, placeFor};
-ghost use Rattle.receiver.specs.inside.Place.{entered, Enters};
+ghost use Rattle.rules.specs.Blocks.{need, asks, freeBlock, cleared};
+ghost use Rattle.rules.specs.Limits.{sessionsMax, gatheredMax, interfacesMax, blocksMax};
+ghost use Rattle.rules.specs.Reception.{store, stepAsk, stepAt, stepNew, stepHeld, stepSeek};
+ghost use Rattle.rules.specs.Session.{waiting, next, proceed};
+ghost use Rattle.rules.specs.Table.{seek, holds, placeFor};
+ghost use Rattle.rules.specs.Tests.{pick, isNone};
+ghost use Rattle.receiver.specs.inside.Place.{Met, Takes};
 ghost use Rattle.receiver.specs.Receive.{result, lent};
 ghost use Rattle.receiver.specs.inside.Called.{Called};
-ghost use Rattle.receiver.specs.declared.place.Way.the-variants.{New};
-ghost use Rattle.session.specs.inside.Session.{sessionOf, streamOf, parsedOf};
-ghost use Rattle.state.specs.Layout.{size, keyAt, countAt, sessionAt, placesOf};
-ghost use Rattle.frame.specs.Key.{keyOf, streamOfKey};
-ghost use Rattle.state.specs.Place.{withPlace};
+ghost use Rattle.session.specs.inside.Session.{idle, streamOf, parsedOf};
+ghost use Rattle.sessions.specs.inside.Place.{grownBlocks};
+ghost use Rattle.state.specs.Layout.{freeOf, keyAt, countAt, blocksOf, sessionAt, placeAt, placesOf};
+ghost use Rattle.state.specs.Place.{written};
+ghost use Rattle.state.specs.inside.Ready.{Ready};
+ghost use Rattle.frame.specs.Key.{keyOf};
 
-// The session that a frame enters: a new one, that of its place restarted, or that of its place.
-enum Way {
-    New,
-    Again,
-    On,
-}
-
-fn session_for(state: &[u8], i: usize, way: Way, f: Incoming) -> Session
-    requires { ⌜ (i < sessionsMax) × ((size ≤ length (now state)) × ((way ≡ New → ⊥) → countAt (now state) i ≤ gatheredMax)) ⌝ }
-    ensures { λ r. ⌜ (sessionOf r ≡ entered way (now (state .entry)) i f) × (r .len ≤ gatheredMax) ⌝ }
+// The frame is a whole transfer.
+fn is_single(f: Incoming) -> bool
+    ensures { λ r. ⌜ r ≡ (f .head .start && f .head .end) ⌝ }
 {
-    match way {
-        Way::New => Session::fresh(f.head.transfer, f.time, f.interface),
-        Way::Again => sessions::place::load(state, i).restart(f.head.transfer, f.interface),
-        Way::On => sessions::place::load(state, i),
+    if f.head.start {
+        return f.head.end;
     }
+    false
 }
 
-// The frame is taken into the session of place i.
+// The session once the transfer is over: nothing in hand, waiting for the next one. A start sets the time.
+fn over(c: Session, f: Incoming) -> Session
+    requires { ⌜ (c .expected < 32) × (c .len ≤ gatheredMax) ⌝ }
+    ensures { λ r. ⌜ r ≡ idle (next (c .expected)) (pick (f .head .start) (f .time) (c .time)) (c .follows) ⌝ }
+{
+    c.take(f.head.start, f.time, 0).close()
+}
+
+// The last of several frames: the bytes in hand and its own are gathered, and the checksum decides.
+fn close(
+    state: &mut [u8],
+    i: usize,
+    k: u32,
+    c: Session,
+    f: Incoming,
+    p: &[u8],
+    out: &mut [u8],
+) -> Answer
+    requires { ⌜ Met (now state) i k c f (now p) (now out) × (Takes (now state) i f (now p) × (f .head .end ≡ true)) ⌝ }
+    ensures { λ r. ⌜ result r (now (state .exit)) (now (out .exit)) ≡ lent (now (state .entry)) (now (out .entry)) (store (placesOf (now (state .entry))) i (streamOf f) [] (proceed (sessionAt (now (state .entry)) i) (parsedOf f (now (p .entry))))) ⌝ }
+{
+    let mut all = [0u8; GATHERED];
+    let len = c.len;
+    gathered::gather(state, i, len, &mut all);
+    bits::part::copy_at(&mut all, len, p);
+    place::wait(state, i, k, over(c, f));
+    session::finish(&all, len + p.len(), f, out)
+}
+
+// The frame is taken into the session of place i. There is a block, if it needs one.
 fn enter(
     state: &mut [u8],
     i: usize,
     k: u32,
-    way: Way,
+    c: Session,
+    f: Incoming,
+    p: &[u8],
+    out: &mut [u8],
+) -> Answer
+    requires { ⌜ Met (now state) i k c f (now p) (now out) × (Takes (now state) i f (now p) × (need (countAt (now state) i) < need (countAt (now state) i + length (now p)) → trailingZeros blocksMax (freeOf (now state)) < blocksMax)) ⌝ }
+    ensures { λ r. ⌜ result r (now (state .exit)) (now (out .exit)) ≡ lent (now (state .entry)) (now (out .entry)) (store (placesOf (now (state .entry))) i (streamOf f) (grownBlocks (now (state .entry)) i (countAt (now (state .entry)) i + length (now (p .entry)))) (proceed (sessionAt (now (state .entry)) i) (parsedOf f (now (p .entry))))) ⌝ }
+{
+    if f.head.end {
+        return close(state, i, k, c, f, p, out);
+    }
+    place::grow(state, i, c.take(f.head.start, f.time, p.len()), p);
+    Answer::Taken
+}
+
+// The n bytes of a session and these more need one more block, and none is free, even once old sessions are emptied at the time t.
+fn lacks_block(state: &mut [u8], t: u64, n: usize, more: usize) -> bool
+    requires { ⌜ Ready (now state) × (n + more ≤ gatheredMax) ⌝ }
+    ensures { λ r. ⌜ (now (state .exit) ≡ pick (ltb (need n) (need (n + more))) (written (now (state .entry)) (cleared t (placesOf (now (state .entry))))) (now (state .entry))) × (r ≡ (ltb (need n) (need (n + more)) && isNone (freeBlock (cleared t (placesOf (now (state .entry))))))) ⌝ }
+{
+    if gathered::needed(n) < gathered::needed(n + more) {
+        return !relief::provide(state, t);
+    }
+    false
+}
+
+// The frame is the one that the session of place i waits for, and its bytes are not too many. A single frame takes no block.
+fn take(
+    state: &mut [u8],
+    i: usize,
+    k: u32,
+    c: Session,
+    f: Incoming,
+    p: &[u8],
+    out: &mut [u8],
+) -> Answer
+    requires { ⌜ Met (now state) i k c f (now p) (now out) × Takes (now state) i f (now p) ⌝ }
+    ensures { λ r. ⌜ result r (now (state .exit)) (now (out .exit)) ≡ lent (now (state .entry)) (now (out .entry)) (stepAsk (asks (sessionAt (now (state .entry)) i) (blocksOf (now (state .entry)) i) (parsedOf f (now (p .entry)))) (placesOf (now (state .entry))) i (sessionAt (now (state .entry)) i) (blocksOf (now (state .entry)) i) (parsedOf f (now (p .entry)))) ⌝ }
+{
+    if is_single(f) {
+        place::wait(state, i, k, over(c, f));
+        return session::finish(p, p.len(), f, out);
+    }
+    if lacks_block(state, f.time, c.len, p.len()) {
+        place::wait(state, i, k, over(c, f));
+        return Answer::NoBlock;
+    }
+    enter(state, i, k, c, f, p, out)
+}
+
+// The session of place i is the one that the frame meets.
+fn proceed(
+    state: &mut [u8],
+    i: usize,
+    k: u32,
+    c: Session,
+    f: Incoming,
+    p: &[u8],
+    out: &mut [u8],
+) -> Answer
+    requires { ⌜ Met (now state) i k c f (now p) (now out) ⌝ }
+    ensures { λ r. ⌜ result r (now (state .exit)) (now (out .exit)) ≡ lent (now (state .entry)) (now (out .entry)) (stepAsk (asks (sessionAt (now (state .entry)) i) (blocksOf (now (state .entry)) i) (parsedOf f (now (p .entry)))) (placesOf (now (state .entry))) i (sessionAt (now (state .entry)) i) (blocksOf (now (state .entry)) i) (parsedOf f (now (p .entry)))) ⌝ }
+{
+    if session::awaited(c, f) {
+        if GATHERED < c.len + p.len() {
+            place::wait(state, i, k, over(c, f));
+            return Answer::TooLong;
+        }
+        return take(state, i, k, c, f, p, out);
+    }
+    Answer::Passed(session::reason(c, f))
+}
+
+// The session c, which waits for a start, is put into place i before the frame goes on: what the place had is free by then.
+fn begin(
+    state: &mut [u8],
+    i: usize,
+    k: u32,
+    c: Session,
     f: Incoming,
     p: &[u8],
     out: &mut [u8],
 ) -> Answer
     requires { ⌜ Called (now state) f (now p) (now out) ⌝ }
-    requires { ⌜ (i < sessionsMax) × ((k ≡ keyOf (streamOf f)) × Enters way (now state) i f (now p)) ⌝ }
-    ensures { λ r. ⌜ result r (now (state .exit)) (now (out .exit)) ≡ lent (now (state .entry)) (now (out .entry)) (store (placesOf (now (state .entry))) i (streamOf f) (takes (entered way (now (state .entry)) i f) (parsedOf f (now (p .entry))))) ⌝ }
+    requires { ⌜ ((i < sessionsMax) × (k ≡ keyOf (streamOf f))) × ((c .expected < 32) × ((c .follows < interfacesMax) × ((c .toggle ≡ false) × (c .len ≡ 0)))) ⌝ }
+    ensures { λ r. ⌜ result r (now (state .exit)) (now (out .exit)) ≡ lent (now (state .entry)) (now (out .entry)) (stepAt (placesOf (now (state .entry))) i (waiting (c .expected) (c .time) (c .follows)) [] (parsedOf f (now (p .entry)))) ⌝ }
 {
-    let g = session_for(state, i, way, f).take(f.head.start, f.time, p);
-    if f.head.end {
-        let answer = session::finish(&g.bytes, g.len, f, out);
-        let q = g.close();
-        let c = Progress {
-            expected: q.expected,
-            toggle: q.toggle,
-            time: q.time,
-            follows: q.follows,
-            len: q.len,
-        };
-        sessions::place::store(state, i, k, c, &q.bytes);
-        return answer;
-    }
-    let c = Progress {
-        expected: g.expected,
-        toggle: g.toggle,
-        time: g.time,
-        follows: g.follows,
-        len: g.len,
-    };
-    sessions::place::store(state, i, k, c, &g.bytes);
-    Answer::Taken
-}
-
-// Nothing is in hand any more: the session of place i waits for this transfer ID by this interface.
-fn reset(state: &mut [u8], i: usize, k: u32, expected: u8, interface: u8)
-    requires { ⌜ ((i < sessionsMax) × (size ≤ length (now state))) × ((countAt (now state) i ≤ gatheredMax) × ((expected < 32) × (interface < interfacesMax))) ⌝ }
-    ensures { λ _. ⌜ now (state .exit) ≡ withPlace (now (state .entry)) i (held (streamOfKey k) (waiting expected (sessionAt (now (state .entry)) i .since) interface)) ⌝ }
-{
-    let q = sessions::place::load(state, i).restart(expected, interface);
-    let c = Progress {
-        expected: q.expected,
-        toggle: q.toggle,
-        time: q.time,
-        follows: q.follows,
-        len: q.len,
-    };
-    sessions::place::store(state, i, k, c, &q.bytes);
+    place::wait(state, i, k, c);
+    proceed(state, i, k, c, f, p, out)
 }
 
 // The stream's session is in place i.
 fn known(state: &mut [u8], i: usize, k: u32, f: Incoming, p: &[u8], out: &mut [u8]) -> Answer
     requires { ⌜ Called (now state) f (now p) (now out) ⌝ }
     requires { ⌜ (i < sessionsMax) × ((k ≡ keyOf (streamOf f)) × (keyAt (now state) i ≡ k)) ⌝ }
-    ensures { λ r. ⌜ result r (now (state .exit)) (now (out .exit)) ≡ lent (now (state .entry)) (now (out .entry)) (store (placesOf (now (state .entry))) i (streamOf f) (react (sessionAt (now (state .entry)) i) (parsedOf f (now (p .entry))))) ⌝ }
+    ensures { λ r. ⌜ result r (now (state .exit)) (now (out .exit)) ≡ lent (now (state .entry)) (now (out .entry)) (stepHeld (placesOf (now (state .entry))) i (placeAt (now (state .entry)) i) (parsedOf f (now (p .entry)))) ⌝ }
 {
-    let c = sessions::place::progress(state, i);
+    let c = place::load(state, i);
     if session::restarts(c, f) {
-        if f.head.start {
-            return enter(state, i, k, Way::Again, f, p, out);
-        }
-        reset(state, i, k, (f.head.transfer + 1) % 32, f.interface);
-        return Answer::Passed(Reason::NoTransfer);
+        let q = c.restart(session::expects(f), f.interface);
+        return begin(state, i, k, q, f, p, out);
     }
-    if session::awaited(c, f) {
-        if GATHERED < c.len + p.len() {
-            reset(state, i, k, (c.expected + 1) % 32, c.follows);
-            return Answer::TooLong;
-        }
-        return enter(state, i, k, Way::On, f, p, out);
-    }
-    Answer::Passed(session::reason(c, f))
+    proceed(state, i, k, c, f, p, out)
 }
 
 // A start of a stream without a session: the lowest empty place, else the lowest old session's.
@@ -127,13 +187,14 @@ fn unknown(state: &mut [u8], k: u32, f: Incoming, p: &[u8], out: &mut [u8]) -> A
     requires { ⌜ (k ≡ keyOf (streamOf f)) × (f .head .start ≡ true) ⌝ }
     ensures { λ r. ⌜ result r (now (state .exit)) (now (out .exit)) ≡ lent (now (state .entry)) (now (out .entry)) (stepNew (placeFor (f .time) (placesOf (now (state .entry)))) (placesOf (now (state .entry))) (parsedOf f (now (p .entry)))) ⌝ }
 {
+    let c = Session::fresh(f.head.transfer, f.time, f.interface);
     let free = sessions::scan::scan(state, Want::Key(0));
     if free < SESSIONS {
-        return enter(state, free, k, Way::New, f, p, out);
+        return begin(state, free, k, c, f, p, out);
     }
     let old = sessions::scan::scan(state, Want::Old(f.time));
     if old < SESSIONS {
-        return enter(state, old, k, Way::New, f, p, out);
+        return begin(state, old, k, c, f, p, out);
     }
     Answer::Full
 }

@@ -10,6 +10,7 @@ use lib.ListN.{length, getD}
 use borrow.Author.Tests.{eq-eqb, ne-eqb, ltb-true}
 use Rattle.bits.specs.Tabulate.{tabulate}
 use Rattle.rules.specs.Answer.{handed}
+use Rattle.rules.specs.BlockBounds.{total, rivalNeed}
 use Rattle.rules.specs.Condition3.{ofStream, startOf, All, answersTo, upTo, Receiver, frames, answers, tookStart, never, front, Transfer, handouts, Past, rulesTable}
 use Rattle.rules.specs.Frame.{Arrival, Stream, streamOf, isStart, tailOf}
 use Rattle.rules.specs.Limits.{switchDelay}
@@ -20,15 +21,17 @@ use Rattle.rules.specs.SendingLaws.{transferFor, Correct, Hears, frameIn
 use Rattle.rules.specs.Map.{Map, sound}
 use Rattle.rules.specs.Sent.{tailByte, framed, carried, sent, idOf, frameAt, arrivalAt}
 use Rattle.rules.specs.Setup.{Setup}
-use Rattle.rules.specs.Sound.{serviceFits, streamFits}
+use Rattle.rules.specs.Sound.{serviceFits, streamFits, sound as faultless}
 use Rattle.rules.specs.Table.{Places}
 use Rattle.rules.proofs.Arrivals.{starts, Opening, opening, each, framesAt, of-it, arrivalsAt, frames-each, upto-each, roomy-each, forward-each, untimed-each, soon-each, length-each, first-timed, brings-timed, starts-each, no-starts, signed, sorts-start}
+use Rattle.rules.proofs.Bounds.{At, still-room, all-served}
 use Rattle.rules.proofs.Ids.{id-laws}
+use Rattle.rules.proofs.Lasting.{lasting}
 use Rattle.rules.proofs.Lift.{free}
 use Rattle.rules.proofs.Reasons.{Sorted}
 use Rattle.rules.proofs.Records.{Short, sent-short, length-records, back}
 use Rattle.rules.proofs.Sends.{record-laws, source-laws}
-use Rattle.rules.proofs.Theorem.{past-fits, theorem}
+use Rattle.rules.proofs.Theorem.{past-sound, past-fits, theorem}
 
 module _ (u : Setup) (c : Call) (hears : Hears u c) (m : Map) (records : List ℕ) (ok : Correct c m records) (named : 0 < c .own) where
   abbrev d : Stream
@@ -175,6 +178,9 @@ module _ (c : Call) (m : Map) (room n i : ℕ) (h : sound m ≡ true) (e : sendS
     abbrev plain : Receiver (rulesTable u)
     plain = record { state = ps; start = record { arrival = arrivalAt 0 wire one time; room = space }; list = each wire time space rest }
 
+    fine : faultless ps ≡ true
+    fine = past-sound u ps past
+
     stream-of : streamOf wire ≡ d'
     stream-of = id-laws .stream d' (c .priority) (correct .stream)
 
@@ -190,9 +196,13 @@ module _ (c : Call) (m : Map) (room n i : ℕ) (h : sound m ≡ true) (e : sendS
     none-starts = no-starts u d' (step u ps (plain .start) .places) (each wire time space rest)
         (subst (All (λ a. isStart (tailOf (a .frame .bytes)) ≡ false)) (sym plain-frames) (starts-each wire time rest (opens .later)))
 
-    hears-plain : Hearing u d' out n plain
+    each-at : (l : List (List ℕ)) → All (At d' time) (each wire time space l)
+    each-at [] = tt
+    each-at (b ∷ l) = (record { stream = stream-of; time = refl }, each-at l)
+
+    hears-plain : total (rivalNeed d' time) ps + 9 ≤ 64 → Hearing u d' out n plain
     unfolding framesBy
-    hears-plain =
+    hears-plain s =
         record {
           past = past;
           interface = omega arith;
@@ -205,6 +215,10 @@ module _ (c : Call) (m : Map) (room n i : ℕ) (h : sound m ≡ true) (e : sendS
                 time = rw plain-front (forward-each u wire time space rest);
                 room = rw plain-front (roomy-each wire d' below stream-of u time space wide rest);
                 table = rw plain-front (ap (never (rulesTable u) 9) none-starts);
+                blocks =
+                    rw plain-front
+                    (all-served u d' time (ofStream d') (step u ps (plain .start) .places) (each wire time space rest) (lasting .reception u ps (plain .start) fine)
+                    (each-at rest) (still-room u d' time ps (plain .start) fine (record { stream = stream-of; time = refl }) (omega (arith, s))));
               };
         }
 
@@ -226,8 +240,8 @@ module _ (c : Call) (m : Map) (room n i : ℕ) (h : sound m ≡ true) (e : sendS
         ap (inTurn out time space) z ∙ turn (suc k) (omega (arith, longer)) ∙ ap (λ l. record { arrival = arrivalAt 0 wire (getD l (suc k) []) time; room = space }) (opens .is)) in
         λ i. record { state = ps; start = first i; list = others i }
 
-    hears-at-once : Hearing u d' out n (atOnce u ps out n time space)
-    hears-at-once = subst (Hearing u d' out n) (sym is-plain) hears-plain
+    hears-at-once : total (rivalNeed d' time) ps + 9 ≤ 64 → Hearing u d' out n (atOnce u ps out n time space)
+    hears-at-once s = subst (Hearing u d' out n) (sym is-plain) (hears-plain s)
 
 pub delivered : Delivered
 delivered =

@@ -1,5 +1,5 @@
--- The cases of specs/Example.antt, specs/DamageExample.antt, specs/WhyPremises.antt and specs/Interfaces.antt, by computing; the examples' claims follow by the
--- theorems.
+-- The cases of specs/Example.antt, specs/DamageExample.antt, specs/WhyPremises.antt, specs/Interfaces.antt and specs/BlockCases.antt, by computing; the
+-- examples' claims follow by the theorems.
 use mathlib.Core.Path.{_≡_, refl, sym, ap, subst}
 use mathlib.Core.Bool.{Bool, true, false, true≢false}
 use mathlib.Core.List.{List, [], _∷_}
@@ -14,6 +14,8 @@ use Rattle.checksum.proofs.Damage.{burst-by-test}
 use Rattle.checksum.specs.Crc.{shift, shifts, crcByte, crcOver}
 use Rattle.checksum.specs.Crc16.{checksum}
 use Rattle.checksum.specs.Damage.{burstMax}
+use Rattle.rules.specs.BlockCases.{pile, BlockCases}
+use Rattle.rules.specs.Blocks.{used, times, lowest, freeBlock, cleared, asks}
 use Rattle.rules.specs.Check.{parsed, frameCheck, check}
 use Rattle.rules.specs.Condition3.{framesWith, answersTo, upTo, frames, Premises, While, Brings, done, next, again, beside, Transfer, fromSetup, lent, heard, rulesTable}
 use Rattle.rules.specs.Example.{setup, stream, payload, one, three, frame, copied, start, crowd, earlier, spacious, crowded, Example}
@@ -22,21 +24,21 @@ use Rattle.rules.specs.DamageExample.{altered, damaged, unseen, DamageEx
 use Rattle.rules.specs.Frame.{sameStream, streamOf}
 use Rattle.rules.specs.Interfaces.{Interfaces}
 use Rattle.rules.specs.Limits.{switchDelay}
-use Rattle.rules.specs.Reception.{stepNew, stepStart, stepSeek, stepAnonymous, stepChecked, step, after, run}
+use Rattle.rules.specs.Reception.{stepBlock, stepAsk, stepAt, stepNew, stepStart, stepSeek, stepAnonymous, stepChecked, step, after, run}
 use Rattle.rules.specs.Sent.{tailByte, framed, pieces, carrying, carried, sent, idOf}
 use Rattle.rules.specs.SentLaws.{joined}
 use Rattle.rules.specs.Session.{restarts, over, closing, takeEnd, takeLong, takes, proceedIf, proceed, restarted, met, react}
 use Rattle.rules.specs.Setup.{subscribed, signatureFor}
 use Rattle.rules.specs.Sound.{streamFits, sessionFits, sound}
 use Rattle.rules.specs.Table.{seek, placeFor}
-use Rattle.rules.specs.WhyPremises.{tests, all, agreed, Sent, Tests, unnamed, twice, hearing, long, degrees, inOrder, handedOut, WhyPremises}
+use Rattle.rules.specs.WhyPremises.{tests, all, agreed, Sent, Tests, unnamed, twice, hearing, long, degrees, inOrder, handedOut, hoard, WhyPremises}
 use Rattle.rules.proofs.Arrivals.{opening, frames-each, brings-each}
 use Rattle.rules.proofs.Caught.{burst-caught}
 use Rattle.rules.proofs.Lift.{free}
 use Rattle.rules.proofs.Theorem.{theorem}
 
 pub example : Example
-unfolding crowd sound streamFits sessionFits framesWith answersTo upTo after step stepChecked stepAnonymous stepSeek stepStart stepNew seek placeFor check frameCheck parsed streamOf sameStream subscribed react met restarted restarts proceed proceedIf over takes takeLong takeEnd idOf sent carrying carried pieces checksum crcOver crcByte shifts shift leBytes
+unfolding crowd sound streamFits sessionFits framesWith answersTo upTo after step stepChecked stepAnonymous stepSeek stepStart stepNew used times lowest freeBlock cleared asks stepBlock stepAsk stepAt seek placeFor check frameCheck parsed streamOf sameStream subscribed react met restarted restarts proceed proceedIf over takes takeLong takeEnd closing idOf sent carrying carried pieces checksum crcOver crcByte shifts shift leBytes
 example =
     record {
       premises = premises;
@@ -50,10 +52,10 @@ example =
     premises = record { pasts = (heard fromSetup earlier, lent refl); typed = (free setup (spacious .start ∷ spacious .list), free setup (crowded .start ∷ crowded .list)); named = omega arith; start = refl; together = refl; take = (refl, refl); same = refl }
 
     spacious-while : While (rulesTable setup) stream 8 spacious
-    spacious-while = record { time = refl; room = refl; table = refl }
+    spacious-while = record { time = refl; room = refl; table = refl; blocks = refl }
 
     crowded-while : While (rulesTable setup) stream 8 crowded
-    crowded-while = record { time = refl; room = refl; table = refl }
+    crowded-while = record { time = refl; room = refl; table = refl; blocks = refl }
 
     transfer : Transfer setup stream start (frames (rulesTable setup) stream spacious) 16 5 payload
     transfer =
@@ -75,7 +77,7 @@ example =
 -- ── a burst ──
 
 pub damage-example : DamageExample
-unfolding sound streamFits sessionFits framesWith answersTo upTo after step stepChecked stepAnonymous stepSeek stepStart stepNew seek placeFor check frameCheck parsed streamOf sameStream subscribed react met restarted restarts proceed proceedIf over takes takeLong takeEnd closing idOf sent carrying carried pieces joined checksum crcOver crcByte shifts shift leBytes unpack digits
+unfolding sound streamFits sessionFits framesWith answersTo upTo after step stepChecked stepAnonymous stepSeek stepStart stepNew used times lowest freeBlock cleared asks stepBlock stepAsk stepAt seek placeFor check frameCheck parsed streamOf sameStream subscribed react met restarted restarts proceed proceedIf over takes takeLong takeEnd closing idOf sent carrying carried pieces joined checksum crcOver crcByte shifts shift leBytes unpack digits
 damage-example =
     record {
       opens = opens;
@@ -90,7 +92,7 @@ damage-example =
     opens = record { past = heard fromSetup earlier; typed = free setup (damaged .start ∷ damaged .list); named = omega arith; start = refl; take = refl }
 
     while : While (rulesTable setup) stream 8 damaged
-    while = record { time = refl; room = refl; table = refl }
+    while = record { time = refl; room = refl; table = refl; blocks = refl }
 
     arrives : Damaged setup stream (damaged .start .arrival) (frames (rulesTable setup) stream damaged) 16 5 payload altered
     arrives =
@@ -135,7 +137,7 @@ complete =
         take = (test 3 (tests d x) a, test 3 (tests d y) b);
         same = e;
       };
-      whiles = λ d x a. record { time = test 4 (tests d x) a; room = test 5 (tests d x) a; table = test 6 (tests d x) a };
+      whiles = λ d x a. record { time = test 4 (tests d x) a; room = test 5 (tests d x) a; table = test 6 (tests d x) a; blocks = test 7 (tests d x) a };
       transfer = λ x signature t p h.
           record {
             size = leb-true (length p) 512 (ap (λ k. getD k 0 false) (h .fits));
@@ -157,13 +159,13 @@ brought l c more e =
 
 size-case : Sent (hearing (sent agreed 5 long)) agreed 5 long (false ∷ true ∷ true ∷ [])
     × (handedOut (hearing (sent agreed 5 long)) ≡ [])
-unfolding framesWith answersTo upTo step stepChecked stepAnonymous stepSeek stepStart stepNew seek placeFor check frameCheck parsed streamOf sameStream subscribed react met restarted restarts proceed proceedIf over takes takeLong takeEnd closing sound streamFits sessionFits idOf sent carrying carried pieces checksum crcOver crcByte shifts shift leBytes
+unfolding framesWith answersTo upTo step stepChecked stepAnonymous stepSeek stepStart stepNew used times lowest freeBlock cleared asks stepBlock stepAsk stepAt seek placeFor check frameCheck parsed streamOf sameStream subscribed react met restarted restarts proceed proceedIf over takes takeLong takeEnd closing sound streamFits sessionFits idOf sent carrying carried pieces checksum crcOver crcByte shifts shift leBytes
 size-case =
     let o = opening 5 (omega arith) (carried agreed long) in
     (record { premises = refl; fits = refl; brings = brought (sent agreed 5 long) (framed (o .bytes) (tailByte true (o .last) false 5)) (o .rest) (o .is) }, refl)
 
 pub why-premises : WhyPremises
-unfolding crowd sound streamFits sessionFits framesWith answersTo upTo step stepChecked stepAnonymous stepSeek stepStart stepNew seek placeFor check frameCheck parsed streamOf sameStream subscribed react met restarted restarts proceed proceedIf over takes takeLong takeEnd closing idOf sent carrying carried pieces checksum crcOver crcByte shifts shift leBytes
+unfolding crowd hoard sound streamFits sessionFits framesWith answersTo upTo step stepChecked stepAnonymous stepSeek stepStart stepNew used times lowest freeBlock cleared asks stepBlock stepAsk stepAt seek placeFor check frameCheck parsed streamOf sameStream subscribed react met restarted restarts proceed proceedIf over takes takeLong takeEnd closing idOf sent carrying carried pieces checksum crcOver crcByte shifts shift leBytes
 why-premises =
     record {
       complete = complete;
@@ -173,6 +175,7 @@ why-premises =
       time = record { first = refl; second = refl; together = refl; same = refl; answers = (refl, refl) };
       room = record { first = refl; second = refl; together = refl; same = refl; answers = (refl, refl) };
       table = record { first = refl; second = refl; together = refl; same = refl; answers = (refl, refl) };
+      blocks = record { first = refl; second = refl; together = refl; same = refl; answers = (refl, refl) };
       together = (refl, refl, refl, refl, refl);
       same = (refl, refl, refl, refl, refl);
       named = (refl, named, refl);
@@ -201,5 +204,26 @@ why-premises =
         }
 
 pub interfaces : Interfaces
-unfolding run after step stepChecked stepAnonymous stepSeek stepStart stepNew seek placeFor check frameCheck parsed streamOf sameStream subscribed react met restarted restarts proceed proceedIf over takes takeLong takeEnd closing
+unfolding run after step stepChecked stepAnonymous stepSeek stepStart stepNew used times lowest freeBlock cleared asks stepBlock stepAsk stepAt seek placeFor check frameCheck parsed streamOf sameStream subscribed react met restarted restarts proceed proceedIf over takes takeLong takeEnd closing
 interfaces = record { followed = refl; repeated = refl; switched = refl; ahead = refl; aged = refl; agedAfter = refl; order = refl }
+
+pub block-cases : BlockCases
+unfolding crowd hoard pile sound streamFits sessionFits run after step stepChecked stepAnonymous stepSeek stepStart stepNew used times lowest freeBlock cleared asks stepBlock stepAsk stepAt seek placeFor check frameCheck parsed streamOf sameStream subscribed react met restarted restarts proceed proceedIf over takes takeLong takeEnd closing checksum crcOver crcByte shifts shift leBytes
+block-cases =
+    record {
+      faultless = (refl, refl, refl, refl);
+      faults = (refl, refl, refl, refl, refl, refl);
+      lowest = refl;
+      none = refl;
+      place = refl;
+      time = refl;
+      single = refl;
+      notOld = refl;
+      emptied = refl;
+      left = (refl, refl);
+      order = (refl, refl, refl);
+      eighth = (refl, refl, refl);
+      closed = (refl, refl, refl, refl);
+      restarted = refl;
+      replaced = (refl, refl);
+    }

@@ -7,7 +7,7 @@ use Prim.Native.Nat.{ℕ, zero, suc, _≤_, _<_}
 use lib.Dec.{leb, eqb}
 use lib.ListN.{length, take}
 use borrow.Author.Tests.{leb-true}
-use Rattle.rules.specs.Answer.{Answer, full, numberOf}
+use Rattle.rules.specs.Answer.{Answer, full, noBlock, numberOf}
 use Rattle.rules.specs.Check.{Reception, parsed}
 use Rattle.rules.specs.Condition3.{ofStream, startOf, keep, framesWith, answersTo, upTo, forward, roomy, never, rulesTable}
 use Rattle.rules.specs.Frame.{Frame, Stream}
@@ -65,21 +65,27 @@ not-full : (u : Setup) (b : Bool) (a : Answer) (l : List Answer) → never (rule
 not-full u true a l h e q = false≢true (rw q at (and-elim-left (not (eqb (numberOf a) 9)) (never (rulesTable u) 9 l) h))
 not-full u false a l h e q = false≢true e
 
+not-blocked : (u : Setup) (b : Bool) (a : Answer) (l : List Answer) → never (rulesTable u) 26 (keep b a l) ≡ true → b ≡ true → a ≡ noBlock → ⊥
+not-blocked u true a l h e q = false≢true (rw q at (and-elim-left (not (eqb (numberOf a) 26)) (never (rulesTable u) 26 l) h))
+not-blocked u false a l h e q = false≢true e
+
 rest-never : (u : Setup) (b : Bool) (n : ℕ) (a : Answer) (l : List Answer) → never (rulesTable u) n (keep b a l) ≡ true → never (rulesTable u) n l ≡ true
 rest-never u true n a l h = and-elim-right (not (eqb (numberOf a) n)) (never (rulesTable u) n l) h
 rest-never u false n a l h = h
 
 module _ (u : Setup) (d : Stream) (named : 0 < d .source) where
   pub follow : (t : ℕ) (ps : Places) (s : Session) (l : List Reception) → forward (rulesTable u) t l ≡ true → roomy (rulesTable u) d l ≡ true
-      → never (rulesTable u) 9 (answersTo (rulesTable u) (startOf d) ps l) ≡ true → Sole ps → Beside d t ps s
+      → never (rulesTable u) 9 (answersTo (rulesTable u) (startOf d) ps l) ≡ true → never (rulesTable u) 26 (answersTo (rulesTable u) (ofStream d) ps l) ≡ true
+      → Sole ps → Beside d t ps s
       → answersTo (rulesTable u) (ofStream d) ps l ≡ refRun u s (framesWith (rulesTable u) (ofStream d) l)
   unfolding answersTo framesWith refRun parsed Sole
-  follow t ps s [] fw ro nf sole beside = refl
-  follow t ps s (r ∷ rs) fw ro nf sole beside =
+  follow t ps s [] fw ro nf nb sole beside = refl
+  follow t ps s (r ∷ rs) fw ro nf nb sole beside =
       go (ofStream d (r .arrival .frame)) refl
       (λ x b. follow (r .arrival .frame .time) (step u ps r .places) x rs (and-elim-right (leb t (r .arrival .frame .time)) _ fw)
       (and-elim-right (pick (ofStream d (r .arrival .frame)) (leb 512 (r .room)) true) _ ro)
-      (rest-never u (startOf d (r .arrival .frame)) 9 (step u ps r .answer) _ nf) (sole-step u ps r sole) b)
+      (rest-never u (startOf d (r .arrival .frame)) 9 (step u ps r .answer) _ nf)
+      (rest-never u (ofStream d (r .arrival .frame)) 26 (step u ps r .answer) _ nb) (sole-step u ps r sole) b)
     where
       onward : t ≤ r .arrival .frame .time
       onward = leb-true t (r .arrival .frame .time) (and-elim-left _ _ fw)
@@ -90,7 +96,8 @@ module _ (u : Setup) (d : Stream) (named : 0 < d .source) where
       go true e ih =
           let room : pick (ofStream d (r .arrival .frame)) (leb 512 (r .room)) true ≡ true = and-elim-left _ _ ro in
           let a = own u d t ps s r sole named e onward (leb-true 512 (r .room) (rw e at room)) beside
-          (λ st. not-full u (startOf d (r .arrival .frame)) (step u ps r .answer) _ nf (and-intro e st)) in
+          (λ st. not-full u (startOf d (r .arrival .frame)) (step u ps r .answer) _ nf (and-intro e st))
+          (not-blocked u (ofStream d (r .arrival .frame)) (step u ps r .answer) _ nb e) in
           ap (λ k. k ∷ answersTo (rulesTable u) (ofStream d) (step u ps r .places) rs) (a .answer)
           ∙ ap (λ k. ref u s (r .arrival) .answer ∷ k) (ih (ref u s (r .arrival) .session) (a .beside))
-      go false e ih = ih s (beside-kept (others-kept u d ps r (sole d) e) (later (r .arrival .frame .time) onward beside))
+      go false e ih = ih s (beside-kept (others-kept u d ps r sole e) (later (r .arrival .frame .time) onward beside))

@@ -1,7 +1,9 @@
 pub mod Arrivals
+pub mod Bounds
 pub mod Calls
 pub mod Caught
 pub mod Checks
+pub mod Counts
 pub mod Delivered
 pub mod Delivery
 pub mod Draws
@@ -9,8 +11,10 @@ pub mod Examples
 pub mod Follow
 pub mod Frames
 pub mod Ids
+pub mod Landing
 pub mod Lasting
 pub mod Lift
+pub mod Names
 pub mod Others
 pub mod Own
 pub mod Ranges
@@ -18,7 +22,10 @@ pub mod Reasons
 pub mod Records
 pub mod Refusals
 pub mod Sends
+pub mod Shares
 pub mod Start
 pub mod Table
 pub mod Takes
 pub mod Theorem
+pub mod Walk
+pub mod Want

@@ -160,10 +160,22 @@ module _ (u : Setup) (M : Machine) where
             (v .moves (x .state) (x .start) p (h .0)) front-is
 
         while-is : While M d k x → While (rulesTable u) d k (viewOf x)
-        while-is w = record { time = sym time-is ∙ w .time; room = sym room-is ∙ w .room; table = sym (never-is 9 (startOf d)) ∙ w .table }
+        while-is w =
+            record {
+              time = sym time-is ∙ w .time;
+              room = sym room-is ∙ w .room;
+              table = sym (never-is 9 (startOf d)) ∙ w .table;
+              blocks = sym (never-is 26 (ofStream d)) ∙ w .blocks;
+            }
 
         pub while-back : While (rulesTable u) d k (viewOf x) → While M d k x
-        while-back w = record { time = time-is ∙ w .time; room = room-is ∙ w .room; table = never-is 9 (startOf d) ∙ w .table }
+        while-back w =
+            record {
+              time = time-is ∙ w .time;
+              room = room-is ∙ w .room;
+              table = never-is 9 (startOf d) ∙ w .table;
+              blocks = never-is 26 (ofStream d) ∙ w .blocks;
+            }
 
     -- ── two ──
 

@@ -1,5 +1,6 @@
 -- What a reception answers is in its range.
 use mathlib.Core.Path.{_≡_, refl}
+use mathlib.Core.Logic.{_⊎_, inl, inr}
 use mathlib.Core.Bool.{Bool, true, false}
 use mathlib.Core.List.{List, [], _∷_, _++_}
 use mathlib.Core.Logic.{_⊎_, inl, inr}
@@ -10,16 +11,18 @@ use native.Mathlib.Omega.{arith}
 use lib.Dec.{ltb, eqb}
 use lib.ListN.{length, take, drop, getD, length-take, length-drop}
 use borrow.Author.Tests.{ltb-false, leb-false, le-leb, lt-leb, ne-eqb}
-use Rattle.rules.specs.Answer.{Answer, taken, handed, refused, full, passed, long, differs, Reason, noTransfer, wrongToggle, wrongTransfer, repeatedStart, otherInterface, reasonNumber, numberOf}
+use Rattle.rules.specs.Answer.{Answer, taken, handed, refused, full, passed, long, noBlock, differs, Reason, noTransfer, wrongToggle, wrongTransfer, repeatedStart, otherInterface, reasonNumber, numberOf}
+use Rattle.rules.specs.Blocks.{keeps, blocksIn}
 use Rattle.rules.specs.Check.{Reception, Parsed, parsed, largeId, badLength, noInterface, unnamedService, forAnother, notSubscribed, frameCheck, roomCheck, check}
 use Rattle.rules.specs.Frame.{Arrival, isService, isAnonymous, sourceOf, streamIf, streamOf}
 use Rattle.rules.specs.Range.{HandedRange, Ranged, RangeLaw, answered, NumberLaw, out, HandOut, OneLaw}
 use Rattle.rules.specs.Reception.{sessionIn, stepNew, stepStart, stepSeek, stepAnonymous, stepChecked, step}
-use Rattle.rules.specs.Session.{Session, sumOk, closing, takeEnd, takeLong, takes, overIf, over, proceedIf, proceed, react, met, fresh}
+use Rattle.rules.specs.Session.{Session, sumOk, closing, takeEnd, takeLong, takes, overIf, over, proceedIf, proceed, met, fresh}
 use Rattle.rules.specs.Setup.{Setup}
 use Rattle.rules.specs.Table.{Places, empty, seek, holds, placeFor}
 use Rattle.rules.specs.Tests.{bit, pick, isEmpty, sameBool}
 use Rattle.rules.proofs.Checks.{Accepted, accepted, checked, badTailIn}
+use Rattle.rules.proofs.Landing.{answer-at}
 
 -- ── a frame that passes the checks ──
 
@@ -130,20 +133,19 @@ module _ (v : Parsed) (h : Headed v) where
       go none e =
           take-range s (λ k. from-empty (s .gathered) (start-empty (eqb (v .interface) (s .follows)) (v .start) (eqb (v .transfer) (s .expected)) (isEmpty (s .gathered)) (sameBool (v .toggle) (s .toggle)) e k))
 
-  react-range : (s : Session) → Ranged (react s v .answer)
-  unfolding react
-  react-range s = proceed-range (met s v)
-
   -- ── the table ──
 
   find-range : (ps : Places) (o : Option ℕ) → Ranged (stepSeek o ps v .answer)
   unfolding stepSeek stepStart stepNew
-  find-range ps (some i) = react-range (sessionIn (getD ps i empty) v)
+  find-range ps (some i) =
+      let p = getD ps i empty in
+      let m = met (sessionIn p v) v in
+      answer-at ps i m (keeps m (blocksIn p)) v Ranged tt (proceed-range m)
   find-range ps none = start (v .start)
     where
       new : (o : Option ℕ) → Ranged (stepNew o ps v .answer)
       new none = tt
-      new (some i) = proceed-range (fresh v)
+      new (some i) = answer-at ps i (fresh v) [] v Ranged tt (proceed-range (fresh v))
 
       start : (b : Bool) → Ranged (stepStart b ps v .answer)
       start false = tt
@@ -166,6 +168,11 @@ Small o = UpTo 8 o
 pub two-or-more : (n : ℕ) → Small (some n) → 2 ≤ n
 two-or-more n (inl h) = h .0
 two-or-more n (inr e) = omega arith
+
+-- 26 is none of them
+pub no-block : (n : ℕ) → Small (some n) → eqb n 26 ≡ false
+no-block n (inl h) = ne-eqb n 26 (λ z. omega (arith, h .1, z))
+no-block n (inr e) = ne-eqb n 26 (λ z. omega (arith, e, z))
 
 or-next : (b : Bool) (n : ℕ) (o : Option ℕ) → ((2 ≤ n) × (n ≤ 7)) ⊎ (n ≡ 19) → UpTo 7 o → UpTo 7 (pick b (some n) o)
 or-next true n o h k = h
@@ -219,8 +226,9 @@ number full h = refl
 number (passed r) h =
     let n = reasonNumber r in
     let k = reason-range r in
-    rw (lt-leb n 9 (omega arith), ne-eqb n 11 (λ e. omega arith), ne-eqb n 12 (λ e. omega arith), ne-eqb n 19 (λ e. omega arith), le-leb 30 n (k .0), le-leb n 34 (k .1))
+    rw (lt-leb n 9 (omega arith), ne-eqb n 11 (λ e. omega arith), ne-eqb n 12 (λ e. omega arith), ne-eqb n 19 (λ e. omega arith), ne-eqb n 26 (λ e. omega arith), le-leb 30 n (k .0), le-leb n 34 (k .1))
 number long h = refl
+number noBlock h = refl
 number differs h = refl
 
 pub number-law : NumberLaw
@@ -233,6 +241,7 @@ one (refused n) h e = absurd (omega (arith, two-or-more n h))
 one full h e = absurd (omega arith)
 one (passed r) h e = absurd (omega (arith, reason-range r))
 one long h e = absurd (omega arith)
+one noBlock h e = absurd (omega arith)
 one differs h e = absurd (omega arith)
 
 pub one-law : OneLaw

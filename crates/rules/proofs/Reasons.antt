@@ -11,6 +11,7 @@ use lib.Dec.{eqb}
 use lib.ListN.{length, getD}
 use borrow.Author.Tests.{eq-eqb, ne-eqb, le-ltb}
 use Rattle.rules.specs.Answer.{Answer, Reason, noTransfer, otherInterface, passed, numberOf}
+use Rattle.rules.specs.Blocks.{keeps, blocksIn}
 use Rattle.rules.specs.Check.{Reception, Parsed, parsed, first, check}
 use Rattle.rules.specs.Frame.{isAnonymous, streamOf, tailOf, isStart}
 use Rattle.rules.specs.Reasons.{startTests, otherTests, numbered, Reasons}
@@ -22,6 +23,7 @@ use Rattle.rules.specs.Sound.{sound, placesFit}
 use Rattle.rules.specs.Table.{empty, Places, seek, holds, placeFor}
 use Rattle.rules.specs.Tests.{pick, sameBool, isEmpty}
 use Rattle.rules.proofs.Checks.{accepted, checked, start-toggle}
+use Rattle.rules.proofs.Landing.{answer-at}
 use Rattle.rules.proofs.Lasting.{Fits, test-fits, ParsedFits, met-fits, at-fits, session-fits, parsed-fits, sound-fits}
 use Rattle.rules.proofs.Own.{react-restarts, restart-other, react-stays}
 use Rattle.rules.proofs.Ranges.{headed, Small, check-small}
@@ -106,9 +108,9 @@ followed s v e = go (restarts s v) refl
 
 -- ── what is answered to a start that passed the checks ──
 
--- taken, refused for a full table, or passed over
+-- taken, refused for a full table or for want of a block, or passed over
 abbrev pub sorts : ℕ → Bool
-sorts n = any (map (eqb n) (0 ∷ 1 ∷ 9 ∷ 32 ∷ 33 ∷ 34 ∷ []))
+sorts n = any (map (eqb n) (0 ∷ 1 ∷ 9 ∷ 26 ∷ 32 ∷ 33 ∷ 34 ∷ []))
 
 abbrev pub Sorted : Answer → Type 0
 Sorted a = sorts (numberOf a) ≡ true
@@ -152,18 +154,17 @@ module _ (v : Parsed) (st : v .start ≡ true) (tg : v .toggle ≡ false) (few :
       go true true true e false k = sorts-taken s e
       go true true true e true k = absurd (false≢true k)
 
-  sorts-react : (s : Session) → Fits s → Sorted (react s v .answer)
-  unfolding react
-  sorts-react s h = sorts-proceed (met s v) (met-fits s v h vok)
-
   sorts-new : (ps : Places) (o : Option ℕ) → Sorted (stepNew o ps v .answer)
   unfolding stepNew
   sorts-new ps none = refl
-  sorts-new ps (some i) = sorts-proceed (fresh v) (session-fits empty v refl vok)
+  sorts-new ps (some i) = answer-at ps i (fresh v) [] v Sorted refl (sorts-proceed (fresh v) (session-fits empty v refl vok))
 
   sorts-seek : (ps : Places) → placesFit ps ≡ true → (o : Option ℕ) → Sorted (stepSeek o ps v .answer)
   unfolding stepSeek stepStart
-  sorts-seek ps h (some i) = let p = getD ps i empty in sorts-react (sessionIn p v) (session-fits p v (at-fits ps i h) vok)
+  sorts-seek ps h (some i) =
+      let p = getD ps i empty in
+      let s = sessionIn p v in
+      answer-at ps i (met s v) (keeps (met s v) (blocksIn p)) v Sorted refl (sorts-proceed (met s v) (met-fits s v (session-fits p v (at-fits ps i h) vok) vok))
   sorts-seek ps h none = subst (λ b. Sorted (stepStart b ps v .answer)) (sym st) (sorts-new ps (placeFor (v .time) ps))
 
 pub sorts-step : (u : Setup) (ps : Places) (r : Reception) → placesFit ps ≡ true → isStart (tailOf (r .arrival .frame .bytes)) ≡ true

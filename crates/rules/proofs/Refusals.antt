@@ -1,6 +1,7 @@
 -- A frame that is refused changes no place: where a place is written, the answer is none of these.
-use mathlib.Core.Path.{_≡_, refl}
-use mathlib.Core.Bool.{Bool, true, false, and-false}
+use mathlib.Core.Path.{_≡_, refl, sym, _∙_}
+use mathlib.Core.Bool.{Bool, true, false, true≢false, and-false}
+use mathlib.Core.List.{List, []}
 use mathlib.Core.Option.{Option, none, some}
 use Prim.Native.Nat.{ℕ}
 use native.Mathlib.Omega.{arith}
@@ -8,12 +9,14 @@ use lib.Dec.{leb}
 use lib.ListN.{getD}
 use borrow.Author.Tests.{lt-leb, ne-eqb}
 use Rattle.rules.specs.Answer.{Answer, Reason, passed, reasonNumber, numberOf}
+use Rattle.rules.specs.Blocks.{keeps, blocksIn}
 use Rattle.rules.specs.Check.{Parsed, parsed, check}
 use Rattle.rules.specs.Frame.{isAnonymous}
-use Rattle.rules.specs.Reception.{sessionIn, stepNew, stepStart, stepSeek, stepAnonymous, stepChecked, step}
+use Rattle.rules.specs.Reception.{sessionIn, stepAt, stepNew, stepStart, stepSeek, stepAnonymous, stepChecked, step}
 use Rattle.rules.specs.Refusal.{refuses, RefusalLaw}
-use Rattle.rules.specs.Session.{Session, over, proceedIf, proceed, met, react, fresh}
+use Rattle.rules.specs.Session.{Session, over, proceedIf, proceed, met, fresh}
 use Rattle.rules.specs.Table.{Places, empty, seek, holds, placeFor}
+use Rattle.rules.proofs.Landing.{answer-at}
 use Rattle.rules.proofs.Ranges.{reason-range}
 use Rattle.rules.proofs.Takes.{Takes, unfinished, whole, tooLong, badSum, takes-answer}
 
@@ -43,20 +46,18 @@ module _ (v : Parsed) where
       go (some r) = passed-answers r
       go none = taken-answers (takes-answer v s)
 
-  react-answers : (s : Session) → Answers (react s v .answer)
-  unfolding react
-  react-answers s = proceed-answers (met s v)
-
   -- ── the table ──
 
   module _ (ps : Places) where
-    no-refusal : (a : Answer) (after : Places) → Answers a → refuses (numberOf a) ≡ true → after ≡ ps
-    no-refusal a after n e = let z : _≡_ {A = ℕ} 0 1 = cc in absurd (omega arith)
+    at-kept : (i : ℕ) (s : Session) (bs : List ℕ) → refuses (numberOf (stepAt ps i s bs v .answer)) ≡ true → stepAt ps i s bs v .places ≡ ps
+    at-kept i s bs e =
+        let n : Answers (stepAt ps i s bs v .answer) = answer-at ps i s bs v Answers refl (proceed-answers s) in
+        absurd (true≢false (sym e ∙ n))
 
     new-kept : (o : Option ℕ) → refuses (numberOf (stepNew o ps v .answer)) ≡ true → stepNew o ps v .places ≡ ps
     unfolding stepNew
     new-kept none e = refl
-    new-kept (some i) e = no-refusal (proceed (fresh v) v .answer) _ (proceed-answers (fresh v)) e
+    new-kept (some i) e = at-kept i (fresh v) [] e
 
     start-kept : (b : Bool) → refuses (numberOf (stepStart b ps v .answer)) ≡ true → stepStart b ps v .places ≡ ps
     unfolding stepStart
@@ -65,7 +66,7 @@ module _ (v : Parsed) where
 
     seek-kept : (o : Option ℕ) → refuses (numberOf (stepSeek o ps v .answer)) ≡ true → stepSeek o ps v .places ≡ ps
     unfolding stepSeek
-    seek-kept (some i) e = let s = sessionIn (getD ps i empty) v in no-refusal (react s v .answer) _ (react-answers s) e
+    seek-kept (some i) e = let p = getD ps i empty in let s = met (sessionIn p v) v in at-kept i s (keeps s (blocksIn p)) e
     seek-kept none e = start-kept (v .start) e
 
     named-kept : (anonymous : Bool) → refuses (numberOf (stepAnonymous anonymous ps v .answer)) ≡ true → stepAnonymous anonymous ps v .places ≡ ps

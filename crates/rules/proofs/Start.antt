@@ -1,5 +1,6 @@
 -- A start that is taken leaves nothing of the past: the session is as the start alone would begin it.
 use mathlib.Core.Path.{_≡_, refl, sym, ap, _∙_, subst}
+use mathlib.Core.Logic.{inl, inr}
 use mathlib.Core.Bool.{Bool, true, false, false≢true, true≢false}
 use mathlib.Core.List.{List, [], _∷_}
 use mathlib.Core.Option.{Option, none, some}
@@ -8,20 +9,21 @@ use native.Mathlib.Omega.{arith}
 use lib.Dec.{ltb, eqb}
 use lib.ListN.{length, getD}
 use borrow.Author.Tests.{eqb-true, ltb-true}
-use Rattle.rules.specs.Answer.{Reason, reasonNumber, numberOf}
+use Rattle.rules.specs.Answer.{Answer, noBlock, Reason, reasonNumber, numberOf}
+use Rattle.rules.specs.Blocks.{keeps, blocksIn}
 use Rattle.rules.specs.Check.{Reception, Parsed, parsed, frameCheck, check}
 use Rattle.rules.specs.Condition3.{ofStream, took}
 use Rattle.rules.specs.Frame.{Stream, streamOf, isAnonymous}
 use Rattle.rules.specs.Reception.{Step, stepNew, stepStart, sessionIn, stepSeek, stepAnonymous, stepChecked, step}
-use Rattle.rules.specs.Session.{Session, Out, restarts, overStart, overIf, over, takes, proceedIf, proceed, react, fresh}
+use Rattle.rules.specs.Session.{Session, Out, restarts, overStart, overIf, over, takes, proceedIf, proceed, met, react, fresh}
 use Rattle.rules.specs.Setup.{Setup}
 use Rattle.rules.specs.Table.{empty, Places, seek, holds, placeFor}
 use Rattle.rules.specs.Tests.{sameBool, isEmpty}
 use Rattle.rules.proofs.Checks.{checked, start-toggle, named-not-anonymous, of-stream}
 use Rattle.rules.proofs.Others.{FoundPlace, place-spec}
-use Rattle.rules.proofs.Own.{began, long-free, begins, restart-start, react-stays}
+use Rattle.rules.proofs.Own.{alone-at, began, long-free, begins, restart-start, react-stays}
 use Rattle.rules.proofs.Ranges.{Small, two-or-more, check-small, reason-range}
-use Rattle.rules.proofs.Table.{Found, seek-spec, sessionsOf, fails-none, Sole, only, new-at}
+use Rattle.rules.proofs.Table.{Found, seek-spec, sessionsOf, fails-none, Sole}
 
 -- ── one session ──
 
@@ -80,6 +82,9 @@ pub record Began (d : Stream) (a : Step) (o : Out) : Type 0 where
   pub answer : a .answer ≡ o .answer
   pub session : sessionsOf d (a .places) ≡ o .session ∷ []
 
+took-block : (a : Answer) → took (numberOf a) ≡ true → a ≡ noBlock → ⊥
+took-block a t e = false≢true (rw e at t)
+
 module _ (ps : Places) (v : Parsed) (st : v .start ≡ true) (g : v .toggle ≡ false) (sole : Sole ps) where
   began-new : (o : Option ℕ) → FoundPlace (v .time) ps o → sessionsOf (v .stream) ps ≡ [] → took (numberOf (stepNew o ps v .answer)) ≡ true
       → Began (v .stream) (stepNew o ps v) (takes (fresh v) v)
@@ -87,10 +92,8 @@ module _ (ps : Places) (v : Parsed) (st : v .start ≡ true) (g : v .toggle ≡ 
   began-new none h e t = absurd (false≢true t)
   began-new (some i) h e t =
       let q = begins (v .time) v st g in
-      record {
-        answer = ap (λ o. o .answer) q;
-        session = new-at (v .stream) ps i (proceed (fresh v) v .session) (h .0) e ∙ ap (λ o. o .session ∷ []) q;
-      }
+      let a = alone-at ps i (fresh v) [] v (h .0) (inr e) sole (took-block _ t) in
+      record { answer = a .0 ∙ ap (λ o. o .answer) q; session = a .1 ∙ ap (λ o. o .session ∷ []) q }
 
   began-start : (b : Bool) → b ≡ true → sessionsOf (v .stream) ps ≡ [] → took (numberOf (stepStart b ps v .answer)) ≡ true
       → Began (v .stream) (stepStart b ps v) (takes (fresh v) v)
@@ -100,14 +103,13 @@ module _ (ps : Places) (v : Parsed) (st : v .start ≡ true) (g : v .toggle ≡ 
 
   began-seek : (o : Option ℕ) → Found (holds (v .stream)) ps o → took (numberOf (stepSeek o ps v .answer)) ≡ true
       → Began (v .stream) (stepSeek o ps v) (takes (fresh v) v)
-  unfolding stepSeek Sole
+  unfolding stepSeek react
   began-seek none h t = began-start (v .start) st (fails-none (v .stream) ps h) t
   began-seek (some i) h t =
-      let q = took-react v st g (sessionIn (getD ps i empty) v) t in
-      record {
-        answer = ap (λ o. o .answer) q;
-        session = only (v .stream) ps i h (sole (v .stream)) .stored (react (sessionIn (getD ps i empty) v) v .session) ∙ ap (λ o. o .session ∷ []) q;
-      }
+      let x = sessionIn (getD ps i empty) v in
+      let a = alone-at ps i (met x v) (keeps (met x v) (blocksIn (getD ps i empty))) v (h .inside) (inl (h .passes)) sole (took-block _ t) in
+      let q = took-react v st g x (rw (sym (a .0)) t) in
+      record { answer = a .0 ∙ ap (λ o. o .answer) q; session = a .1 ∙ ap (λ o. o .session ∷ []) q }
 
 -- what is taken passed the checks
 not-taken : (u : Setup) (r : Reception) (n : ℕ) → check u r ≡ some n → took n ≡ true → ⊥

@@ -69,13 +69,13 @@ seek-spec t (p ∷ ps) = here (t p) refl (seek t ps) (seek-spec t ps)
 unfoldable pub sessionsOf : Stream → Places → List Session
 sessionsOf d [] = []
 sessionsOf d (empty ∷ ps) = sessionsOf d ps
-sessionsOf d (held e s ∷ ps) = keep (sameStream e d) s (sessionsOf d ps)
+sessionsOf d (held e s bs ∷ ps) = keep (sameStream e d) s (sessionsOf d ps)
 
 sessions-append : (d : Stream) (ps qs : Places) → sessionsOf d (ps ++ qs) ≡ sessionsOf d ps ++ sessionsOf d qs
 unfolding sessionsOf
 sessions-append d [] qs = refl
 sessions-append d (empty ∷ ps) qs = sessions-append d ps qs
-sessions-append d (held e s ∷ ps) qs = go (sameStream e d) (sessions-append d ps qs)
+sessions-append d (held e s bs ∷ ps) qs = go (sameStream e d) (sessions-append d ps qs)
   where
     go : (b : Bool) → sessionsOf d (ps ++ qs) ≡ sessionsOf d ps ++ sessionsOf d qs
         → keep b s (sessionsOf d (ps ++ qs)) ≡ keep b s (sessionsOf d ps) ++ sessionsOf d qs
@@ -85,11 +85,11 @@ sessions-append d (held e s ∷ ps) qs = go (sameStream e d) (sessions-append d 
 pub not-held : (d : Stream) (p : Place) (ps : Places) → holds d p ≡ false → sessionsOf d (p ∷ ps) ≡ sessionsOf d ps
 unfolding sessionsOf
 not-held d empty ps h = refl
-not-held d (held e s) ps h = rw h
+not-held d (held e s bs) ps h = rw h
 
-pub is-held : (d e : Stream) (s : Session) (ps : Places) → sameStream e d ≡ true → sessionsOf d (held e s ∷ ps) ≡ s ∷ sessionsOf d ps
+pub is-held : (d e : Stream) (s : Session) (bs : List ℕ) (ps : Places) → sameStream e d ≡ true → sessionsOf d (held e s bs ∷ ps) ≡ s ∷ sessionsOf d ps
 unfolding sessionsOf
-is-held d e s ps h = rw h
+is-held d e s bs ps h = rw h
 
 pub fails-none : (d : Stream) (ps : Places) → Fails (holds d) ps → sessionsOf d ps ≡ []
 unfolding sessionsOf
@@ -144,9 +144,10 @@ kept d ps i q inside h k =
 -- the place is the stream's only one
 pub record Only (d : Stream) (ps : Places) (i : ℕ) : Type 0 where
   pub holder : Session
-  pub here : getD ps i empty ≡ held d holder
+  pub blocks : List ℕ
+  pub here : getD ps i empty ≡ held d holder blocks
   pub sole : sessionsOf d ps ≡ holder ∷ []
-  pub stored : (s : Session) → sessionsOf d (set ps i (held d s)) ≡ s ∷ []
+  pub stored : (s : Session) (bs : List ℕ) → sessionsOf d (set ps i (held d s bs)) ≡ s ∷ []
   pub freed : (q : Place) → holds d q ≡ false → sessionsOf d (set ps i q) ≡ []
 
 pub only : (d : Stream) (ps : Places) (i : ℕ) → Sought (holds d) ps i → AtMostOne (sessionsOf d ps) → Only d ps i
@@ -154,49 +155,50 @@ only d ps i h one = at (getD ps i empty) refl (h .passes)
   where
     at : (p : Place) → getD ps i empty ≡ p → holds d p ≡ true → Only d ps i
     at empty g k = absurd (false≢true k)
-    at (held e x) g k =
+    at (held e x ys) g k =
         let c = cut d ps i (h .inside) in
         let was : sessionsOf d ps ≡ c .below ++ (x ∷ sessionsOf d (c .above)) =
-        c .was ∙ ap (λ l. c .below ++ l) (ap (λ p. sessionsOf d (p ∷ c .above)) g ∙ is-held d e x (c .above) k) in
+        c .was ∙ ap (λ l. c .below ++ l) (ap (λ p. sessionsOf d (p ∷ c .above)) g ∙ is-held d e x ys (c .above) k) in
         let n = sole-between x (c .below) (sessionsOf d (c .above)) (subst AtMostOne was one) in
         let alone : (s : Session) → c .below ++ (s ∷ sessionsOf d (c .above)) ≡ s ∷ [] =
         λ s. ap (λ l. l ++ (s ∷ sessionsOf d (c .above))) (n .0) ∙ ap (λ l. s ∷ l) (n .1) in
         record {
           holder = x;
-          here = g ∙ ap (λ y. held y x) (same-eq e d k);
+          blocks = ys;
+          here = g ∙ ap (λ y. held y x ys) (same-eq e d k);
           sole = was ∙ alone x;
-          stored = λ s. c .now (held d s) ∙ ap (λ l. c .below ++ l) (is-held d d s (c .above) (same-refl d)) ∙ alone s;
+          stored = λ s bs. c .now (held d s bs) ∙ ap (λ l. c .below ++ l) (is-held d d s bs (c .above) (same-refl d)) ∙ alone s;
           freed = λ q f. c .now q ∙ ap (λ l. c .below ++ l) (not-held d q (c .above) f) ∙ ap (λ l. l ++ sessionsOf d (c .above)) (n .0) ∙ n .1;
         }
 
 -- a stream that has no session gets one
-pub new-at : (d : Stream) (ps : Places) (i : ℕ) (s : Session) → i < length ps → sessionsOf d ps ≡ []
-    → sessionsOf d (set ps i (held d s)) ≡ s ∷ []
-new-at d ps i s inside e = go (holds d (getD ps i empty)) refl
+new-at : (d : Stream) (ps : Places) (i : ℕ) (s : Session) (bs : List ℕ) → i < length ps → sessionsOf d ps ≡ []
+    → sessionsOf d (set ps i (held d s bs)) ≡ s ∷ []
+new-at d ps i s bs inside e = go (holds d (getD ps i empty)) refl
   where
     c : Cut d ps i
     c = cut d ps i inside
 
-    go : (b : Bool) → holds d (getD ps i empty) ≡ b → sessionsOf d (set ps i (held d s)) ≡ s ∷ []
-    go true k = only d ps i (record { inside = inside; passes = k }) (subst AtMostOne (sym e) tt) .stored s
+    go : (b : Bool) → holds d (getD ps i empty) ≡ b → sessionsOf d (set ps i (held d s bs)) ≡ s ∷ []
+    go true k = only d ps i (record { inside = inside; passes = k }) (subst AtMostOne (sym e) tt) .stored s bs
     go false k =
         let n = both-nil (c .below) (sessionsOf d (c .above)) (ap (λ l. c .below ++ l) (sym (not-held d (getD ps i empty) (c .above) k)) ∙ sym (c .was) ∙ e) in
-        c .now (held d s) ∙ ap (λ l. c .below ++ l) (is-held d d s (c .above) (same-refl d) ∙ ap (λ l. s ∷ l) (n .1)) ∙ ap (λ l. l ++ (s ∷ [])) (n .0)
+        c .now (held d s bs) ∙ ap (λ l. c .below ++ l) (is-held d d s bs (c .above) (same-refl d) ∙ ap (λ l. s ∷ l) (n .1)) ∙ ap (λ l. l ++ (s ∷ [])) (n .0)
 
 -- a store for a stream e, where e has its session or has none, leaves no stream with two
-pub sole-store : (ps : Places) (i : ℕ) (e : Stream) (s : Session) → i < length ps → (holds e (getD ps i empty) ≡ true) ⊎ (sessionsOf e ps ≡ [])
-    → Sole ps → Sole (set ps i (held e s))
+pub sole-store : (ps : Places) (i : ℕ) (e : Stream) (s : Session) (bs : List ℕ) → i < length ps → (holds e (getD ps i empty) ≡ true) ⊎ (sessionsOf e ps ≡ [])
+    → Sole ps → Sole (set ps i (held e s bs))
 unfolding Sole
-sole-store ps i e s inside mine sole d = go (sameStream e d) refl
+sole-store ps i e s bs inside mine sole d = go (sameStream e d) refl
   where
-    theirs : (b : Bool) → holds d (getD ps i empty) ≡ b → sameStream e d ≡ false → AtMostOne (sessionsOf d (set ps i (held e s)))
-    theirs true k f = rw (only d ps i (record { inside = inside; passes = k }) (sole d) .freed (held e s) f) tt
-    theirs false k f = rw (kept d ps i (held e s) inside k f) (sole d)
+    theirs : (b : Bool) → holds d (getD ps i empty) ≡ b → sameStream e d ≡ false → AtMostOne (sessionsOf d (set ps i (held e s bs)))
+    theirs true k f = rw (only d ps i (record { inside = inside; passes = k }) (sole d) .freed (held e s bs) f) tt
+    theirs false k f = rw (kept d ps i (held e s bs) inside k f) (sole d)
 
-    ours : (holds e (getD ps i empty) ≡ true) ⊎ (sessionsOf e ps ≡ []) → sessionsOf e (set ps i (held e s)) ≡ s ∷ []
-    ours (inl k) = only e ps i (record { inside = inside; passes = k }) (sole e) .stored s
-    ours (inr k) = new-at e ps i s inside k
+    ours : (holds e (getD ps i empty) ≡ true) ⊎ (sessionsOf e ps ≡ []) → sessionsOf e (set ps i (held e s bs)) ≡ s ∷ []
+    ours (inl k) = only e ps i (record { inside = inside; passes = k }) (sole e) .stored s bs
+    ours (inr k) = new-at e ps i s bs inside k
 
-    go : (b : Bool) → sameStream e d ≡ b → AtMostOne (sessionsOf d (set ps i (held e s)))
-    go true k = subst (λ c. AtMostOne (sessionsOf c (set ps i (held e s)))) (same-eq e d k) (rw (ours mine) tt)
+    go : (b : Bool) → sameStream e d ≡ b → AtMostOne (sessionsOf d (set ps i (held e s bs)))
+    go true k = subst (λ c. AtMostOne (sessionsOf c (set ps i (held e s bs)))) (same-eq e d k) (rw (ours mine) tt)
     go false k = theirs (holds d (getD ps i empty)) refl k

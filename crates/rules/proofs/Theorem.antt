@@ -12,12 +12,12 @@ use lib.Seq.{take-all, take-length}
 use borrow.Author.Tests.{eq-eqb, lt-leb, leb-true, leb-false}
 use Rattle.checksum.specs.Crc16.{checksum}
 use Rattle.rules.specs.Answer.{Answer, handed, numberOf}
-use Rattle.rules.specs.Check.{Reception, parsed}
+use Rattle.rules.specs.Check.{parsed}
 use Rattle.rules.specs.Condition3.{Past, fromSetup, lent, heard, ofStream, startOf, keep, framesWith, answersTo, Receiver, frames, answers, front, While, Brings, next, again, beside, Transfer, handouts, Condition3, rulesTable}
 use Rattle.rules.specs.Damage.{Opens}
 use Rattle.rules.specs.Frame.{Arrival, Stream, streamOf, priorityOf, isAnonymous, isStart, tailOf}
 use Rattle.rules.specs.Limits.{switchDelay}
-use Rattle.rules.specs.Reception.{step, after}
+use Rattle.rules.specs.Reception.{step}
 use Rattle.rules.specs.Sent.{withSum, carried, carrying, sent, idOf}
 use Rattle.rules.specs.Session.{Out, closing, takes, fresh}
 use Rattle.rules.specs.Setup.{Setup, signatureFor}
@@ -29,7 +29,7 @@ use Rattle.rules.proofs.Delivery.{Goes, over-now, goes-on, closes-by, n
 use Rattle.rules.proofs.Follow.{frames-upto, answers-upto, answers-length, follow}
 use Rattle.rules.proofs.Frames.{carried-short, carried-long}
 use Rattle.rules.proofs.Ids.{id-priority}
-use Rattle.rules.proofs.Lasting.{apart-sole, stream-fits, sound-fits, lasting}
+use Rattle.rules.proofs.Lasting.{stream-fits, sound-fits, sound-sole, sound-after, lasting}
 use Rattle.rules.proofs.Others.{sole-step}
 use Rattle.rules.proofs.Own.{refRun, same}
 use Rattle.rules.proofs.Start.{took-checked, began-by}
@@ -37,12 +37,7 @@ use Rattle.rules.proofs.Table.{Sole}
 
 -- ── pasts ──
 
-sound-after : (u : Setup) (ps : Places) (l : List Reception) → sound ps ≡ true → sound (after u ps l) ≡ true
-unfolding after
-sound-after u ps [] h = h
-sound-after u ps (r ∷ rs) h = sound-after u (step u ps r .places) rs (lasting .reception u ps r h)
-
-past-sound : (u : Setup) (ps : Places) → Past u ps → sound ps ≡ true
+pub past-sound : (u : Setup) (ps : Places) → Past u ps → sound ps ≡ true
 past-sound u ps fromSetup = lasting .setup
 past-sound u ps (lent h) = h
 past-sound u ps (heard {ps = qs} h l) = sound-after u qs l (past-sound u qs h)
@@ -51,8 +46,7 @@ pub past-fits : (u : Setup) (ps : Places) → Past u ps → placesFit ps ≡ tru
 past-fits u ps h = sound-fits ps (past-sound u ps h)
 
 past-sole : (u : Setup) (ps : Places) → Past u ps → Sole ps
-unfolding sound
-past-sole u ps h = apart-sole ps (and-elim-right (placesFit ps) _ (and-elim-right (eqb (length ps) 32) _ (past-sound u ps h)))
+past-sole u ps h = sound-sole ps (past-sound u ps h)
 
 -- ── the frames of a payload ──
 
@@ -114,7 +108,7 @@ module _ (u : Setup) (d : Stream) (x : Receiver (rulesTable u)) (s : Opens (rule
       let sole = past-sole u (x .state) (s .past) in
       let b = began-by u d (x .state) (x .start) (s .named) mine (and-elim-right (ofStream d (f .frame)) _ (s .start)) sole (s .take) in
       let qs = step u (x .state) (x .start) .places in
-      let q = follow u d (s .named) (f .frame .time) qs (first u f .session) (front (rulesTable u) d k x) (w .time) (w .room) (w .table)
+      let q = follow u d (s .named) (f .frame .time) qs (first u f .session) (front (rulesTable u) d k x) (w .time) (w .room) (w .table) (w .blocks)
       (sole-step u (x .state) (x .start) sole) (same (b .session)) in
       rw mine
       (ap (λ a. a ∷ take k (answersTo (rulesTable u) (ofStream d) qs (x .list))) (b .answer)

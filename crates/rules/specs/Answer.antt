@@ -28,6 +28,7 @@ pub data Answer : Type 0 where
   full : Answer
   passed : Reason → Answer
   long : Answer
+  noBlock : Answer  -- no block is free (RULES 4.12)
   differs : Answer
 
 abbrev pub numberOf : Answer → ℕ
@@ -37,6 +38,7 @@ numberOf (refused n) = n
 numberOf full = 9
 numberOf (passed r) = reasonNumber r
 numberOf long = 11
+numberOf noBlock = 26
 numberOf differs = 12
 
 -- f of what is handed out, or else a
@@ -47,6 +49,7 @@ handedOr a f (refused n) = a
 handedOr a f full = a
 handedOr a f (passed r) = a
 handedOr a f long = a
+handedOr a f noBlock = a
 handedOr a f differs = a
 
 -- the payload that is handed out, or none

@@ -149,6 +149,8 @@ module _ (M : Machine) where
     pub room : roomy d (front d k x) ≡ true
     -- RULES 14.8: no start of the stream is refused for a full table
     pub table : never 9 (answersTo (startOf d) (M .after (x .state) (x .start)) (front d k x)) ≡ true
+    -- RULES 14.8: and no frame of the stream for want of a block
+    pub blocks : never 26 (answersTo (ofStream d) (M .after (x .state) (x .start)) (front d k x)) ≡ true
 
 -- ── a correctly sent transfer (RULES 14.10, 14.11) ──
 

@@ -74,7 +74,7 @@ start = frame one 10000000
 -- n sessions of such messages from the sources n to 1, with nothing in hand, begun at a time
 unfoldable pub crowd : ℕ → ℕ → Places
 crowd since zero = []
-crowd since (suc n) = held (message (suc n)) (record { expected = 5; gathered = []; toggle = false; since = since; follows = 0 }) ∷ crowd since n
+crowd since (suc n) = held (message (suc n)) (record { expected = 5; gathered = []; toggle = false; since = since; follows = 0 }) [] ∷ crowd since n
 
 -- One has heard a whole single frame, its repeat and a bad one; then the stream's last transfer, and a copy of the start by the other interface, which is
 -- passed over. Between the stream's frames it hears a frame of too large an ID, another stream's start, a type with no subscription, an anonymous
@@ -113,7 +113,7 @@ spacious =
 abbrev pub crowded : Receiver (rulesTable setup)
 crowded =
     record {
-      state = held stream (record { expected = 5; gathered = 1 ∷ 2 ∷ 3 ∷ []; toggle = true; since = 7999999; follows = 1 }) ∷ crowd 8500000 31;
+      state = held stream (record { expected = 5; gathered = 1 ∷ 2 ∷ 3 ∷ []; toggle = true; since = 7999999; follows = 1 }) (9 ∷ []) ∷ crowd 8500000 31;
       start = record { arrival = start; room = 600 };
       list =
           copied one 10000000 ∷

@@ -37,7 +37,7 @@ pub record Interfaces : Type 0 where
       ≡ 1 ∷ 34 ∷ 34 ∷ 1 ∷ []
   -- an old session that a frame which is no start restarts follows that frame's interface, so that the frame is passed over by 30, and keeps its time
   pub aged : numbers (received one 10000000 ∷ copied two 12000001 ∷ []) ≡ 0 ∷ 30 ∷ []
-  pub agedAfter : getD (after setup begun (received one 10000000 ∷ copied two 12000001 ∷ [])) 0 empty ≡ held stream (waiting 6 10000000 1)
+  pub agedAfter : getD (after setup begun (received one 10000000 ∷ copied two 12000001 ∷ [])) 0 empty ≡ held stream (waiting 6 10000000 1) []
   -- 19 comes right after 3
   pub order :
       numbers (fourth (2 ^ 29) one ∷ fourth 0x103FF22A [] ∷ fourth 0x10000080 one ∷ fourth 0x103FF22A (1 ∷ 0x85 ∷ []) ∷ fourth 0x103FF22A one ∷ [])

@@ -6,6 +6,7 @@ pub mod Answer
 pub mod Check
 pub mod Session
 pub mod Table
+pub mod Blocks
 pub mod Reception
 pub mod Range
 pub mod Refusal
@@ -14,12 +15,15 @@ pub mod SentLaws
 pub mod Map
 pub mod Sending
 pub mod Sound
+pub mod BlockLaws
 pub mod Reasons
 pub mod Condition3
+pub mod BlockBounds
 pub mod Damage
 pub mod SendingLaws
 pub mod Example
 pub mod DamageExample
 pub mod WhyPremises
+pub mod BlockCases
 pub mod Samples
 pub mod Interfaces

@@ -17,6 +17,17 @@ payloadMax = 512
 abbrev pub gatheredMax : ℕ
 gatheredMax = 514
 
+-- blocks that the gathered bytes of all sessions lie in, and bytes of a block (RULES 4.12)
+abbrev pub blocksMax : ℕ
+blocksMax = 64
+
+abbrev pub blockSize : ℕ
+blockSize = 64
+
+-- blocks of one session, at most: those of 514 bytes
+abbrev pub blocksEach : ℕ
+blocksEach = 9
+
 -- a session is old when its age in microseconds is above this (RULES 4.4)
 abbrev pub oldAge : ℕ
 oldAge = 2000000

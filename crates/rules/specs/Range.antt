@@ -6,7 +6,7 @@ use mathlib.Core.Logic.{_⊎_}
 use Prim.Native.Nat.{ℕ, _≤_, _<_}
 use lib.Dec.{leb, eqb}
 use lib.ListN.{length}
-use Rattle.rules.specs.Answer.{Answer, taken, handed, refused, full, passed, long, differs, numberOf}
+use Rattle.rules.specs.Answer.{Answer, taken, handed, refused, full, passed, long, noBlock, differs, numberOf}
 use Rattle.rules.specs.Check.{Reception}
 use Rattle.rules.specs.Frame.{Stream}
 use Rattle.rules.specs.Limits.{payloadMax}
@@ -30,6 +30,7 @@ Ranged (refused n) = ((2 ≤ n) × (n ≤ 8)) ⊎ (n ≡ 19)
 Ranged full = Unit {0}
 Ranged (passed r) = Unit {0}
 Ranged long = Unit {0}
+Ranged noBlock = Unit {0}
 Ranged differs = Unit {0}
 
 abbrev pub RangeLaw : Type 0
@@ -37,7 +38,7 @@ RangeLaw = (u : Setup) (ps : Places) (r : Reception) → Ranged (step u ps r .an
 
 -- the numbers: 10 is none of them
 abbrev pub answered : ℕ → Bool
-answered n = leb n 9 || (eqb n 11 || (eqb n 12 || (eqb n 19 || (leb 30 n && leb n 34))))
+answered n = leb n 9 || (eqb n 11 || (eqb n 12 || (eqb n 19 || (eqb n 26 || (leb 30 n && leb n 34)))))
 
 abbrev pub NumberLaw : Type 0
 NumberLaw = (u : Setup) (ps : Places) (r : Reception) → answered (numberOf (step u ps r .answer)) ≡ true

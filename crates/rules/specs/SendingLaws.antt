@@ -11,11 +11,12 @@ use Rattle.bits.specs.Part.{span}
 use Rattle.bits.specs.Tabulate.{tabulate}
 use Rattle.rules.specs.Answer.{handed}
 use Rattle.rules.specs.Answer as answer
+use Rattle.rules.specs.BlockBounds.{total, rivalNeed}
 use Rattle.rules.specs.Check.{Reception}
 use Rattle.rules.specs.Condition3.{keep, All, Receiver, frames, answers, tookStart, While, handouts, Past, rulesTable}
 use Rattle.rules.specs.Frame as frame
 use Rattle.rules.specs.Frame.{Frame, Arrival, Stream, priorityOf}
-use Rattle.rules.specs.Limits.{payloadMax, interfacesMax, switchDelay, frameRecord}
+use Rattle.rules.specs.Limits.{blocksEach, blocksMax, payloadMax, interfacesMax, switchDelay, frameRecord}
 use Rattle.rules.specs.Map.{Topic, free, used, Map, blank, sameTopic, sound}
 use Rattle.rules.specs.Reception.{step}
 use Rattle.rules.specs.Sending.{Call, topicOf, streamOf, isResponse, any, notSendable, frameCount, done, numberOf, framesOf, transferOf, anonymousId, recordsOf, sendStep}
@@ -130,7 +131,7 @@ framesBy i (a ∷ l) = keep (eqb (a .interface) i) (a .frame) (framesBy i l)
 
 -- A receiver of the setup u, with any past, hears n records on the stream d: by the start's interface their frames in order, within a second of the first;
 -- by other interfaces and of other streams whatever comes. Up to the last of them the premises of condition 3 hold: of these, that no start is refused for a
--- full table says something only of starts by other interfaces.
+-- full table says something only of starts by other interfaces, and that no frame is refused for want of a block nothing of the start itself.
 pub record Hearing (u : Setup) (d : Stream) (records : List ℕ) (n : ℕ) (x : Receiver (rulesTable u)) : Type 0 where
   pub past : Past u (x .state)
   pub interface : x .start .arrival .interface < interfacesMax
@@ -141,8 +142,8 @@ pub record Hearing (u : Setup) (d : Stream) (records : List ℕ) (n : ℕ) (x : 
 
 -- what it answers to the call's records
 pub record Arrives (u : Setup) (c : Call) (m : Map) (x : Receiver (rulesTable u)) : Type 0 where
-  -- the start is taken, refused for a full table or passed over
-  pub start : any (map (eqb (answer.numberOf (step u (x .state) (x .start) .answer))) (0 ∷ 1 ∷ 9 ∷ 32 ∷ 33 ∷ 34 ∷ [])) ≡ true
+  -- the start is taken, refused for a full table or for want of a block, or passed over
+  pub start : any (map (eqb (answer.numberOf (step u (x .state) (x .start) .answer))) (0 ∷ 1 ∷ 9 ∷ 26 ∷ 32 ∷ 33 ∷ 34 ∷ [])) ≡ true
   -- where it is taken, the payload is handed out exactly once
   pub once : tookStart (rulesTable u) x ≡ true
       → handouts (rulesTable u) (answers (rulesTable u) (streamOf c) x) ≡ handed (c .payload) (streamOf c) (c .priority) (transferFor c m) ∷ []
@@ -158,6 +159,7 @@ atOnce u ps records n time space =
 pub record Delivered : Type 0 where
   pub arrives : (c : Call) (m : Map) (room n t : ℕ) → sound m ≡ true → sendStep c m room .answer ≡ done n t → 0 < c .own → (u : Setup) → Hears u c
       → (x : Receiver (rulesTable u)) → Hearing u (streamOf c) (sendStep c m room .records) n x → Arrives u c m x
-  -- its premises can be met
+  -- its premises can be met, where the sessions of other streams leave the blocks of one transfer
   pub met : (c : Call) (m : Map) (room n t : ℕ) → sound m ≡ true → sendStep c m room .answer ≡ done n t → 0 < c .own → (u : Setup) (ps : Places) → Past u ps
-      → (time space : ℕ) → payloadMax ≤ space → Hearing u (streamOf c) (sendStep c m room .records) n (atOnce u ps (sendStep c m room .records) n time space)
+      → (time space : ℕ) → payloadMax ≤ space → total (rivalNeed (streamOf c) time) ps + blocksEach ≤ blocksMax
+      → Hearing u (streamOf c) (sendStep c m room .records) n (atOnce u ps (sendStep c m room .records) n time space)

@@ -98,11 +98,11 @@ pub record Out : Type 0 where
 abbrev pub sinceOf : Session → Parsed → ℕ
 sinceOf s v = pick (v .start) (v .time) (s .since)
 
--- RULES 4.8, after 1, 11 and 12: nothing in hand, toggle 0, the expected ID raised by one
+-- RULES 4.8, after 1, 11, 12 and 26: nothing in hand, toggle 0, the expected ID raised by one
 abbrev pub closed : Session → ℕ → Session
 closed s t = waiting (next (s .expected)) t (s .follows)
 
--- RULES 4.8, case 4: the first two bytes, low byte first, are the checksum of the rest
+-- RULES 4.8, case 5: the first two bytes, low byte first, are the checksum of the rest
 abbrev pub sumOk : ℕ → List ℕ → Bool
 sumOk signature [] = false
 sumOk signature (a ∷ []) = false

@@ -1,12 +1,15 @@
--- RULES 5.4, 5.5 and 5.7: a table of places without a fault. Each field is in range, toggle 1 goes with bytes in hand, no stream has two places.
+-- RULES 5.4, 5.5 and 5.7: a table of places without a fault. Each field is in range, toggle 1 goes with bytes in hand, no stream has two places,
+-- no block two sessions (RULES 4.12).
 use mathlib.Core.Path.{_≡_}
 use mathlib.Core.Bool.{Bool, true, not, _&&_, _||_}
-use mathlib.Core.List.{[], _∷_}
+use mathlib.Core.List.{List, [], _∷_}
+use Prim.Native.Nat.{ℕ}
 use lib.Dec.{ltb, leb, eqb}
 use lib.ListN.{length}
+use Rattle.rules.specs.Blocks.{need, used, times}
 use Rattle.rules.specs.Check.{Reception}
 use Rattle.rules.specs.Frame.{Stream}
-use Rattle.rules.specs.Limits.{gatheredMax, interfacesMax, sessionsMax}
+use Rattle.rules.specs.Limits.{blocksMax, gatheredMax, interfacesMax, sessionsMax}
 use Rattle.rules.specs.Reception.{step}
 use Rattle.rules.specs.Session.{Session}
 use Rattle.rules.specs.Setup.{Setup}
@@ -30,10 +33,10 @@ sessionFits s =
     (ltb (s .expected) 32 && ltb (s .follows) interfacesMax)
     && (leb (length (s .gathered)) gatheredMax && (not (s .toggle) || not (isEmpty (s .gathered))))
 
--- RULES 5.5: of an empty place nothing but its emptiness is read
+-- RULES 5.5: of an empty place nothing but its emptiness is read. RULES 4.12: a session has just as many blocks as its gathered bytes need.
 abbrev pub placeFits : Place → Bool
 placeFits empty = true
-placeFits (held d s) = streamFits d && sessionFits s
+placeFits (held d s bs) = streamFits d && (sessionFits s && eqb (length bs) (need (length (s .gathered))))
 
 abbrev pub placesFit : Places → Bool
 placesFit [] = true
@@ -45,15 +48,20 @@ noneHolds d (p ∷ ps) = not (holds d p) && noneHolds d ps
 
 abbrev pub notAgain : Place → Places → Bool
 notAgain empty ps = true
-notAgain (held d s) ps = noneHolds d ps
+notAgain (held d s bs) ps = noneHolds d ps
 
 -- no two places hold one stream
 abbrev pub apart : Places → Bool
 apart [] = true
 apart (p ∷ ps) = notAgain p ps && apart ps
 
+-- every block is free or in exactly one session: those in use are blocks, and none is there twice
+abbrev pub blocksFit : List ℕ → Bool
+blocksFit [] = true
+blocksFit (b ∷ l) = (ltb b blocksMax && eqb (times b l) 0) && blocksFit l
+
 unfoldable pub sound : Places → Bool
-sound ps = eqb (length ps) sessionsMax && (placesFit ps && apart ps)
+sound ps = (eqb (length ps) sessionsMax && blocksFit (used ps)) && (placesFit ps && apart ps)
 
 -- RULES 5.7: setup leaves such a table, and every reception keeps it one
 pub record Lasting : Type 0 where

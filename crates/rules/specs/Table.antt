@@ -11,7 +11,8 @@ use Rattle.rules.specs.Tests.{pick}
 
 pub data Place : Type 0 where
   empty : Place
-  held : Stream → Session → Place
+  -- a stream, its session, and the numbers of the session's blocks in the order taken (RULES 4.12)
+  held : Stream → Session → List ℕ → Place
 
 abbrev pub Places : Type 0
 Places = List Place
@@ -31,15 +32,15 @@ seek t (p ∷ ps) = pick (t p) (some 0) (plus1 (seek t ps))
 
 abbrev pub holds : Stream → Place → Bool
 holds d empty = false
-holds d (held e s) = sameStream e d
+holds d (held e s bs) = sameStream e d
 
 abbrev pub isFree : Place → Bool
 isFree empty = true
-isFree (held e s) = false
+isFree (held e s bs) = false
 
 abbrev pub isOld : ℕ → Place → Bool
 isOld t empty = false
-isOld t (held e s) = old t s
+isOld t (held e s bs) = old t s
 
 abbrev pub orElse : Option ℕ → Option ℕ → Option ℕ
 orElse (some i) o = some i

@@ -3,13 +3,13 @@
 use mathlib.Core.Path.{_≡_}
 use mathlib.Core.Bool.{Bool, true, false}
 use mathlib.Core.List.{List, [], _∷_, _++_, map}
-use Prim.Native.Nat.{ℕ, _+_}
+use Prim.Native.Nat.{ℕ, zero, suc, _+_, _*_}
 use lib.Dec.{ltb, leb, eqb}
 use lib.ListN.{length, getD, take, drop, set, replicate}
 use Rattle.rules.specs.Answer.{Answer, handed, numberOf}
 use Rattle.rules.specs.Check.{Reception}
-use Rattle.rules.specs.Condition3.{startOf, answersTo, Receiver, frames, answers, tookStart, Premises, forward, roomy, never, front, While, Brings, Transfer, handouts, rulesTable}
-use Rattle.rules.specs.Example.{setup, stream, payload, one, two, three, frame, received, copied, other, start, crowd}
+use Rattle.rules.specs.Condition3.{ofStream, startOf, answersTo, Receiver, frames, answers, tookStart, Premises, forward, roomy, never, front, While, Brings, Transfer, handouts, rulesTable}
+use Rattle.rules.specs.Example.{setup, message, stream, payload, one, two, three, frame, received, copied, other, start, crowd}
 use Rattle.rules.specs.Frame.{Frame, Arrival, Stream}
 use Rattle.rules.specs.Limits.{payloadMax, switchDelay}
 use Rattle.rules.specs.Reception.{step}
@@ -43,7 +43,7 @@ handedOut x = handouts (rulesTable setup) (answers (rulesTable setup) stream x)
 abbrev pub far : Stream → Heard → List Reception
 far d x = front (rulesTable setup) d (length (frames (rulesTable setup) d x)) x
 
--- what is asked of one receiver: 0 its past, 1 a named source, 2 a start, 3 that it takes it, and while: 4 time, 5 room, 6 table
+-- what is asked of one receiver: 0 its past, 1 a named source, 2 a start, 3 that it takes it, and while: 4 time, 5 room, 6 table, 7 blocks
 abbrev pub tests : Stream → Heard → List Bool
 tests d x =
     sound (x .state) ∷
@@ -52,10 +52,11 @@ tests d x =
     tookStart (rulesTable setup) x ∷
     forward (rulesTable setup) (x .start .arrival .frame .time) (far d x) ∷
     roomy (rulesTable setup) d (far d x) ∷
-    never (rulesTable setup) 9 (answersTo (rulesTable setup) (startOf d) (step setup (x .state) (x .start) .places) (far d x)) ∷ []
+    never (rulesTable setup) 9 (answersTo (rulesTable setup) (startOf d) (step setup (x .state) (x .start) .places) (far d x)) ∷
+    never (rulesTable setup) 26 (answersTo (rulesTable setup) (ofStream d) (step setup (x .state) (x .start) .places) (far d x)) ∷ []
 
 abbrev pub all : List Bool
-all = replicate 7 true
+all = replicate 8 true
 
 abbrev pub but : ℕ → List Bool
 but n = set all n false
@@ -97,8 +98,8 @@ steady = receiver (oneFree 10000000) (received two 10100000 ∷ received three 1
 -- a lent table has two entries of the stream: when one has lost its place the other shows
 abbrev pub twins : Places
 twins =
-    held stream (record { expected = 5; gathered = []; toggle = false; since = 0; follows = 0 }) ∷
-    held stream (record { expected = 5; gathered = 1 ∷ 2 ∷ 3 ∷ 4 ∷ 5 ∷ 6 ∷ 7 ∷ []; toggle = true; since = 12000000; follows = 0 }) ∷ crowd 12000000 30
+    held stream (record { expected = 5; gathered = []; toggle = false; since = 0; follows = 0 }) [] ∷
+    held stream (record { expected = 5; gathered = 1 ∷ 2 ∷ 3 ∷ 4 ∷ 5 ∷ 6 ∷ 7 ∷ []; toggle = true; since = 12000000; follows = 0 }) (0 ∷ []) ∷ crowd 12000000 30
 
 abbrev pub single : Heard
 single = receiver begun (received two 12000002 ∷ [])
@@ -109,7 +110,7 @@ double = receiver twins (other 0x103FF22B one 12000001 ∷ received two 12000002
 -- what both take is no start: each adds it to what it has in hand
 abbrev pub midway : List ℕ → Heard
 midway bytes =
-    opened (frame two 10100000) (held stream (record { expected = 5; gathered = bytes; toggle = true; since = 10000000; follows = 0 }) ∷ crowd 10000000 31)
+    opened (frame two 10100000) (held stream (record { expected = 5; gathered = bytes; toggle = true; since = 10000000; follows = 0 }) (0 ∷ []) ∷ crowd 10000000 31)
     (received three 10200000 ∷ [])
 
 -- what the first frame carries
@@ -132,7 +133,7 @@ later = opened (frame one 9999999) begun (received two 10100000 ∷ received thr
 -- one does not take the start: it has taken it before
 abbrev pub ahead : Heard
 ahead =
-    receiver (held stream (record { expected = 6; gathered = []; toggle = false; since = 9000000; follows = 0 }) ∷ crowd 9000000 31)
+    receiver (held stream (record { expected = 6; gathered = []; toggle = false; since = 9000000; follows = 0 }) [] ∷ crowd 9000000 31)
     (received two 10100000 ∷ received three 10200000 ∷ [])
 
 -- one gets the second frame by another interface
@@ -161,6 +162,24 @@ roomLeft = receiver begun (received one 12000002 ∷ [])
 
 abbrev pub noneLeft : Heard
 noneLeft = receiver (oneFree 12000000) (other 0x103FF22B one 12000001 ∷ received one 12000002 ∷ [])
+
+-- the stream's next start meets no free block: n sessions have eight each
+abbrev pub eight : ℕ → List ℕ
+eight b = b ∷ (b + 1) ∷ (b + 2) ∷ (b + 3) ∷ (b + 4) ∷ (b + 5) ∷ (b + 6) ∷ (b + 7) ∷ []
+
+unfoldable pub hoard : ℕ → Places
+hoard zero = []
+hoard (suc n) =
+    held (message (100 + n)) (record { expected = 5; gathered = replicate 512 0; toggle = true; since = 9000000; follows = 0 }) (eight (8 * n)) ∷ hoard n
+
+abbrev pub brief : Arrival
+brief = frame (1 ∷ 0xC4 ∷ []) 10000000
+
+abbrev pub blocksLeft : Heard
+blocksLeft = opened brief begun (received one 10000001 ∷ [])
+
+abbrev pub noBlocks : Heard
+noBlocks = opened brief (replicate 24 empty ++ hoard 8) (received one 10000001 ∷ [])
 
 -- ── delivered (RULES 14.12) ──
 
@@ -229,6 +248,7 @@ pub record WhyPremises : Type 0 where
   pub time : Differ steady back all (but 4) (0 ∷ 0 ∷ 1 ∷ []) (0 ∷ 30 ∷ 30 ∷ [])
   pub room : Differ steady short all (but 5) (0 ∷ 0 ∷ 1 ∷ []) (0 ∷ 8 ∷ 31 ∷ [])
   pub table : Differ roomLeft noneLeft all (but 6) (0 ∷ 0 ∷ []) (0 ∷ 9 ∷ [])
+  pub blocks : Differ blocksLeft noBlocks all (but 7) (1 ∷ 0 ∷ []) (1 ∷ 26 ∷ [])
   pub together : (tests stream late ≡ all) × (tests stream later ≡ all) × Same stream late later
       × (numbers stream late ≡ 0 ∷ 0 ∷ 1 ∷ []) × (numbers stream later ≡ 0 ∷ 0 ∷ 30 ∷ [])
   pub same : (tests stream steady ≡ all) × (tests stream lacking ≡ all) × Together steady lacking

@@ -1,6 +1,9 @@
 // The rules (RULES 2 to 4, 7, 8 and 14) as definitions, in specs/. The functions here have no body: each one's contract is a theorem about them.
 pub mod limits;
 
+ghost use Rattle.rules.specs.BlockBounds.{BlockBounds};
+ghost use Rattle.rules.specs.BlockCases.{BlockCases};
+ghost use Rattle.rules.specs.BlockLaws.{BlockLaws};
 ghost use Rattle.rules.specs.Condition3.{Condition3, rulesTable};
 ghost use Rattle.rules.specs.Damage.{BurstIsCaught};
 ghost use Rattle.rules.specs.DamageExample.{DamageExample};
@@ -55,9 +58,19 @@ pub fn reasons_of_passing()
     ensures { λ _. ⌜ Reasons ⌝ }
 {}
 
-// RULES 4.9: a frame that is refused by 2 to 9 changes no place.
+// RULES 4.9: a frame that is refused by 2 to 9 or 19 changes no place.
 pub fn refusal()
     ensures { λ _. ⌜ RefusalLaw ⌝ }
+{}
+
+// RULES 4.12: the lowest free block, what 26 leaves, that no block is lost or shared, and that which blocks a session has is of no effect.
+pub fn blocks_of_table()
+    ensures { λ _. ⌜ BlockLaws ⌝ }
+{}
+
+// RULES 4.13: when there is a block.
+pub fn enough_blocks()
+    ensures { λ _. ⌜ BlockBounds ⌝ }
 {}
 
 // RULES 7.4: the frames of a payload. How many, what each carries, and what the first of them are.
@@ -93,6 +106,11 @@ pub fn sent_is_received()
 // RULES 15.6: cases of the rule for redundant interfaces.
 pub fn interface_cases()
     ensures { λ _. ⌜ Interfaces ⌝ }
+{}
+
+// RULES 15.7: cases of the blocks.
+pub fn block_cases()
+    ensures { λ _. ⌜ BlockCases ⌝ }
 {}
 
 // RULES 15.1: the sample values.

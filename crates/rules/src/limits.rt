@@ -8,6 +8,12 @@ pub const SUBSCRIPTIONS: usize = 64;
 pub const PAYLOAD: usize = 512;
 // Bytes that a session gathers, at most: the payload and its checksum.
 pub const GATHERED: usize = 514;
+// Blocks that the gathered bytes of all sessions lie in, and bytes of a block.
+pub const BLOCKS: usize = 64;
+
+pub const BLOCK: usize = 64;
+// Blocks of one session, at most: those of 514 bytes.
+pub const BLOCKS_EACH: usize = 9;
 // A session is old when its age in microseconds is above this.
 pub const OLD_AGE: u64 = 2_000_000;
 // Interfaces that frames come by, numbered from 0.

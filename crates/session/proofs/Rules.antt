@@ -6,30 +6,29 @@ use mathlib.Core.Option.{Option, none, some}
 use Prim.Native.Nat.{ℕ, _+_, _-_, _≤_, _<_}
 use native.Mathlib.Omega.{arith}
 use borrow.Author.Tests.{lt-ltb, le-ltb, eq-eqb, ne-eqb, eqb-true}
-use lib.Dec.{ltb, eqb, lit≤}
-use lib.ListN.{length, take, drop, replicate, length-append, length-replicate}
+use lib.Dec.{ltb, eqb}
+use lib.ListN.{length, drop, replicate, length-append, length-replicate}
 use Rattle.rules.specs.Answer as answer
-use Rattle.rules.specs.Answer.{taken, handed, passed, long, differs, noTransfer}
+use Rattle.rules.specs.Answer.{taken, handed, long, differs}
 use Rattle.rules.specs.Check.{Parsed}
 use Rattle.rules.specs.Limits.{switchDelay}
 use Rattle.rules.specs.Session as rules
-use Rattle.rules.specs.Session.{waiting, oldSince, distance, next, sumOk, over, overIf, closed, closing, takes, takeLong, takeEnd, sinceOf, proceed, proceedIf, met, react, restarts, restarted, fresh}
+use Rattle.rules.specs.Session.{oldSince, distance, sumOk, over, overIf, closed, closing, takes, takeLong, takeEnd, sinceOf, proceed, proceedIf, restarts}
 use Rattle.rules.specs.Tests.{pick, sameBool, isEmpty, isNone}
 use Rattle.answers.specs.Reception.{told, outAfter}
 use Rattle.session.specs.inside.Answer.{why, Passes, HandsOut, Closes}
-use Rattle.session.specs.inside.Session.{sessionOf, InRange, parsedOf, added, progressOf, bare}
+use Rattle.session.specs.inside.Session.{parsedOf, added, coded, bare}
 use Rattle.answers.specs.declared.Answer.{Answer}
 use Rattle.answers.specs.declared.Answer.the-variants.{Passed, BadChecksum}
 use Rattle.answers.specs.declared.Reason.{Reason}
 use Rattle.answers.specs.declared.Reason.the-variants.{NoTransfer, WrongToggle, WrongTransfer, RepeatedStart, OtherInterface}
 use Rattle.session.specs.declared.Incoming.{Incoming}
-use Rattle.session.specs.declared.Progress.{Progress}
 use Rattle.session.specs.declared.Session.{Session}
 use Rattle.session.proofs.Gathered.{empty-length}
 
 -- ── the tests, on the fields that they read ──
 
-module _ (c : Progress) (h : Incoming) (b : Bool) (e : b ≡ oldSince (c .time) (h .time)) where
+module _ (c : Session) (h : Incoming) (b : Bool) (e : b ≡ oldSince (c .time) (h .time)) where
   pub restarts-old : b ≡ true → true ≡ restarts (bare c) (parsedOf h [])
   unfolding restarts parsedOf
   restarts-old o = rw (← e, o)
@@ -43,7 +42,7 @@ module _ (c : Progress) (h : Incoming) (b : Bool) (e : b ≡ oldSince (c .time) 
   restarts-not o k = rw (← e, o, k)
 
 -- a is that the frame is behind the expected ID, b that a switch is allowed
-module _ (c : Progress) (h : Incoming) (a : Bool) (d : a ≡ (eqb (h .interface) (c .follows) && ltb 1 (distance (h .head .transfer) (c .expected)))) where
+module _ (c : Session) (h : Incoming) (a : Bool) (d : a ≡ (eqb (h .interface) (c .follows) && ltb 1 (distance (h .head .transfer) (c .expected)))) where
   pub begins-behind : a ≡ true → true ≡ rules.begins (bare c) (parsedOf h [])
   unfolding parsedOf
   begins-behind k = rw (← d, k)
@@ -60,14 +59,14 @@ module _ (c : Progress) (h : Incoming) (a : Bool) (d : a ≡ (eqb (h .interface)
 -- ── which frame is awaited, and why another is passed over ──
 
 -- of the bytes in hand only their number counts
-over-bare : (c : Progress) (h : Incoming)
+over-bare : (c : Session) (h : Incoming)
     → over (bare c) (parsedOf h []) ≡ overIf (eqb (h .interface) (c .follows)) (h .head .start) (eqb (h .head .transfer) (c .expected)) (eqb (c .len) 0) (sameBool (h .head .toggle) (c .toggle))
 unfolding over parsedOf
 over-bare c h =
     ap (λ (b : Bool). overIf (eqb (h .interface) (c .follows)) (h .head .start) (eqb (h .head .transfer) (c .expected)) b (sameBool (h .head .toggle) (c .toggle)))
     (empty-length (replicate (c .len) 0) ∙ ap (λ (n : ℕ). eqb n 0) (length-replicate (c .len) 0))
 
-unfoldable awaitedAt : Progress → Incoming → Bool
+unfoldable awaitedAt : Session → Incoming → Bool
 awaitedAt c h =
     eqb (h .interface) (c .follows)
     && (eqb (h .head .transfer) (c .expected) && (sameBool (h .head .toggle) (c .toggle) && sameBool (h .head .start) (eqb (c .len) 0)))
@@ -86,7 +85,7 @@ none-awaited true false true false false = refl
 none-awaited true false true false true = refl
 
 -- the test of the code is that of the rules
-over-awaited : (c : Progress) (h : Incoming) → isNone (over (bare c) (parsedOf h [])) ≡ awaitedAt c h
+over-awaited : (c : Session) (h : Incoming) → isNone (over (bare c) (parsedOf h [])) ≡ awaitedAt c h
 unfolding awaitedAt
 over-awaited c h =
     ap isNone (over-bare c h)
@@ -98,7 +97,7 @@ beq-same true false = refl
 beq-same false true = refl
 beq-same false false = refl
 
-module _ (c : Progress) (h : Incoming) where
+module _ (c : Session) (h : Incoming) where
   pub awaited-interface : (h .interface ≡ c .follows → ⊥) → false ≡ isNone (over (bare c) (parsedOf h []))
   unfolding awaitedAt
   awaited-interface i = rw (over-awaited c h, ne-eqb (h .interface) (c .follows) i)
@@ -148,7 +147,7 @@ why-other true false false t n = refl
 why-other true true false false n = refl
 why-other true true false true n = absurd (true≢false n)
 
-module _ (c : Progress) (h : Incoming) (g : Passes c h) where
+module _ (c : Session) (h : Incoming) (g : Passes c h) where
   abbrev f : Bool
   f = eqb (h .interface) (c .follows)
 
@@ -181,11 +180,11 @@ empty-bare [] = refl
 empty-bare (b ∷ g) = refl
 
 module _ (s : rules.Session) (h : Incoming) (p : List ℕ) where
-  pub restarts-whole : restarts (bare (progressOf s)) (parsedOf h []) ≡ restarts s (parsedOf h p)
+  pub restarts-whole : restarts (bare (coded s)) (parsedOf h []) ≡ restarts s (parsedOf h p)
   unfolding restarts parsedOf
   restarts-whole = refl
 
-  pub over-whole : over (bare (progressOf s)) (parsedOf h []) ≡ over s (parsedOf h p)
+  pub over-whole : over (bare (coded s)) (parsedOf h []) ≡ over s (parsedOf h p)
   unfolding over parsedOf
   over-whole =
       ap (λ (b : Bool). overIf (eqb (h .interface) (s .follows)) (h .head .start) (eqb (h .head .transfer) (s .expected)) b (sameBool (h .head .toggle) (s .toggle)))
@@ -284,82 +283,32 @@ module _ (s : rules.Session) (v : Parsed) where
 
 -- ── what a frame does, from the tests of the code ──
 
--- a start with toggle 0 by its own interface, with nothing in hand, is the frame that is waited for
-begun : (h : Incoming) (p : List ℕ) (since : ℕ) → h .head .start ≡ true → h .head .toggle ≡ false
-    → isNone (over (waiting (h .head .transfer) since (h .interface)) (parsedOf h p)) ≡ true
-unfolding over parsedOf
-begun h p since k t = rw (eq-eqb (h .interface) (h .interface) refl, k, eq-eqb (h .head .transfer) (h .head .transfer) refl, t)
-
 module _ (s : rules.Session) (h : Incoming) (p : List ℕ) where
   abbrev v : Parsed
   v = parsedOf h p
 
-  -- a start that restarts the session is then the frame that it waits for: check 5 refused a start with toggle 1
-  pub reacts-anew : restarts s v ≡ true → h .head .start ≡ true → h .head .toggle ≡ false → react s v ≡ takes (waiting (h .head .transfer) (s .since) (h .interface)) v
-  unfolding react met restarted parsedOf
-  reacts-anew r k t =
-      rw r
-      (ap (λ (b : Bool). proceed (waiting (pick b (h .head .transfer) (next (h .head .transfer))) (s .since) (h .interface)) v) k
-      ∙ proceed-taken (waiting (h .head .transfer) (s .since) (h .interface)) v (begun h p (s .since) k t))
+  -- what is passed over changes nothing
+  pub passes-over : (x : Reason) → why (over s v) ≡ some x
+      → (told (proceed s v .answer) ≡ Passed x) × ((proceed s v .session ≡ s) × ((out : List ℕ) → outAfter (proceed s v .answer) out ≡ out))
+  passes-over x a = proceed-passed s v x a
 
-  pub reacts-skip : restarts s v ≡ true → h .head .start ≡ false
-      → react s v ≡ record { answer = passed noTransfer; session = waiting (next (h .head .transfer)) (s .since) (h .interface) }
-  unfolding react met restarted proceed proceedIf over parsedOf
-  reacts-skip r k = rw (r, eq-eqb (h .interface) (h .interface) refl, k)
+  module _ (a : isNone (over s v) ≡ true) where
+    all-length : length (s .gathered ++ p) ≡ length (s .gathered) + length p
+    all-length = length-append (s .gathered) p
 
-  module _ (r : restarts s v ≡ false) where
-    on : react s v ≡ proceed s v
-    unfolding react met
-    on = rw r
-
-    pub reacts-take : isNone (over s v) ≡ true → react s v ≡ takes s v
-    reacts-take a = on ∙ proceed-taken s v a
-
-    pub reacts-over : isNone (over s v) ≡ true → 514 < length (s .gathered) + length p → length p ≤ 7
-        → react s v ≡ record { answer = long; session = waiting (next (s .expected)) (s .since) (s .follows) }
+    pub goes-over : 514 < length (s .gathered) + length p → proceed s v ≡ record { answer = long; session = closed s (sinceOf s v) }
     unfolding parsedOf
-    reacts-over a g n =
-        let e : length (s .gathered ++ p) ≡ length (s .gathered) + length p = length-append (s .gathered) p in
-        let k : h .head .start ≡ false = not-start (h .head .start) refl in
-        reacts-take a ∙ takes-long s v (omega arith) ∙ ap (λ (b : Bool). record { answer = long; session = closed s (pick b (h .time) (s .since)) }) k
-      where
-        not-start : (b : Bool) → h .head .start ≡ b → h .head .start ≡ false
-        not-start false x = x
-        not-start true x = let z : length (s .gathered) ≡ 0 = awaited-start s h p a x in absurd (omega arith)
+    goes-over g = proceed-taken s v a ∙ takes-long s v (omega (arith, all-length))
 
-    pub reacts-pass : (x : Reason) → why (over s v) ≡ some x
-        → (told (react s v .answer) ≡ Passed x) × ((react s v .session ≡ s) × ((out : List ℕ) → outAfter (react s v .answer) out ≡ out))
-    reacts-pass x a = rw on (proceed-passed s v x a)
+    module _ (g : length (s .gathered) + length p ≤ 514) where
+      pub goes-on : h .head .end ≡ false → proceed s v ≡ record { answer = answer.taken; session = added s (h .head .start) (h .time) p }
+      unfolding parsedOf
+      goes-on l = proceed-taken s v a ∙ takes-more s v (omega (arith, all-length)) l
 
--- a start begins a new session
-pub begins : (h : Incoming) (p : List ℕ) → h .head .start ≡ true → h .head .toggle ≡ false → proceed (fresh (parsedOf h p)) (parsedOf h p) ≡ takes (fresh (parsedOf h p)) (parsedOf h p)
-unfolding parsedOf
-begins h p k t = proceed-taken (fresh (parsedOf h p)) (parsedOf h p) (begun h p (h .time) k t)
-
--- ── a frame is taken ──
-
--- the session after `close`
-abbrev shut : Session → Session
-shut g = record { expected = next (g .expected); toggle = false; time = g .time; follows = g .follows; len = 0; bytes = g .bytes }
-
-pub shut-range : (g : Session) → InRange (shut g)
-shut-range g = record { expected = omega arith; len = lit≤ tt }
-
--- s the session before, w what `take` made of it
-module _ (s : rules.Session) (h : Incoming) (p : List ℕ) (w : Session) (e : sessionOf w ≡ added s (h .head .start) (h .time) p) (g : length (s .gathered) + length p ≤ 514) where
-  few : length (s .gathered ++ p) ≤ 514
-  few = omega (arith, length-append (s .gathered) p)
-
-  pub takes-on : h .head .end ≡ false → takes s (parsedOf h p) ≡ record { answer = taken; session = sessionOf w }
-  unfolding parsedOf
-  takes-on l = takes-more s (parsedOf h p) few l ∙ ap (λ (x : rules.Session). record { answer = taken; session = x }) (sym e)
-
-  pub takes-last : h .head .end ≡ true → (a : Answer) (out out' : List ℕ) → Closes h (take (w .len) (w .bytes)) a out out'
-      → (a ≡ told (takes s (parsedOf h p) .answer)) × ((sessionOf (shut w) ≡ takes s (parsedOf h p) .session) × (out' ≡ outAfter (takes s (parsedOf h p) .answer) out))
-  unfolding sessionOf parsedOf
-  takes-last l a out out' d =
-      let all = s .gathered ++ p in
-      let y = closing-alike (h .head .start) (sumOk (h .signature) all) all h p in
-      let x : Closes h all a out out' = rw (ap (λ (z : rules.Session). z .gathered) e) at d in
-      rw (takes-end s (parsedOf h p) few l)
-      (x .answer ∙ ap told y, (ap (λ (z : rules.Session). closed z (z .since)) e, x .out ∙ ap (λ z. outAfter z out) y))
+      pub goes-out : h .head .end ≡ true → (r : Answer) (out out' : List ℕ) → Closes h (s .gathered ++ p) r out out'
+          → (r ≡ told (proceed s v .answer)) × ((proceed s v .session ≡ closed s (sinceOf s v)) × (out' ≡ outAfter (proceed s v .answer) out))
+      unfolding parsedOf
+      goes-out l r out out' d =
+          let all = s .gathered ++ p in
+          let y = closing-alike (h .head .start) (sumOk (h .signature) all) all h p in
+          rw (proceed-taken s v a ∙ takes-end s v (omega (arith, all-length)) l) (d .answer ∙ ap told y, (refl, d .out ∙ ap (λ z. outAfter z out) y))

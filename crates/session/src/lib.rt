@@ -1,9 +1,8 @@
-// A session by value with its methods, and the tests and answers of one frame of its stream (RULES 4.3 to 4.8).
+// A session by value but for its bytes, with its methods, and the tests and answers of one frame of its stream (RULES 4.3 to 4.8).
 use answers::Answer;
 use answers::Reason;
 use answers::Transfer;
 use frame::head::Head;
-use rules::limits::GATHERED;
 use rules::limits::OLD_AGE;
 use rules::limits::SWITCH_DELAY;
 ghost use mathlib.Core.Path.{_≡_};
@@ -18,17 +17,16 @@ ghost use Rattle.rules.specs.Limits.{payloadMax, gatheredMax};
 ghost use Rattle.rules.specs.Session as rules;
 ghost use Rattle.rules.specs.Session.{distance, next, sumOk};
 ghost use Rattle.rules.specs.Tests.{pick, isNone};
-ghost use Rattle.session.specs.inside.Session.{sessionOf, parsedOf, freshOf, added, bare};
+ghost use Rattle.session.specs.inside.Session.{parsedOf, idle, taken, bare};
 ghost use Rattle.session.specs.inside.Answer.{why, Passes, HandsOut, Closes};
 
-// A session by value.
+// A session by value: all but the bytes in hand, of which it has the number.
 pub struct Session {
     pub expected: u8,
     pub toggle: bool,
     pub time: u64,
     pub follows: u8,
     pub len: usize,
-    pub bytes: [u8; GATHERED],
 }
 
 // What the rules read of a frame, but for its payload: its head, the signature of its type, when it came and by which interface.
@@ -39,34 +37,23 @@ pub struct Incoming {
     pub interface: u8,
 }
 
-// A session but for its bytes: what decides on a frame.
-pub struct Progress {
-    pub expected: u8,
-    pub toggle: bool,
-    pub time: u64,
-    pub follows: u8,
-    pub len: usize,
-}
-
 impl Session {
     // Internal. A session that a start with this transfer ID begins, by this interface.
     pub fn fresh(transfer: u8, time: u64, interface: u8) -> Self
-        ensures { λ r. ⌜ r ≡ freshOf transfer time interface ⌝ }
+        ensures { λ r. ⌜ r ≡ idle transfer time interface ⌝ }
     {
-        let bytes = [0u8; GATHERED];
         Session {
             expected: transfer,
             toggle: false,
             time: time,
             follows: interface,
             len: 0,
-            bytes: bytes,
         }
     }
 
     // Internal. Nothing in hand, toggle 0, expecting this transfer ID, following this interface. The time stays.
     pub fn restart(mut self, transfer: u8, interface: u8) -> Self
-        ensures { λ r. ⌜ r ≡ record { expected = transfer; toggle = false; time = self .time; follows = interface; len = 0; bytes = self .bytes } ⌝ }
+        ensures { λ r. ⌜ r ≡ idle transfer (self .time) interface ⌝ }
     {
         self.expected = transfer;
         self.toggle = false;
@@ -75,19 +62,14 @@ impl Session {
         self
     }
 
-    // Internal. A frame is taken: its bytes come after those in hand, a start sets the time, the toggle turns.
-    pub fn take(mut self, start: bool, time: u64, p: &[u8]) -> Self
-        requires { ⌜ self .len + length (now p) ≤ gatheredMax ⌝ }
-        ensures { λ r. ⌜ (sessionOf r ≡ added (sessionOf self) start time (now (p .entry))) × ((r .len ≡ self .len + length (now (p .entry))) × (r .expected ≡ self .expected)) ⌝ }
+    // Internal. A frame with n bytes is taken: they come after those in hand, a start sets the time, the toggle turns.
+    pub fn take(mut self, start: bool, time: u64, n: usize) -> Self
+        requires { ⌜ self .len + n ≤ gatheredMax ⌝ }
+        ensures { λ r. ⌜ r ≡ taken self start time n ⌝ }
     {
-        let at = self.len;
-        let mut i = 0;
-        while i < p.len() {
-            self.bytes[at + i] = p[i];
-            i += 1;
-        }
-        self.len = at + i;
-        self.time = started(start, time, self.time);
+        self.len = self.len + n;
+        let since = started(start, time, self.time);
+        self.time = since;
         self.toggle = !self.toggle;
         self
     }
@@ -95,12 +77,23 @@ impl Session {
     // Internal. The transfer is over: nothing in hand, toggle 0, the expected transfer ID raised by one.
     pub fn close(self) -> Self
         requires { ⌜ self .expected < 32 ⌝ }
-        ensures { λ r. ⌜ r ≡ record { expected = next (self .expected); toggle = false; time = self .time; follows = self .follows; len = 0; bytes = self .bytes } ⌝ }
+        ensures { λ r. ⌜ r ≡ idle (next (self .expected)) (self .time) (self .follows) ⌝ }
     {
         let next = (self.expected + 1) % 32;
         let follows = self.follows;
         self.restart(next, follows)
     }
+}
+
+// Internal. The transfer ID that a session restarted by this frame expects: its own, or the next one where it is no start.
+pub fn expects(f: Incoming) -> u8
+    requires { ⌜ f .head .transfer < 32 ⌝ }
+    ensures { λ r. ⌜ r ≡ pick (f .head .start) (f .head .transfer) (next (f .head .transfer)) ⌝ }
+{
+    if f.head.start {
+        return f.head.transfer;
+    }
+    (f.head.transfer + 1) % 32
 }
 
 // The time of the last start.
@@ -124,7 +117,7 @@ fn age_above(limit: u64, since: u64, time: u64) -> bool
 }
 
 // The frame comes by the followed interface, and its transfer ID is neither the expected one nor the one before.
-fn is_behind(c: Progress, f: Incoming) -> bool
+fn is_behind(c: Session, f: Incoming) -> bool
     requires { ⌜ (c .expected < 32) × (f .head .transfer < 32) ⌝ }
     ensures { λ r. ⌜ r ≡ (eqb (f .interface) (c .follows) && ltb 1 (distance (f .head .transfer) (c .expected))) ⌝ }
 {
@@ -135,7 +128,7 @@ fn is_behind(c: Progress, f: Incoming) -> bool
 }
 
 // The session restarts at this start.
-fn begins(c: Progress, f: Incoming) -> bool
+fn begins(c: Session, f: Incoming) -> bool
     requires { ⌜ (c .expected < 32) × (f .head .transfer < 32) ⌝ }
     ensures { λ r. ⌜ r ≡ rules.begins (bare c) (parsedOf f []) ⌝ }
 {
@@ -149,7 +142,7 @@ fn begins(c: Progress, f: Incoming) -> bool
 }
 
 // Internal. The session restarts: it is old, or the frame is a start of another transfer.
-pub fn restarts(c: Progress, f: Incoming) -> bool
+pub fn restarts(c: Session, f: Incoming) -> bool
     requires { ⌜ (c .expected < 32) × (f .head .transfer < 32) ⌝ }
     ensures { λ r. ⌜ r ≡ rules.restarts (bare c) (parsedOf f []) ⌝ }
 {
@@ -163,7 +156,7 @@ pub fn restarts(c: Progress, f: Incoming) -> bool
 }
 
 // Internal. The frame is the one that the session waits for.
-pub fn awaited(c: Progress, f: Incoming) -> bool
+pub fn awaited(c: Session, f: Incoming) -> bool
     ensures { λ r. ⌜ r ≡ isNone (rules.over (bare c) (parsedOf f [])) ⌝ }
 {
     if f.interface == c.follows {
@@ -188,7 +181,7 @@ fn first(holds: bool, r: Reason, after: Reason) -> Reason
 
 // Internal. Why a frame that is not awaited is passed over: the first that holds of 34, 32, 33 for a start, of 34, 30, 32, 31 for another frame. The
 // choices are made from the last to the first.
-pub fn reason(c: Progress, f: Incoming) -> Reason
+pub fn reason(c: Session, f: Incoming) -> Reason
     requires { ⌜ Passes c f ⌝ }
     ensures { λ r. ⌜ why (rules.over (bare c) (parsedOf f [])) ≡ some r ⌝ }
 {

@@ -1,20 +1,22 @@
 -- The range tests of a stream and of a place's control fields, case by case.
-use mathlib.Core.Path.{_≡_, refl}
-use mathlib.Core.Bool.{Bool, true, false, _&&_}
-use mathlib.Core.List.{List}
-use Prim.Native.Nat.{ℕ, _/_, _%_, _≤_, _<_}
+use mathlib.Core.Path.{_≡_, refl, ap, ap₂, subst, _∙_}
+use mathlib.Core.Bool.{Bool, true, false, not, _&&_, _||_, and-true, and-false}
+use mathlib.Core.List.{List, [], _∷_}
+use Prim.Native.Nat.{ℕ, zero, suc, _+_, _*_, _/_, _%_, _≤_, _<_}
 use native.Mathlib.Omega.{arith}
-use borrow.Author.Tests.{lt-ltb, le-ltb, le-leb, lt-leb, eq-eqb, ne-eqb}
+use borrow.Author.Tests.{ltb-true, ltb-false, eqb-true, eqb-false, lt-ltb, le-ltb, le-leb, ne-eqb}
 use lib.Dec.{ltb, leb, eqb}
-use Rattle.rules.specs.Limits.{gatheredMax}
+use lib.ListN.{length, getD}
+use lib.Seq.{drop-cons}
+use Rattle.bits.specs.Little.{le}
+use Rattle.bits.specs.Order.{Octets}
+use Rattle.bits.specs.Part.{span}
+use Rattle.rules.specs.Limits.{sessionsMax, gatheredMax}
 use Rattle.rules.specs.Sound.{streamFits}
-use Rattle.state.specs.Layout.{countAt, expectedAt, flagsAt}
+use Rattle.state.specs.Layout.{size, controlsAt, countAt, expectedAt, flagsAt}
 use Rattle.frame.specs.Key.{streamOfKey}
 use Rattle.sessions.specs.inside.Sound.{controlFits}
-
-and-true : (b : Bool) → (b && true) ≡ b
-and-true true = refl
-and-true false = refl
+use Rattle.sessions.proofs.Stored.{fields}
 
 -- ── a stream ──
 
@@ -56,35 +58,65 @@ module _ (k : ℕ) (named : k / 128 % 128 ≡ 0 → ⊥) where
 
 -- ── control fields ──
 
-module _ (m : List ℕ) (i n e t : ℕ) (en : n ≡ countAt m i) (ee : e ≡ expectedAt m i) (et : t ≡ flagsAt m i) where
-  pub too-many : gatheredMax < n → false ≡ controlFits m i
+octet-at : (m : List ℕ) (j : ℕ) → Octets m → getD m j 0 < 256
+octet-at [] j h = omega arith
+octet-at (x ∷ m) zero h = h .0
+octet-at (x ∷ m) (suc j) h = octet-at m j (h .1)
+
+-- two bytes as one number
+le-two : (m : List ℕ) (at : ℕ) → at + 1 < length m → le (span m at 2) ≡ getD m at 0 + 256 * getD m (at + 1) 0
+unfolding le
+le-two m at h =
+    let e : at + 1 ≡ suc at = omega arith in
+    rw (drop-cons m at 0 (omega arith), drop-cons m (suc at) 0 (omega arith), e) (omega arith)
+
+module _ (m : List ℕ) (i n x : ℕ) (bytes : Octets m) (place : i < sessionsMax) (long : size ≤ length m) (en : n ≡ countAt m i)
+    (ex : x ≡ le (span m (controlsAt + i * 4 + 2) 2)) where
+  both : x ≡ expectedAt m i + 256 * flagsAt m i
+  both =
+      let g = fields m i place long in
+      let t : controlsAt + i * 4 + 2 + 1 ≡ controlsAt + i * 4 + 3 = omega arith in
+      ex ∙ le-two m (controlsAt + i * 4 + 2) (omega (arith, long, place))
+      ∙ ap₂ (λ (y z : ℕ). y + 256 * z) (g .0) (ap (λ (y : ℕ). getD m y 0) t ∙ g .1)
+
+  byte : expectedAt m i < 256
+  byte = subst (λ (y : ℕ). y < 256) (fields m i place long .0) (octet-at m (controlsAt + i * 4 + 2) bytes)
+
+  below : ltb x 1536 ≡ ltb (flagsAt m i / 2) 3
+  below = go (ltb (flagsAt m i / 2) 3) refl
+    where
+      go : (q : Bool) → ltb (flagsAt m i / 2) 3 ≡ q → ltb x 1536 ≡ q
+      go true d = lt-ltb x 1536 (omega (arith, both, byte, ltb-true (flagsAt m i / 2) 3 d))
+      go false d = le-ltb x 1536 (omega (arith, both, byte, ltb-false (flagsAt m i / 2) 3 d))
+
+  -- nothing in hand: the toggle is 0
+  pub idle-is : n ≡ 0 → (ltb (x % 512) 32 && ltb x 1536) ≡ controlFits m i
   unfolding controlFits
-  too-many h = let a : leb (countAt m i) gatheredMax ≡ false = lt-leb (countAt m i) gatheredMax (omega arith) in rw a
+  idle-is z = rw (few, none, below) (go (ltb (expectedAt m i) 32) refl (eqb (flagsAt m i % 2) 1) refl (ltb (flagsAt m i / 2) 3))
+    where
+      few : leb (countAt m i) gatheredMax ≡ true
+      few = le-leb (countAt m i) gatheredMax (omega (arith, en, z))
 
-  module _ (few : n ≤ gatheredMax) where
-    count : leb (countAt m i) gatheredMax ≡ true
-    count = le-leb (countAt m i) gatheredMax (omega arith)
+      none : ltb 0 (countAt m i) ≡ false
+      none = le-ltb 0 (countAt m i) (omega (arith, en, z))
 
-    pub no-transfer : 31 < e → false ≡ controlFits m i
-    unfolding controlFits
-    no-transfer h = let b : ltb (expectedAt m i) 32 ≡ false = le-ltb (expectedAt m i) 32 (omega arith) in rw (count, b)
+      go : (p : Bool) → ltb (expectedAt m i) 32 ≡ p → (t : Bool) → eqb (flagsAt m i % 2) 1 ≡ t → (q : Bool)
+          → (ltb (x % 512) 32 && q) ≡ (p && (q && (not t || false)))
+      go true d false k q = rw (lt-ltb (x % 512) 32 (omega (arith, both, byte, ltb-true (expectedAt m i) 32 d, eqb-false (flagsAt m i % 2) 1 k)), and-true q)
+      go true d true k q = rw (le-ltb (x % 512) 32 (omega (arith, both, byte, eqb-true (flagsAt m i % 2) 1 k)), and-false q)
+      go false d t k q = rw (le-ltb (x % 512) 32 (omega (arith, both, byte, ltb-false (expectedAt m i) 32 d)))
 
-    module _ (low : e ≤ 31) where
-      transfer : ltb (expectedAt m i) 32 ≡ true
-      transfer = lt-ltb (expectedAt m i) 32 (omega arith)
+  pub busy-is : (n ≡ 0 → ⊥) → (leb n gatheredMax && (ltb (x % 256) 32 && ltb x 1536)) ≡ controlFits m i
+  unfolding controlFits
+  busy-is z = rw (some-bytes, below, low, ← en) (go (eqb (flagsAt m i % 2) 1))
+    where
+      some-bytes : ltb 0 (countAt m i) ≡ true
+      some-bytes = lt-ltb 0 (countAt m i) (omega (arith, en, z))
 
-      pub no-interface : 3 ≤ t / 2 → false ≡ controlFits m i
-      unfolding controlFits
-      no-interface h = let c : ltb (flagsAt m i / 2) 3 ≡ false = le-ltb (flagsAt m i / 2) 3 (rw et at h) in rw (count, transfer, c)
+      low : x % 256 ≡ expectedAt m i
+      low = omega (arith, both, byte)
 
-      module _ (ours : t / 2 < 3) where
-        interface : ltb (flagsAt m i / 2) 3 ≡ true
-        interface = lt-ltb (flagsAt m i / 2) 3 (rw et at ours)
-
-        pub toggle-one : t % 2 ≡ 1 → ltb 0 n ≡ controlFits m i
-        unfolding controlFits
-        toggle-one o = let b : eqb (flagsAt m i % 2) 1 ≡ true = eq-eqb (flagsAt m i % 2) 1 (rw et at o) in rw (count, transfer, interface, b, en)
-
-        pub toggle-zero : (t % 2 ≡ 1 → ⊥) → true ≡ controlFits m i
-        unfolding controlFits
-        toggle-zero z = let b : eqb (flagsAt m i % 2) 1 ≡ false = ne-eqb (flagsAt m i % 2) 1 (rw et at z) in rw (count, transfer, interface, b)
+      go : (t : Bool)
+          → (leb n gatheredMax && (ltb (expectedAt m i) 32 && ltb (flagsAt m i / 2) 3)) ≡ (leb n gatheredMax && (ltb (expectedAt m i) 32 && (ltb (flagsAt m i / 2) 3 && (not t || true))))
+      go true = rw (and-true (ltb (flagsAt m i / 2) 3))
+      go false = rw (and-true (ltb (flagsAt m i / 2) 3))

@@ -1,3 +1,13 @@
-pub mod Stored
 pub mod Fits
+pub mod Stored
+pub mod Claims
+pub mod Waited
+pub mod Tail
+pub mod Grown
+pub mod Grow
+pub mod Places
+pub mod Listed
+pub mod Eased
+pub mod Stale
+pub mod Shares
 pub mod Soundness

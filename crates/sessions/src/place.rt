@@ -1,20 +1,26 @@
-// One place of the table: loading its session and storing one.
-use rules::limits::GATHERED;
-use session::Progress;
+// One place of the table: loading its session, putting one there that waits for a start, and one more frame's bytes for it.
+use super::gathered;
 use session::Session;
-use state::layout::BYTES_AT;
 use state::layout::CONTROLS_AT;
+use state::layout::FREE_AT;
 use state::layout::STREAM_KEYS_AT;
 use state::layout::TIMES_AT;
 ghost use mathlib.Core.Path.{_≡_};
-ghost use Prim.Native.Nat.{_≤_, _<_};
-ghost use lib.ListN.{length};
-ghost use Rattle.rules.specs.Limits.{sessionsMax, gatheredMax, interfacesMax};
-ghost use Rattle.rules.specs.Table.{held};
-ghost use Rattle.session.specs.inside.Session.{sessionOf, progressOf, bare, whole};
-ghost use Rattle.state.specs.Layout.{size, keyAt, timeAt, countAt, sessionAt};
+ghost use mathlib.Core.List.{[], _++_};
+ghost use Prim.Native.Nat.{_+_, _*_, _≤_, _<_};
+ghost use lib.ListN.{length, set, getD};
+ghost use Rattle.blocks.specs.Stores.{storeAll};
+ghost use Rattle.blocks.specs.inside.Bit.{includingAll};
 ghost use Rattle.frame.specs.Key.{streamOfKey};
-ghost use Rattle.state.specs.Place.{flagsOf, withPlace};
+ghost use Rattle.rules.specs.Blocks.{blocksIn};
+ghost use Rattle.rules.specs.Limits.{sessionsMax, gatheredMax, interfacesMax};
+ghost use Rattle.rules.specs.Session.{waiting};
+ghost use Rattle.rules.specs.Table.{empty, held};
+ghost use Rattle.sessions.specs.inside.Blocks.{Appends, tailStores};
+ghost use Rattle.sessions.specs.inside.Place.{codedAt, codeStores, Waits, Grows, grown};
+ghost use Rattle.state.specs.Layout.{size, freeOf, keyAt, timeAt, placesOf};
+ghost use Rattle.state.specs.Place.{one, written};
+ghost use Rattle.state.specs.inside.Ready.{Ready};
 
 // Internal. The stream key of place i.
 pub fn key(state: &[u8], i: usize) -> u32
@@ -32,16 +38,16 @@ pub fn time(state: &[u8], i: usize) -> u64
     bits::le::get_at(state, TIMES_AT + i * 8, 8)
 }
 
-// Internal. The session of place i but for its bytes.
-pub fn progress(state: &[u8], i: usize) -> Progress
-    requires { ⌜ ((i < sessionsMax) × (size ≤ length (now state))) × (countAt (now state) i ≤ gatheredMax) ⌝ }
-    ensures { λ r. ⌜ r ≡ progressOf (sessionAt (now (state .entry)) i) ⌝ }
+// Internal. The session of place i.
+pub fn load(state: &[u8], i: usize) -> Session
+    requires { ⌜ (i < sessionsMax) × (size ≤ length (now state)) ⌝ }
+    ensures { λ r. ⌜ r ≡ codedAt (now (state .entry)) i ⌝ }
 {
     let at = CONTROLS_AT + i * 4;
     let len = bits::le::get_at(state, at, 2) as usize;
     let since = time(state, i);
     let flags = state[at + 3];
-    Progress {
+    Session {
         expected: state[at + 2],
         toggle: flags % 2 == 1,
         time: since,
@@ -50,28 +56,10 @@ pub fn progress(state: &[u8], i: usize) -> Progress
     }
 }
 
-// Internal. The session of place i. All of its bytes are copied, so that the zeros below cost nothing.
-pub fn load(state: &[u8], i: usize) -> Session
-    requires { ⌜ ((i < sessionsMax) × (size ≤ length (now state))) × (countAt (now state) i ≤ gatheredMax) ⌝ }
-    ensures { λ r. ⌜ (sessionOf r ≡ sessionAt (now (state .entry)) i) × (r .len ≤ gatheredMax) ⌝ }
-{
-    let mut bytes = [0u8; GATHERED];
-    let c = progress(state, i);
-    bits::part::copy_span(&mut bytes, 0, state, BYTES_AT + i * GATHERED, GATHERED);
-    Session {
-        expected: c.expected,
-        toggle: c.toggle,
-        time: c.time,
-        follows: c.follows,
-        len: c.len,
-        bytes: bytes,
-    }
-}
-
 // The flags of a session: the toggle, and twice the interface that it follows.
-fn flags(c: Progress) -> u64
+fn flags(c: Session) -> u64
     requires { ⌜ c .follows < interfacesMax ⌝ }
-    ensures { λ r. ⌜ r ≡ flagsOf (bare c) ⌝ }
+    ensures { λ r. ⌜ r ≡ one (c .toggle) + 2 * c .follows ⌝ }
 {
     let follows = bits::le::wide(c.follows);
     if c.toggle {
@@ -80,17 +68,59 @@ fn flags(c: Progress) -> u64
     2 * follows
 }
 
-// Internal. The session of the stream with the key k, stored in place i: its bytes are the first of `bytes`.
-pub fn store(state: &mut [u8], i: usize, k: u32, c: Progress, bytes: &[u8])
-    requires { ⌜ ((i < sessionsMax) × (size ≤ length (now state))) × (((c .expected < 32) × (c .follows < interfacesMax)) × ((c .len ≤ gatheredMax) × (c .len ≤ length (now bytes)))) ⌝ }
-    ensures { λ _. ⌜ now (state .exit) ≡ withPlace (now (state .entry)) i (held (streamOfKey k) (sessionOf (whole c (now (bytes .entry))))) ⌝ }
+// The control fields and the time of place i. The four control bytes are one word.
+fn write(state: &mut [u8], i: usize, c: Session)
+    requires { ⌜ ((i < sessionsMax) × (size ≤ length (now state))) × ((c .len ≤ gatheredMax) × ((c .expected < 32) × (c .follows < interfacesMax))) ⌝ }
+    ensures { λ _. ⌜ now (state .exit) ≡ storeAll (now (state .entry)) (codeStores i c) ⌝ }
 {
-    let at = CONTROLS_AT + i * 4;
-    let n = c.len;
-    bits::le::put_at(state, STREAM_KEYS_AT + i * 4, 4, k as u64);
-    bits::le::put_at(state, at, 2, n as u64);
-    bits::le::put_at(state, at + 2, 1, c.expected as u64);
-    bits::le::put_at(state, at + 3, 1, flags(c));
+    let word = c.len as u64 + 65536 * (bits::le::wide(c.expected) + 256 * flags(c));
+    bits::le::put_at(state, CONTROLS_AT + i * 4, 4, word);
     bits::le::put_at(state, TIMES_AT + i * 8, 8, c.time);
-    bits::part::copy_span(state, BYTES_AT + i * GATHERED, bytes, 0, n);
+}
+
+// The free blocks once place i has given back its own.
+fn free_after(state: &[u8], i: usize) -> u64
+    requires { ⌜ Ready (now state) × (i < sessionsMax) ⌝ }
+    ensures { λ r. ⌜ r ≡ includingAll (freeOf (now (state .entry))) (blocksIn (getD (placesOf (now (state .entry))) i empty)) ⌝ }
+{
+    if key(state, i) == 0 {
+        return gathered::free_with(state, i, 0);
+    }
+    let len = load(state, i).len;
+    gathered::free_with(state, i, gathered::needed(len))
+}
+
+// Internal. The session c of the stream with the key k, which waits for a start, is put into place i. What blocks the place had are free.
+pub fn wait(state: &mut [u8], i: usize, k: u32, c: Session)
+    requires { ⌜ Waits (now state) i k c ⌝ }
+    ensures { λ _. ⌜ now (state .exit) ≡ written (now (state .entry)) (set (placesOf (now (state .entry))) i (held (streamOfKey k) (waiting (c .expected) (c .time) (c .follows)) [])) ⌝ }
+{
+    let free = free_after(state, i);
+    bits::le::put_at(state, FREE_AT, 8, free);
+    bits::le::put_at(state, STREAM_KEYS_AT + i * 4, 4, k as u64);
+    write(state, i, c);
+}
+
+// The session c in place i, whose first n bytes are there, and the bytes p after them.
+fn fill(state: &mut [u8], i: usize, c: Session, n: usize, p: &[u8])
+    requires { ⌜ Appends (now state) i n (now p) × ((c .len ≤ gatheredMax) × ((c .expected < 32) × (c .follows < interfacesMax))) ⌝ }
+    ensures { λ _. ⌜ now (state .exit) ≡ storeAll (now (state .entry)) (codeStores i c ++ tailStores (now (state .entry)) i n (now (p .entry))) ⌝ }
+{
+    write(state, i, c);
+    gathered::append(state, i, n, p);
+}
+
+// Internal. The session of place i becomes c, with the bytes p more in hand: in the blocks that it has, or with the lowest free one besides.
+pub fn grow(state: &mut [u8], i: usize, c: Session, p: &[u8])
+    requires { ⌜ Grows (now state) i c (now p) ⌝ }
+    ensures { λ _. ⌜ now (state .exit) ≡ written (now (state .entry)) (set (placesOf (now (state .entry))) i (grown (now (state .entry)) i c (now (p .entry)))) ⌝ }
+{
+    let n = c.len - p.len();
+    let held = gathered::needed(n);
+    if held < gathered::needed(c.len) {
+        gathered::claim(state, i, held);
+        fill(state, i, c, n, p);
+        return;
+    }
+    fill(state, i, c, n, p);
 }

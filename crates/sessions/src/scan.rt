@@ -17,8 +17,8 @@ pub enum Want {
     Old(u64),
 }
 
-// The session of place i is old at the time t.
-fn is_old(state: &[u8], t: u64, i: usize) -> bool
+// Internal. The session of place i is old at the time t.
+pub fn is_old(state: &[u8], t: u64, i: usize) -> bool
     requires { ⌜ (i < sessionsMax) × (size ≤ length (now state)) ⌝ }
     ensures { λ r. ⌜ r ≡ oldAt (now (state .entry)) t i ⌝ }
 {

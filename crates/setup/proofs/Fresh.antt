@@ -19,14 +19,17 @@ use Rattle.rules.specs.Setup.{Subscription, Setup, typeFits, unlike, allFit, ac
 use Rattle.rules.specs.Sound.{sound}
 use Rattle.rules.specs.Table.{empty, begun}
 use Rattle.subscriptions.proofs.Fit.{in-range}
-use Rattle.setup.proofs.Laid.{signaturesSize, timesSize, keysSize, placesSize, zeros, laid, head, toKeys, toPlaces, at-signatures, at-keys, at-places, length-toKeys, length-signatures, length-keys, signatures-append, keys-append, laidOut, laid-last, given-laid, places-at, length-laid}
+use Rattle.setup.proofs.Laid.{signaturesSize, timesSize, between, keysSize, placesSize, zeros, length-filled, laid, head, toKeys, toPlaces, at-signatures, at-keys, at-places, length-toKeys, length-signatures, length-keys, signatures-append, keys-append, laidOut, laid-last, given-laid, places-at, length-laid}
 use Rattle.setup.specs.Laws.{Fresh}
 use Rattle.setup.specs.Setup.{recordAt, given, accepted, signatures, keys, filled, stateOf}
 use Rattle.state.proofs.Bools.{and-left, and-right}
 use Rattle.bits.proofs.Tabulate.{tab-append, length-tabulate, tab-same}
 use Rattle.bits.proofs.Every.{every-true}
 use Rattle.bits.specs.Tabulate.{tabulate, every}
-use Rattle.state.specs.Layout.{size, subscriptionKeyAt, subscriptionAt, setupOf, keyAt, placeAt, placesOf, signaturesAt, subscriptionKeysAt, streamKeysAt}
+use Rattle.state.specs.Layout.{size, subscriptionKeyAt, subscriptionAt, setupOf, freeOf, keyAt, placeAt, placesOf, signaturesAt, freeAt, subscriptionKeysAt, streamKeysAt}
+use Rattle.state.specs.Place.{freeSet}
+use Rattle.blocks.specs.Set.{setOf}
+use Rattle.rules.specs.Blocks.{used, times}
 use Rattle.state.specs.Sound.{rawFits, soundState}
 
 -- ── what is accepted ──
@@ -73,7 +76,7 @@ module _ (own n : ℕ) (f : ℕ → Subscription) (past : List ℕ) (atMost : n 
       let xs = tabulate f 0 n in
       let ys = tabulate f 0 j in
       let l : length (signatures ys) ≡ j * 8 = length-signatures ys ∙ ap (λ (k : ℕ). k * 8) (length-tabulate f 0 j) in
-      let post : List ℕ = replicate timesSize 0 ++ (filled keysSize (keys xs) ++ (replicate placesSize 0 ++ past)) in
+      let post : List ℕ = between ++ (filled keysSize (keys xs) ++ (replicate placesSize 0 ++ past)) in
       ap (λ (x : List ℕ). span x (signaturesAt + j * 8) 8) (at-signatures own n (signatures xs) (keys xs) past)
       ∙ ap (λ (x : List ℕ). span (head own n ++ (filled signaturesSize x ++ post)) (signaturesAt + j * 8) 8) (ap signatures around ∙ signatures-append ys (f j ∷ tabulate f (suc j) (n - suc j)))
       ∙ in-filled (head own n) (signatures ys) (leBytes 8 (f j .signature)) (signatures (tabulate f (suc j) (n - suc j))) post signaturesSize (signaturesAt + j * 8) 8 (omega arith) (length-leBytes 8 (f j .signature))
@@ -122,6 +125,21 @@ module _ (own n : ℕ) (xs : List Subscription) (past : List ℕ) (atMost : leng
       (at-places own n (signatures xs) (keys xs) past ∙ ap (λ (x : List ℕ). p ++ x) cut ∙ sym (append-assoc p zs (replicate 4 0 ++ ws)))
       ∙ ap le (span-middle (p ++ zs) (replicate 4 0) ws (streamKeysAt + i * 4) l 4 refl)
 
+  -- all blocks are free
+  free-span : span (laidOut own n xs past) freeAt 8 ≡ replicate 8 255
+  free-span =
+      let pre = head own n ++ (filled signaturesSize (signatures xs) ++ replicate timesSize 0) in
+      let post : List ℕ = filled keysSize (keys xs) ++ (replicate placesSize 0 ++ past) in
+      let cut : laidOut own n xs past ≡ pre ++ (replicate 8 255 ++ post) = at-signatures own n (signatures xs) (keys xs) past ∙ simp append-assoc in
+      let l : length pre ≡ freeAt =
+      length-append (head own n) (filled signaturesSize (signatures xs) ++ replicate timesSize 0)
+      ∙ omega (arith, length-append (filled signaturesSize (signatures xs)) (replicate timesSize 0), length-filled signaturesSize (signatures xs) (omega (arith, length-signatures xs))) in
+      ap (λ (x : List ℕ). span x freeAt 8) cut ∙ span-middle pre (replicate 8 255) post freeAt l 8 refl
+
+  free-all : freeOf (laidOut own n xs past) ≡ 18446744073709551615
+  unfolding freeOf le
+  free-all = ap le free-span
+
   free : (i : ℕ) → i < sessionsMax → placeAt (laidOut own n xs past) i ≡ empty
   unfolding placeAt
   free i h = rw (no-key i h)
@@ -138,6 +156,10 @@ module _ (own n : ℕ) (xs : List Subscription) (past : List ℕ) (atMost : leng
   all-raw = every-true (rawFits (laidOut own n xs past)) sessionsMax 0 (λ l h k. raw l (omega arith))
 
 -- ── the whole ──
+
+none-used : freeSet begun ≡ 18446744073709551615
+unfolding freeSet used times setOf
+none-used = refl
 
 own-at : (own n : ℕ) (ss ks rest : List ℕ) → getD (laid own n ss ks rest) 0 0 ≡ own
 unfolding laid
@@ -197,8 +219,17 @@ module _ (own : ℕ) (r past : List ℕ) (taken : accepted own r ≡ true) (byte
   long = le-leb size (length after) (omega (arith, length-laid own count (tabulate (recordAt r) 0 count) few-listed past))
 
   no-fault : soundState after ≡ true
-  unfolding soundState sound
-  no-fault = rw (long, read-back, ok, all-raw own count (tabulate (recordAt r) 0 count) past few-listed, held-none)
+  unfolding soundState sound used
+  no-fault =
+      rw (
+        long,
+        read-back,
+        ok,
+        all-raw own count (tabulate (recordAt r) 0 count) past few-listed,
+        free-all own count (tabulate (recordAt r) 0 count) past few-listed,
+        held-none,
+        none-used,
+      )
 
   pub fresh : Fresh (given own r) (stateOf (given own r) ++ past)
   fresh = subst (Fresh (given own r)) (given-laid own r past count refl) (record { setup = read-back; places = held-none; sound = no-fault })

@@ -17,7 +17,7 @@ use Rattle.setup.specs.inside.Record.{written}
 use Rattle.subscriptions.specs.inside.Subscription.{withSubscription}
 use Rattle.bits.proofs.Tabulate.{tab-append, length-tabulate}
 use Rattle.bits.specs.Tabulate.{tabulate}
-use Rattle.state.specs.Layout.{size, signaturesAt, timesAt, subscriptionKeysAt, streamKeysAt}
+use Rattle.state.specs.Layout.{size, signaturesAt, freeAt, subscriptionKeysAt, streamKeysAt}
 
 -- ── lists that are filled up with zeros ──
 
@@ -25,7 +25,7 @@ pub zeros : (a b n : ℕ) → n ≡ a + b → (t : List ℕ) → replicate n 0 +
 zeros a b n e t =
     ap (λ (k : ℕ). replicate k 0 ++ t) e ∙ ap (λ (l : List ℕ). l ++ t) (sym (replicate-append-replicate a b 0)) ∙ append-assoc (replicate a 0) (replicate b 0) t
 
-length-filled : (n : ℕ) (xs : List ℕ) → length xs ≤ n → length (filled n xs) ≡ n
+pub length-filled : (n : ℕ) (xs : List ℕ) → length xs ≤ n → length (filled n xs) ≡ n
 length-filled n xs h = length-append xs (replicate (n - length xs) 0) ∙ omega (arith, length-replicate {A = ℕ} (n - length xs) 0)
 
 -- a store after what is there
@@ -59,34 +59,38 @@ keysSize = subscriptionsMax * 4
 abbrev pub placesSize : ℕ
 placesSize = size - streamKeysAt
 
+-- the times, and all blocks free
+abbrev pub between : List ℕ
+between = replicate timesSize 0 ++ replicate 8 255
+
 -- with these bytes of signatures and of kinds and types, and the bytes past it
 unfoldable pub laid : ℕ → ℕ → List ℕ → List ℕ → List ℕ → List ℕ
-laid own n ss ks rest = own ∷ n ∷ (replicate unused 0 ++ (filled signaturesSize ss ++ (replicate timesSize 0 ++ (filled keysSize ks ++ (replicate placesSize 0 ++ rest)))))
+laid own n ss ks rest = own ∷ n ∷ (replicate unused 0 ++ (filled signaturesSize ss ++ (between ++ (filled keysSize ks ++ (replicate placesSize 0 ++ rest)))))
 
 -- what comes before the signatures, before the keys, and before the places
 abbrev pub head : ℕ → ℕ → List ℕ
 head own n = own ∷ n ∷ replicate unused 0
 
 abbrev pub toKeys : ℕ → ℕ → List ℕ → List ℕ
-toKeys own n ss = head own n ++ (filled signaturesSize ss ++ replicate timesSize 0)
+toKeys own n ss = head own n ++ (filled signaturesSize ss ++ between)
 
 abbrev pub toPlaces : ℕ → ℕ → List ℕ → List ℕ → List ℕ
 toPlaces own n ss ks = toKeys own n ss ++ filled keysSize ks
 
 module _ (own n : ℕ) (ss ks rest : List ℕ) where
-  pub at-signatures : laid own n ss ks rest ≡ head own n ++ (filled signaturesSize ss ++ (replicate timesSize 0 ++ (filled keysSize ks ++ (replicate placesSize 0 ++ rest))))
+  pub at-signatures : laid own n ss ks rest ≡ head own n ++ (filled signaturesSize ss ++ (between ++ (filled keysSize ks ++ (replicate placesSize 0 ++ rest))))
   unfolding laid
   at-signatures = refl
 
   pub at-keys : laid own n ss ks rest ≡ toKeys own n ss ++ (filled keysSize ks ++ (replicate placesSize 0 ++ rest))
   unfolding laid
-  at-keys = ap (λ (x : List ℕ). head own n ++ x) (sym (append-assoc (filled signaturesSize ss) (replicate timesSize 0) (filled keysSize ks ++ (replicate placesSize 0 ++ rest))))
+  at-keys = ap (λ (x : List ℕ). head own n ++ x) (sym (append-assoc (filled signaturesSize ss) (between) (filled keysSize ks ++ (replicate placesSize 0 ++ rest))))
 
   pub at-places : laid own n ss ks rest ≡ toPlaces own n ss ks ++ (replicate placesSize 0 ++ rest)
   at-places = at-keys ∙ sym (append-assoc (toKeys own n ss) (filled keysSize ks) (replicate placesSize 0 ++ rest))
 
 pub length-toKeys : (own n : ℕ) (ss : List ℕ) → length ss ≤ signaturesSize → length (toKeys own n ss) ≡ subscriptionKeysAt
-length-toKeys own n ss h = length-append (head own n) (filled signaturesSize ss ++ replicate timesSize 0) ∙ omega (arith, length-append (filled signaturesSize ss) (replicate timesSize 0), length-filled signaturesSize ss h)
+length-toKeys own n ss h = length-append (head own n) (filled signaturesSize ss ++ between) ∙ omega (arith, length-append (filled signaturesSize ss) (between), length-filled signaturesSize ss h)
 
 length-toPlaces : (own n : ℕ) (ss ks : List ℕ) → length ss ≤ signaturesSize → length ks ≤ keysSize → length (toPlaces own n ss ks) ≡ streamKeysAt
 length-toPlaces own n ss ks h k = length-append (toKeys own n ss) (filled keysSize ks) ∙ omega (arith, length-toKeys own n ss h, length-filled keysSize ks k)
@@ -95,7 +99,7 @@ length-toPlaces own n ss ks h k = length-append (toKeys own n ss) (filled keysSi
 
 more-signatures : (own n : ℕ) (ss ks rest ys : List ℕ) (at : ℕ) → signaturesAt + length ss ≡ at → length ss + length ys ≤ signaturesSize → splice (laid own n ss ks rest) at ys ≡ laid own n (ss ++ ys) ks rest
 unfolding laid
-more-signatures own n ss ks rest ys at e h = fill-more (head own n) ss ys (replicate timesSize 0 ++ (filled keysSize ks ++ (replicate placesSize 0 ++ rest))) signaturesSize at e h
+more-signatures own n ss ks rest ys at e h = fill-more (head own n) ss ys (between ++ (filled keysSize ks ++ (replicate placesSize 0 ++ rest))) signaturesSize at e h
 
 more-keys : (own n : ℕ) (ss ks rest ys : List ℕ) (at : ℕ) → length ss ≤ signaturesSize → subscriptionKeysAt + length ks ≡ at → length ks + length ys ≤ keysSize
     → splice (laid own n ss ks rest) at ys ≡ laid own n ss (ks ++ ys) rest
@@ -160,15 +164,17 @@ laid-turn own n f rest j h =
 
 -- ── the first and the last ──
 
--- zeros, the own ID and the number of subscriptions
-pub laid-first : (own n : ℕ) (rest : List ℕ) → set (set (replicate size 0 ++ rest) 0 own) 1 n ≡ laidOut own n [] rest
-unfolding laid signatures keys
+-- zeros with all blocks free, the own ID and the number of subscriptions
+pub laid-first : (own n : ℕ) (rest : List ℕ) → set (set (splice (replicate size 0 ++ rest) freeAt (leBytes 8 18446744073709551615)) 0 own) 1 n ≡ laidOut own n [] rest
+unfolding laid signatures keys leBytes
 laid-first own n rest =
     ap (λ (x : List ℕ). set (set x 0 own) 1 n)
-    (zeros signaturesAt (size - signaturesAt) size refl rest
-    ∙ ap (λ (x : List ℕ). replicate signaturesAt 0 ++ x) (zeros signaturesSize (size - timesAt) (size - signaturesAt) refl rest
-    ∙ ap (λ (x : List ℕ). replicate signaturesSize 0 ++ x) (zeros timesSize (size - subscriptionKeysAt) (size - timesAt) refl rest
-    ∙ ap (λ (x : List ℕ). replicate timesSize 0 ++ x) (zeros keysSize placesSize (size - subscriptionKeysAt) refl rest))))
+    (ap (λ (x : List ℕ). splice x freeAt (replicate 8 255)) (zeros freeAt (size - freeAt) size refl rest ∙ ap (λ (x : List ℕ). replicate freeAt 0 ++ x) (zeros 8 (size - subscriptionKeysAt) (size - freeAt) refl rest))
+    ∙ splice-middle (replicate freeAt 0) (replicate 8 0) (replicate (size - subscriptionKeysAt) 0 ++ rest) freeAt refl (replicate 8 255) refl
+    ∙ zeros signaturesAt (freeAt - signaturesAt) freeAt refl (replicate 8 255 ++ (replicate (size - subscriptionKeysAt) 0 ++ rest))
+    ∙ ap (λ (x : List ℕ). replicate signaturesAt 0 ++ x) (zeros signaturesSize timesSize (freeAt - signaturesAt) refl (replicate 8 255 ++ (replicate (size - subscriptionKeysAt) 0 ++ rest))
+    ∙ ap (λ (x : List ℕ). replicate signaturesSize 0 ++ x) (ap (λ (x : List ℕ). replicate timesSize 0 ++ (replicate 8 255 ++ x)) (zeros keysSize placesSize (size - subscriptionKeysAt) refl rest)
+    ∙ sym (append-assoc (replicate timesSize 0) (replicate 8 255) (replicate keysSize 0 ++ (replicate placesSize 0 ++ rest))))))
 
 -- the state of a setup
 pub laid-last : (u : Setup) (rest : List ℕ) → stateOf u ++ rest ≡ laidOut (u .own) (length (u .subscriptions)) (u .subscriptions) rest

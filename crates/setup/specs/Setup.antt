@@ -30,7 +30,7 @@ given own r = record { own = own; subscriptions = tabulate (recordAt r) 0 (lengt
 unfoldable pub accepted : ℕ → List ℕ → Bool
 accepted own r = eqb (length r % subscriptionRecord) 0 && acceptable (given own r)
 
--- ── the state of a setup (RULES 3.5): nothing is held ──
+-- ── the state of a setup (RULES 3.5): nothing is held, and all blocks are free ──
 
 unfoldable pub signatures : List Subscription → List ℕ
 signatures [] = []
@@ -47,7 +47,7 @@ filled n xs = xs ++ replicate (n - length xs) 0
 unfoldable pub stateOf : Setup → List ℕ
 stateOf u =
     u .own ∷ length (u .subscriptions) ∷ (replicate (signaturesAt - 2) 0 ++ (filled (subscriptionsMax * 8) (signatures (u .subscriptions))
-    ++ (replicate (sessionsMax * 8) 0 ++ (filled (subscriptionsMax * 4) (keys (u .subscriptions)) ++ replicate (size - streamKeysAt) 0))))
+    ++ (replicate (sessionsMax * 8) 0 ++ (replicate 8 255 ++ (filled (subscriptionsMax * 4) (keys (u .subscriptions)) ++ replicate (size - streamKeysAt) 0)))))
 
 -- ── the call ──
 

@@ -2,8 +2,10 @@
 pub mod laws;
 
 use answers::Outcome;
+use blocks::set::ALL;
 use rules::limits::SUBSCRIPTION_RECORD;
 use rules::limits::SUBSCRIPTIONS;
+use state::layout::FREE_AT;
 use state::layout::OWN_AT;
 use state::layout::SIZE;
 use state::layout::SUBSCRIPTION_COUNT_AT;
@@ -112,6 +114,7 @@ fn write(state: &mut [u8], own: u32, records: &[u8], n: usize)
     ensures { λ _. ⌜ now (state .exit) ≡ stateOf (given own (now (records .entry))) ++ drop size (now (state .entry)) ⌝ }
 {
     clear(state, SIZE);
+    bits::le::put_at(state, FREE_AT, 8, ALL);
     state[OWN_AT] = own as u8;
     state[SUBSCRIPTION_COUNT_AT] = n as u8;
     let mut j = 0;

@@ -3,8 +3,9 @@ use mathlib.Core.Path.{_≡_, refl, sym, ap, _∙_}
 use mathlib.Core.Bool.{Bool, true, false, _&&_}
 use Prim.Native.Nat.{ℕ, _+_, _*_, _-_, _/_, _%_, _<_}
 use native.Mathlib.Omega.{arith}
-use borrow.Author.Tests.{eqb-true, eqb-false, eq-eqb}
+use borrow.Author.Tests.{eqb-true, eqb-false}
 use lib.Dec.{eqb}
+use Rattle.rules.proofs.Table.{same-refl}
 use Rattle.rules.specs.Frame.{Stream, sameStream}
 use Rattle.frame.specs.Key.{keyOf, streamOfKey}
 
@@ -28,10 +29,6 @@ stream-key d hk ht hs hd =
     λ i. record { transferType = e₁ i; type = e₂ i; source = e₃ i; destination = e₄ i }
 
 -- streams are the same exactly if they are equal
-same-refl : (x : Stream) → sameStream x x ≡ true
-unfolding sameStream
-same-refl x = rw (eq-eqb (x .transferType) (x .transferType) refl, eq-eqb (x .type) (x .type) refl, eq-eqb (x .source) (x .source) refl, eq-eqb (x .destination) (x .destination) refl)
-
 same-not : (x y : Stream) → (x ≡ y → ⊥) → sameStream x y ≡ false
 unfolding sameStream
 same-not x y n =

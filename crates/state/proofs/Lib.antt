@@ -1,8 +1,13 @@
 pub mod Bools
 pub mod Keys
 pub mod Soundness
+pub mod Chunks
 pub mod View
 pub mod Places
 pub mod Table
-pub mod Written
+pub mod Free
+pub mod Good
 pub mod Faultless
+pub mod Held
+pub mod Written
+pub mod Put

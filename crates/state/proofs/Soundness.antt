@@ -17,7 +17,7 @@ use Rattle.bits.proofs.Splice.{length-span}
 use Rattle.rules.specs.Sound.{placeFits, placesFit}
 use Rattle.rules.specs.Table.{Place, empty, held, holds}
 use Rattle.rules.specs.Tests.{pick}
-use Rattle.state.specs.Layout.{size, keyAt, sessionAt, placeAt, streamKeysAt}
+use Rattle.state.specs.Layout.{size, keyAt, sessionAt, blocksOf, placeAt, streamKeysAt}
 use Rattle.frame.specs.Key.{streamOfKey}
 use Rattle.state.proofs.Keys.{same-key}
 
@@ -38,6 +38,6 @@ module _ (m : List ℕ) (bytes : Octets m) (long : size ≤ length m) where
   unfolding placeAt
   holds-key k j z hk hj = go (eqb (keyAt m j) 0) refl where
     go : (b : Bool) → eqb (keyAt m j) 0 ≡ b
-        → holds (streamOfKey k) (pick b empty (held (streamOfKey (keyAt m j)) (sessionAt m j))) ≡ eqb (keyAt m j) k
+        → holds (streamOfKey k) (pick b empty (held (streamOfKey (keyAt m j)) (sessionAt m j) (blocksOf m j))) ≡ eqb (keyAt m j) k
     go true e = sym (ne-eqb (keyAt m j) k (λ q. z (sym q ∙ eqb-true (keyAt m j) 0 e)))
     go false e = same-key (keyAt m j) k (key-lt j hj) hk

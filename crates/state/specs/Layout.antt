@@ -1,13 +1,14 @@
 -- RULES 5.2: the layout of a receiver's state in lent bytes (docs/ARCHITECTURE.md has the table), and its view as setup and places.
-use mathlib.Core.List.{List}
+use mathlib.Core.List.{List, [], _∷_, _++_}
 use Prim.Native.Nat.{ℕ, _+_, _*_, _/_, _%_}
 use lib.Dec.{eqb}
-use lib.ListN.{getD}
+use lib.ListN.{getD, take}
 use Rattle.bits.specs.Little.{le}
 use Rattle.bits.specs.Part.{span}
 use Rattle.bits.specs.Tabulate.{tabulate}
 use Rattle.frame.specs.Key.{streamOfKey}
-use Rattle.rules.specs.Limits.{sessionsMax, subscriptionsMax, gatheredMax}
+use Rattle.rules.specs.Blocks.{need}
+use Rattle.rules.specs.Limits.{sessionsMax, subscriptionsMax, blocksMax, blockSize, blocksEach}
 use Rattle.rules.specs.Session.{Session}
 use Rattle.rules.specs.Setup.{Subscription, Setup}
 use Rattle.rules.specs.Table.{Place, empty, held, Places}
@@ -30,9 +31,13 @@ signaturesAt = 8
 abbrev pub timesAt : ℕ
 timesAt = signaturesAt + subscriptionsMax * 8
 
+-- the free blocks
+abbrev pub freeAt : ℕ
+freeAt = timesAt + sessionsMax * 8
+
 -- kinds and types of the subscriptions
 abbrev pub subscriptionKeysAt : ℕ
-subscriptionKeysAt = timesAt + sessionsMax * 8
+subscriptionKeysAt = freeAt + 8
 
 -- streams of the sessions
 abbrev pub streamKeysAt : ℕ
@@ -42,13 +47,17 @@ streamKeysAt = subscriptionKeysAt + subscriptionsMax * 4
 abbrev pub controlsAt : ℕ
 controlsAt = streamKeysAt + sessionsMax * 4
 
--- gathered bytes of the sessions
-abbrev pub bytesAt : ℕ
-bytesAt = controlsAt + sessionsMax * 4
+-- of each session the numbers of its blocks, in the order taken
+abbrev pub blockListsAt : ℕ
+blockListsAt = controlsAt + sessionsMax * 4
+
+-- the blocks, which hold the gathered bytes
+abbrev pub blocksAt : ℕ
+blocksAt = blockListsAt + sessionsMax * blocksEach
 
 -- the bytes of the whole layout
 abbrev pub size : ℕ
-size = bytesAt + sessionsMax * gatheredMax
+size = blocksAt + blocksMax * blockSize
 
 -- ── the setup: own ID, number of subscriptions, signatures, kinds and types ──
 
@@ -62,7 +71,11 @@ subscriptionAt m j =
 unfoldable pub setupOf : List ℕ → Setup
 setupOf m = record { own = getD m ownAt 0; subscriptions = tabulate (subscriptionAt m) 0 (getD m subscriptionCountAt 0) }
 
--- ── the places: times, stream keys, counts of bytes in hand, expected IDs, toggles, followed interfaces, gathered bytes ──
+-- the free blocks as a set: bit b is 1 where block b is free
+unfoldable pub freeOf : List ℕ → ℕ
+freeOf m = le (span m freeAt 8)
+
+-- ── the places: times, stream keys, counts of bytes in hand, expected IDs, toggles, followed interfaces, blocks, gathered bytes ──
 
 unfoldable pub timeAt : List ℕ → ℕ → ℕ
 timeAt m i = le (span m (timesAt + i * 8) 8)
@@ -80,15 +93,24 @@ expectedAt m i = le (span m (controlsAt + 2 + i * 4) 1)
 unfoldable pub flagsAt : List ℕ → ℕ → ℕ
 flagsAt m i = le (span m (controlsAt + 3 + i * 4) 1)
 
+-- as many block numbers as the bytes in hand need
+unfoldable pub blocksOf : List ℕ → ℕ → List ℕ
+blocksOf m i = span m (blockListsAt + i * blocksEach) (need (countAt m i))
+
+-- the bytes of blocks, one block after the other
+unfoldable pub joined : List ℕ → List ℕ → List ℕ
+joined m [] = []
+joined m (b ∷ bs) = span m (blocksAt + b * blockSize) blockSize ++ joined m bs
+
 unfoldable pub gatheredAt : List ℕ → ℕ → List ℕ
-gatheredAt m i = span m (bytesAt + i * gatheredMax) (countAt m i)
+gatheredAt m i = take (countAt m i) (joined m (blocksOf m i))
 
 unfoldable pub sessionAt : List ℕ → ℕ → Session
 sessionAt m i =
     record { expected = expectedAt m i; gathered = gatheredAt m i; toggle = eqb (flagsAt m i % 2) 1; since = timeAt m i; follows = flagsAt m i / 2 }
 
 unfoldable pub placeAt : List ℕ → ℕ → Place
-placeAt m i = pick (eqb (keyAt m i) 0) empty (held (streamOfKey (keyAt m i)) (sessionAt m i))
+placeAt m i = pick (eqb (keyAt m i) 0) empty (held (streamOfKey (keyAt m i)) (sessionAt m i) (blocksOf m i))
 
 unfoldable pub placesOf : List ℕ → Places
 placesOf m = tabulate (placeAt m) 0 sessionsMax

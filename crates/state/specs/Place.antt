@@ -1,14 +1,18 @@
--- RULES 5.6: writing a place, and a whole table, into the state. An empty place has key 0; its other bytes stay as they were.
+-- RULES 5.6: writing a whole table into the state. An empty place has key 0; its other bytes stay as they were, and so do those of a block past
+-- the gathered bytes and of a free block.
 use mathlib.Core.Bool.{Bool, true, false}
 use mathlib.Core.List.{List, [], _∷_, _++_}
 use Prim.Native.Nat.{ℕ, suc, _+_, _*_}
-use lib.ListN.{length}
-use Rattle.rules.specs.Limits.{gatheredMax}
+use lib.Dec.{eqb}
+use lib.ListN.{length, take, drop}
 use Rattle.bits.specs.Little.{leBytes}
-use Rattle.bits.specs.Part.{splice}
+use Rattle.blocks.specs.Set.{setOf}
+use Rattle.blocks.specs.Stores.{Store, storeAll}
+use Rattle.rules.specs.Blocks.{used, times}
+use Rattle.rules.specs.Limits.{blocksMax, blockSize, blocksEach}
 use Rattle.rules.specs.Session.{Session}
 use Rattle.rules.specs.Table.{Place, empty, held, Places}
-use Rattle.state.specs.Layout.{timesAt, streamKeysAt, controlsAt, bytesAt}
+use Rattle.state.specs.Layout.{timesAt, freeAt, streamKeysAt, controlsAt, blockListsAt, blocksAt}
 use Rattle.frame.specs.Key.{keyOf}
 
 abbrev pub one : Bool → ℕ
@@ -23,18 +27,42 @@ flagsOf s = one (s .toggle) + 2 * s .follows
 unfoldable pub controlOf : Session → List ℕ
 controlOf s = leBytes 2 (length (s .gathered)) ++ (s .expected ∷ flagsOf s ∷ [])
 
-unfoldable pub withKey : List ℕ → ℕ → ℕ → List ℕ
-withKey m i k = splice m (streamKeysAt + i * 4) (leBytes 4 k)
+-- ── what is stored of a place ──
 
-unfoldable pub withSession : List ℕ → ℕ → Session → List ℕ
-withSession m i s =
-    splice (splice (splice m (controlsAt + i * 4) (controlOf s)) (timesAt + i * 8) (leBytes 8 (s .since))) (bytesAt + i * gatheredMax) (s .gathered)
+abbrev pub keyStore : ℕ → ℕ → Store
+keyStore i k = record { at = streamKeysAt + i * 4; bytes = leBytes 4 k }
 
-unfoldable pub withPlace : List ℕ → ℕ → Place → List ℕ
-withPlace m i empty = withKey m i 0
-withPlace m i (held d s) = withSession (withKey m i (keyOf d)) i s
+abbrev pub controlStore : ℕ → Session → Store
+controlStore i s = record { at = controlsAt + i * 4; bytes = controlOf s }
+
+abbrev pub timeStore : ℕ → Session → Store
+timeStore i s = record { at = timesAt + i * 8; bytes = leBytes 8 (s .since) }
+
+abbrev pub listStore : ℕ → List ℕ → Store
+listStore i bs = record { at = blockListsAt + i * blocksEach; bytes = bs }
+
+-- the gathered bytes, a block's worth in each block
+unfoldable pub blockStores : List ℕ → List ℕ → List Store
+blockStores [] g = []
+blockStores (b ∷ bs) g = record { at = blocksAt + b * blockSize; bytes = take blockSize g } ∷ blockStores bs (drop blockSize g)
+
+unfoldable pub placeStores : ℕ → Place → List Store
+placeStores i empty = keyStore i 0 ∷ []
+placeStores i (held d s bs) = keyStore i (keyOf d) ∷ controlStore i s ∷ timeStore i s ∷ listStore i bs ∷ blockStores bs (s .gathered)
+
+-- ── and of the table ──
 
 -- the places from i on
-unfoldable pub written : List ℕ → ℕ → Places → List ℕ
-written m i [] = m
-written m i (p ∷ ps) = written (withPlace m i p) (suc i) ps
+unfoldable pub tableStores : ℕ → Places → List Store
+tableStores i [] = []
+tableStores i (p ∷ ps) = placeStores i p ++ tableStores (suc i) ps
+
+-- the blocks that no session has
+unfoldable pub freeSet : Places → ℕ
+freeSet ps = setOf (λ b. eqb (times b (used ps)) 0) 0 blocksMax
+
+abbrev pub freeStore : ℕ → Store
+freeStore n = record { at = freeAt; bytes = leBytes 8 n }
+
+unfoldable pub written : List ℕ → Places → List ℕ
+written m ps = storeAll m (freeStore (freeSet ps) ∷ tableStores 0 ps)

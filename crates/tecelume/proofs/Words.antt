@@ -45,6 +45,7 @@ told-fits (rules.refused n) (inr r) = small _ refl (omega arith)
 told-fits rules.full r = small _ refl (omega arith)
 told-fits (rules.passed x) r = small _ refl (omega (arith, told-number (rules.passed x), reason-range x))
 told-fits rules.long r = small _ refl (omega arith)
+told-fits rules.noBlock r = small _ refl (omega arith)
 told-fits rules.differs r = small _ refl (omega arith)
 
 pub received-fits : (m : List ℕ) (f : Arrival) (out : List ℕ) → Fits (received m f out .answer)

@@ -41,6 +41,7 @@ fn sample() -> Receiver {
         },
         expected_id: 30,
         gathered: vec![0xAB; 7],
+        blocks: vec![5],
         toggle: true,
         time: 0x1234,
         follows: 0,
@@ -54,6 +55,7 @@ fn sample() -> Receiver {
         },
         expected_id: 31,
         gathered: vec![0xCD; MOST_GATHERED],
+        blocks: vec![63, 0, 62, 1, 61, 2, 60, 3, 59],
         toggle: false,
         time: u64::MAX,
         follows: 2,
@@ -76,15 +78,23 @@ fn layout() {
         [8, 7, 6, 5, 4, 3, 2, 1, 255, 255, 255, 255, 255, 255, 255, 255]
     );
     assert_eq!(bytes[528..536], [0x34, 0x12, 0, 0, 0, 0, 0, 0]);
-    assert_eq!(bytes[776..784], [0xF4, 1, 0, 0, 7, 0, 1, 0]);
+    assert_eq!(bytes[776..784], [0xD0, 255, 255, 255, 255, 255, 255, 0x07]);
+    assert_eq!(bytes[784..792], [0xF4, 1, 0, 0, 7, 0, 1, 0]);
     let message = (500 * 128 + 9) * 128_u32;
-    assert_eq!(bytes[1036..1040], message.to_le_bytes());
+    assert_eq!(bytes[1044..1048], message.to_le_bytes());
     let response = ((2 * 65536 + 7) * 128 + 127) * 128 + 5_u32;
-    assert_eq!(bytes[1156..1160], response.to_le_bytes());
-    assert_eq!(bytes[1164..1168], [7, 0, 30, 1]);
-    assert_eq!(bytes[1284..1288], [2, 2, 31, 4]);
-    assert_eq!(bytes[1288 + 514..1288 + 521], [0xAB; 7]);
-    assert_eq!(bytes[SIZE - MOST_GATHERED..], [0xCD; MOST_GATHERED]);
+    assert_eq!(bytes[1164..1168], response.to_le_bytes());
+    assert_eq!(bytes[1172..1176], [7, 0, 30, 1]);
+    assert_eq!(bytes[1292..1296], [2, 2, 31, 4]);
+    assert_eq!(bytes[1305..1307], [5, 0]);
+    assert_eq!(bytes[1575..1584], [63, 0, 62, 1, 61, 2, 60, 3, 59]);
+    assert_eq!(
+        bytes[1584 + 320..1584 + 328],
+        [171, 171, 171, 171, 171, 171, 171, 0]
+    );
+    assert_eq!(bytes[SIZE - 64..], [0xCD; 64]);
+    assert_eq!(bytes[1584..1584 + 256], [0xCD; 256]);
+    assert_eq!(bytes[1584 + 59 * 64..][..3], [0xCD, 0xCD, 0]);
 }
 
 #[test]
@@ -105,7 +115,8 @@ fn faults_of_20() {
     };
     let first_stream = state::STREAM_KEYS + 4;
     let control = state::CONTROLS + 4;
-    let faults: [(usize, &[u8]); 20] = [
+    let (list, last_list) = (state::BLOCK_LISTS + 9, state::BLOCK_LISTS + 9 * 31);
+    let faults: [(usize, &[u8]); 32] = [
         (state::OWN, &[128]),
         (state::COUNT, &[65]),
         (state::SUBSCRIPTION_KEYS, &[0, 0, 2, 0]),
@@ -126,6 +137,22 @@ fn faults_of_20() {
         (control, &[0, 0]),
         (control, &[0, 0, 30, 5]),
         (control + 3, &[255]),
+        // in another place's list, in its own twice, in the list of another and in its own
+        (list, &[63]),
+        (last_list, &[0]),
+        (list, &[59]),
+        // free and in a list; in no list, and not free
+        (state::FREE, &[0xF0]),
+        (list, &[4]),
+        (state::FREE, &[0xC0]),
+        (state::FREE + 7, &[0x03]),
+        // no such block
+        (list, &[64]),
+        (list, &[5 + 64]),
+        (last_list + 8, &[255]),
+        // a count that needs more blocks than are in the list, or fewer
+        (control, &[65]),
+        (control, &[0, 0, 30, 0]),
     ];
     for (index, (at, value)) in faults.into_iter().enumerate() {
         let mut bytes = sample_bytes();
@@ -137,7 +164,7 @@ fn faults_of_20() {
 
 #[test]
 fn values_at_the_edge_are_no_fault() {
-    let allowed: [(usize, &[u8]); 11] = [
+    let allowed: [(usize, &[u8]); 15] = [
         (state::OWN, &[127]),
         (state::OWN, &[0]),
         (state::SUBSCRIPTION_KEYS, &[255, 0, 1, 0]),
@@ -147,8 +174,13 @@ fn values_at_the_edge_are_no_fault() {
         (state::CONTROLS + 4, &[1, 0, 0, 1]),
         (state::CONTROLS + 4, &[1, 0, 0, 3]),
         (state::CONTROLS + 4, &[1, 0, 0, 5]),
-        (state::CONTROLS + 4, &[0, 0, 0, 2]),
-        (state::CONTROLS + 4, &[0, 0, 0, 4]),
+        (state::CONTROLS + 4, &[64, 0, 0, 2]),
+        (state::CONTROLS + 4, &[63, 0, 0, 4]),
+        // the bytes of a block, and lists past what is needed or of an empty place
+        (state::BLOCK_BYTES, &[1; 4096]),
+        (state::BLOCK_LISTS, &[255; 9]),
+        (state::BLOCK_LISTS + 10, &[255; 8]),
+        (state::BLOCK_LISTS + 10, &[5; 8]),
     ];
     for (index, (at, value)) in allowed.into_iter().enumerate() {
         let mut bytes = sample_bytes();
@@ -167,7 +199,8 @@ fn setup_writes_the_whole_layout_and_nothing_past_it() {
     expected[1] = 2;
     expected[8] = 3;
     expected[16] = 4;
-    expected[776..784].copy_from_slice(&[7, 0, 1, 0, 7, 0, 0, 0]);
+    expected[776..784].fill(255);
+    expected[784..792].copy_from_slice(&[7, 0, 1, 0, 7, 0, 0, 0]);
     assert_eq!(bytes[..SIZE], expected);
     assert_eq!(bytes[SIZE..], [0xEE; 5]);
 }
@@ -213,12 +246,12 @@ fn changes(bytes: &mut [u8], id: u32, data: &[u8], interface: u32, time: u64) ->
 #[test]
 fn receive_writes_the_fields_that_change() {
     let mut bytes = sample_bytes();
-    bytes[state::gathered_at(1) + 7..][..7].fill(0xEE);
+    let gathered = state::block_at(5) + 7;
+    bytes[gathered..][..7].fill(0xEE);
     let id = 0x0001_F409;
     let (word, changed) = changes(&mut bytes, id, &[1, 2, 3, 4, 5, 6, 7, 0x3E], 0, 0x1234);
     assert_eq!(word, 0);
     let control = state::CONTROLS + 4;
-    let gathered = state::gathered_at(1) + 7;
     let expected: Vec<usize> = [control, control + 3]
         .into_iter()
         .chain(gathered..gathered + 7)
@@ -227,7 +260,7 @@ fn receive_writes_the_fields_that_change() {
 
     let (word, changed) = changes(&mut bytes, id, &[9, 0x5E], 0, 0x1234);
     assert_eq!(word, 12);
-    assert_eq!(changed, [control, control + 2]);
+    assert_eq!(changed, [state::FREE, control, control + 2]);
 
     let (word, changed) = changes(&mut bytes, id, &[9, 0x5F], 1, 0x1234);
     assert_eq!((word, changed), (34, vec![]));
@@ -239,16 +272,88 @@ fn receive_writes_the_fields_that_change() {
 }
 
 #[test]
-fn new_session_leaves_old_bytes_of_its_place() {
-    let mut bytes = sample_bytes();
-    bytes[state::gathered_at(0)..][..MOST_GATHERED].fill(0x77);
+fn block_is_written_where_one_is_taken() {
+    let mut bytes = vec![0x77; SIZE];
+    write(&sample(), &mut bytes);
+    let id = 0x0001_F40A;
+    let (word, changed) = changes(&mut bytes, id, &[1, 2, 3, 4, 5, 6, 7, 0x82], 2, 5);
+    assert_eq!(word, 0);
+    let block = state::block_at(4);
+    let expected: Vec<usize> = (state::TIMES..state::TIMES + 8)
+        .chain([state::FREE])
+        .chain([state::STREAM_KEYS + 1, state::STREAM_KEYS + 2])
+        .chain(state::CONTROLS..state::CONTROLS + 4)
+        .chain([state::BLOCK_LISTS])
+        .chain(block..block + 7)
+        .collect();
+    assert_eq!(changed, expected);
+    assert_eq!(bytes[state::BLOCK_LISTS..][..2], [4, 0x77]);
+    assert_eq!(bytes[state::FREE], 0xC0);
+}
+
+#[test]
+fn closing_frame_writes_no_block_and_none_is_cleared() {
+    let mut receiver = sample();
+    let session = receiver.places[1].as_mut().unwrap();
+    (session.gathered, session.blocks) = (vec![0xAB; 63], vec![5]);
+    let mut bytes = vec![0x77; SIZE];
+    write(&receiver, &mut bytes);
+    // a second block is asked for and given back
+    let (word, changed) = changes(&mut bytes, 0x0001_F409, &[1, 2, 0x7E], 0, 0x1234);
+    assert_eq!(word, 12);
+    let control = state::CONTROLS + 4;
+    assert_eq!(changed, [state::FREE, control, control + 2, control + 3]);
+    assert_eq!(bytes[state::FREE], 0xF0);
+}
+
+#[test]
+fn emptied_session_keeps_all_bytes_but_its_control() {
+    let mut receiver = sample();
+    let free: Vec<u8> = (6..59).chain([4]).collect();
+    for (place, blocks) in (2..31).zip(free.chunks(2)) {
+        let mut other = receiver.places[1].clone().unwrap();
+        other.stream.source = place as u8 + 20;
+        (other.gathered, other.blocks) = (vec![1; 64 * blocks.len()], blocks.to_vec());
+        other.time = 5_000_000;
+        receiver.places[place] = Some(other);
+    }
+    let mut bytes = vec![0x77; SIZE];
+    write(&receiver, &mut bytes);
+    assert_eq!(bytes[state::FREE..][..8], [0; 8]);
+    let (word, changed) = changes(
+        &mut bytes,
+        0x0001_F40A,
+        &[1, 2, 3, 4, 5, 6, 7, 0x82],
+        2,
+        5_000_000,
+    );
+    assert_eq!(word, 0);
+    let (control, block) = (state::CONTROLS, state::block_at(5));
+    let expected: Vec<usize> = (state::TIMES..state::TIMES + 8)
+        .chain([state::STREAM_KEYS + 1, state::STREAM_KEYS + 2])
+        .chain([control, control + 1, control + 2, control + 3])
+        .chain([control + 4, control + 6, control + 7])
+        .chain([state::BLOCK_LISTS])
+        .chain(block..block + 7)
+        .collect();
+    // place 1 is emptied; its block 5 goes to place 0, and no other is free then
+    assert_eq!(changed, expected);
+    assert_eq!(bytes[control + 4..control + 8], [0, 0, 31, 0]);
+    assert_eq!(bytes[state::FREE..][..8], [0; 8]);
+}
+
+#[test]
+fn new_session_of_a_single_frame_leaves_blocks_and_lists() {
+    let mut bytes = vec![0x77; SIZE];
+    write(&sample(), &mut bytes);
+    let before = bytes.clone();
     let (word, _) = changes(&mut bytes, 0x0001_F40A, &[1, 0xC2], 2, 5);
     assert_eq!(word & 255, 1);
     let session = read(&bytes).unwrap().places[0].clone().unwrap();
     let values = (session.expected_id, session.time, session.follows);
     assert_eq!(values, (3, 5, 2));
-    let room = &bytes[state::gathered_at(0)..][..MOST_GATHERED];
-    assert_eq!(room, [0x77; MOST_GATHERED]);
+    assert_eq!(bytes[state::BLOCK_LISTS..], before[state::BLOCK_LISTS..]);
+    assert_eq!(bytes[state::FREE..][..8], before[state::FREE..][..8]);
 }
 
 #[test]
@@ -277,4 +382,10 @@ fn fault_is_answered_before_all_else() {
     let mut bytes = sample_bytes();
     bytes[0] = 128;
     assert_eq!(changes(&mut bytes, u32::MAX, &[], 3, 0), (20, vec![]));
+}
+
+#[test]
+fn memory_that_was_never_set_up_is_a_fault() {
+    assert_eq!(read(&[0; SIZE]), None);
+    assert_eq!(read(&[0xFF; SIZE]), None);
 }

@@ -3,6 +3,7 @@
 
 mod allocation;
 mod allocation_log;
+mod blocks;
 mod checksums;
 mod lent_state;
 mod log_program;

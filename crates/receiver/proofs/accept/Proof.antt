@@ -2,7 +2,7 @@
 use mathlib.Core.Path.{_≡_, refl, sym, ap, subst, _∙_}
 use mathlib.Core.Bool.{Bool, true, false}
 use mathlib.Core.List.{List}
-use Prim.Native.Nat.{ℕ, _-_, _≤_}
+use Prim.Native.Nat.{ℕ, _-_, _≤_, _<_}
 use native.Mathlib.Nat.{sub-zero}
 use native.Mathlib.Omega.{arith}
 use lib.ListN.{length, take}
@@ -38,6 +38,8 @@ called m out bs h q a p f = record {
   source = q .source;
   named = q .named a;
   destination = q .destination;
+  fits = q .fits a;
+  whole = λ e. subst (λ (x : List ℕ). 0 < length x) (sym f) (omega (arith, length-take-le (length bs - 1) bs (omega arith), q .whole e));
   payload = subst (λ (x : List ℕ). length x ≤ 7) (sym f) (omega (arith, length-take-le (length bs - 1) bs (omega arith), q .few-bytes));
   interface = q .interface;
   room = q .room;

@@ -2,7 +2,7 @@
 use mathlib.Core.Path.{_≡_, refl, sym, ap, subst, _∙_}
 use mathlib.Core.Bool.{Bool, true, false}
 use mathlib.Core.List.{List}
-use mathlib.Core.Option.{some}
+use mathlib.Core.Option.{none, some}
 use Prim.Native.Nat.{ℕ, _%_, _≤_, _<_}
 use native.Mathlib.Omega.{arith}
 use lib.Dec.{eqb}
@@ -16,14 +16,17 @@ use Rattle.frame.specs.declared.head.Head.{Head}
 use Rattle.frame.proofs.Heads.{source-is, type-lt, transfer-type-lt, destination-lt}
 use Rattle.receiver.specs.Receive.{result, arrivalOf, arriving, lent}
 use Rattle.receiver.specs.inside.Called.{Accepted}
-use Rattle.receiver.proofs.Checks.{Readable, readable, head-passes, under, not-asked, read-refuses, head-refuses, not-subscribed, no-room, accepted, heads, parsed-is, step-refused, step-accepted}
+use Rattle.receiver.proofs.Checks.{Readable, readable, head-passes, under, not-asked, read-refuses, head-refuses, not-subscribed, no-room, all-passed, accepted, heads, parsed-is, step-refused, step-accepted}
 use Rattle.receiver.proofs.Lent.{untouched}
+use Rattle.rules.proofs.Checks as checks
+use Rattle.rules.proofs.Lasting.{stream-fits}
 use Rattle.rules.specs.Answer.{refused}
-use Rattle.rules.specs.Check.{Parsed, check, first, orZero}
+use Rattle.rules.specs.Check.{Parsed, check, frameCheck, first, orZero}
 use Rattle.rules.specs.Frame as rules
 use Rattle.rules.specs.Frame.{tailOf, payloadOf, isStart, isEnd, toggleOf, isAnonymous}
 use Rattle.rules.specs.Reception.{step, stepAnonymous}
 use Rattle.rules.specs.Setup.{subscribed, kindOf, signatureFor}
+use Rattle.rules.specs.Sound.{streamFits}
 use Rattle.rules.specs.Tests.{pick}
 use Rattle.session.specs.inside.Session.{parsedOf}
 use Rattle.state.specs.Layout.{setupOf, placesOf}
@@ -91,10 +94,10 @@ type-fits id tail = type-lt id
 -- what the frame is, from the checks that it passed
 accepts : (s : tie.Start) (h : Head) (g i : ℕ) → let a = s .args in h ≡ headOf (a .id) (tailOf (a .frame .now)) → Readable (a .id) (length (a .frame .now)) (a .interface)
     → (r : ℕ) → r ≡ orZero (heads (setupOf (a .state .now)) (a .id) (a .interface) (a .time) (a .frame .now) (a .out .now)) → r ≤ 0 → 512 ≤ length (a .out .now)
-    → i ≡ a .interface
+    → i ≡ a .interface → frameCheck (setupOf (a .state .now)) (arrivalOf (a .id) (a .frame .now) (a .interface) (a .time)) ≡ none
     → Accepted (a .state .now) (record { head = h; signature = g; time = a .time; interface = i }) (a .frame .now) (a .out .now)
 unfolding headOf
-accepts s h g i e k r f z room by =
+accepts s h g i e k r f z room by pass =
     let a = s .args in
     let bs = a .frame .now in
     let q = head-passes (setupOf (a .state .now) .own) (rules.streamOf (a .id)) (isStart (tailOf bs)) (isEnd (tailOf bs)) (toggleOf (tailOf bs)) (length bs) r f z in
@@ -107,6 +110,10 @@ accepts s h g i e k r f z room by =
       source = subst (λ (x : Head). x .source < 128) (sym e) (omega (arith, source-is (a .id)));
       named = subst (λ (x : Head). rules.unnamed (head.streamOf x) ≡ false → x .source ≡ 0 → ⊥) (sym e) (q .named);
       destination = subst (λ (x : Head). x .destination < 128) (sym e) (destination-lt (a .id));
+      fits =
+          subst (λ (x : Head). rules.unnamed (head.streamOf x) ≡ false → streamFits (head.streamOf x) ≡ true) (sym e)
+          (stream-fits (setupOf (a .state .now)) (arrivalOf (a .id) bs (a .interface) (a .time)) (checks.accepted (setupOf (a .state .now)) (arrivalOf (a .id) bs (a .interface) (a .time)) pass));
+      whole = subst (λ (x : Head). x .end ≡ false → 1 < length bs) (sym e) (λ z. omega (arith, q .whole z));
       some-bytes = k .some-bytes;
       few-bytes = k .few-bytes;
       interface = omega (arith, k .interface);
@@ -195,13 +202,17 @@ cast-t28 c = search needs
 accept-requires : tie.Need-accept-requires
 accept-requires c κs =
     let l = c .before .before in
+    let g = l .before .before in
     let n = l .before .before .before .before in
     let i = n .before .before .before .before in
     let r = i .before in
     let d = r .before .before in
     let e = d .before .before in
     let s = e .before .before .before .before .before in
+    let u = setupOf (s .args .state .now) in
     accepts s (d .read .result) _ _ (d .read .ensures) (read-ok e) (r .refusal .result) (heads-number r) (i .if2 .left) (l .if3 .left) (omega (arith, read-ok e .interface))
+    (all-passed u (s .args .id) (s .args .interface) (s .args .time) (s .args .frame .now) (s .args .out .now) (e .before .unreadable .result) (e .before .unreadable .ensures) (e .if1 .left)
+    (r .refusal .result) (heads-number r) (i .if2 .left) _ (under (signatureFor u (s .args .id)) _ (found n ∙ g .signature .given .1)))
 
 same-length-2 : tie.Need-same-length-2
 same-length-2 c = search needs

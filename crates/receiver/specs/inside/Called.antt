@@ -6,6 +6,7 @@ use Prim.Native.Nat.{ℕ, _≤_, _<_}
 use lib.ListN.{length}
 use Rattle.rules.specs.Frame.{unnamed}
 use Rattle.rules.specs.Limits.{payloadMax, frameData, framePayload, interfacesMax}
+use Rattle.rules.specs.Sound.{streamFits}
 use Rattle.session.specs.inside.Session.{streamOf}
 use Rattle.session.specs.declared.Incoming.{Incoming}
 use Rattle.state.specs.Sound.{soundState}
@@ -20,6 +21,8 @@ pub record Accepted (m : List ℕ) (h : Incoming) (bs out : List ℕ) : Type 0 w
   pub source : h .head .source < 128
   pub named : unnamed (streamOf h) ≡ false → h .head .source ≡ 0 → ⊥
   pub destination : h .head .destination < 128
+  pub fits : unnamed (streamOf h) ≡ false → streamFits (streamOf h) ≡ true
+  pub whole : h .head .end ≡ false → 1 < length bs
   pub some-bytes : 0 < length bs
   pub few-bytes : length bs ≤ frameData
   pub interface : h .interface < interfacesMax
@@ -35,6 +38,8 @@ pub record Called (m : List ℕ) (h : Incoming) (p out : List ℕ) : Type 0 wher
   pub source : h .head .source < 128
   pub named : h .head .source ≡ 0 → ⊥
   pub destination : h .head .destination < 128
+  pub fits : streamFits (streamOf h) ≡ true
+  pub whole : h .head .end ≡ false → 0 < length p
   pub payload : length p ≤ framePayload
   pub interface : h .interface < interfacesMax
   pub room : payloadMax ≤ length out

@@ -13,7 +13,7 @@ use Rattle.session.specs.inside.Session.{streamOf, parsedOf, bare}
 use Rattle.answers.specs.declared.Answer.{Answer}
 use Rattle.answers.specs.declared.Reason.{Reason}
 use Rattle.session.specs.declared.Incoming.{Incoming}
-use Rattle.session.specs.declared.Progress.{Progress}
+use Rattle.session.specs.declared.Session.{Session}
 
 -- the reason as the code tells it
 abbrev pub why : Option rules.Reason → Option Reason
@@ -21,7 +21,7 @@ why none = none
 why (some r) = some (toldReason r)
 
 -- A frame that is passed over. It passed check 5, and the session has no fault: so the toggles of a start and of a session with nothing in hand are 0.
-pub record Passes (c : Progress) (h : Incoming) : Type 0 where
+pub record Passes (c : Session) (h : Incoming) : Type 0 where
   pub over : isNone (over (bare c) (parsedOf h [])) ≡ false
   pub start : h .head .start ≡ true → h .head .toggle ≡ false
   pub toggle : c .len ≡ 0 → c .toggle ≡ false

@@ -41,6 +41,7 @@ pub fn met(call: &Arrival) -> Option<(Session, Piece<'static>)> {
 fn restarted(call: &mut Arrival, piece: &Piece) -> u64 {
     receive_changed(call, |session| {
         session.gathered.clear();
+        session.blocks.clear();
         session.toggle = false;
         session.expected_id = piece.tail.transfer_id;
         session.follows = piece.interface;

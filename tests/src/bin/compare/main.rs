@@ -5,6 +5,7 @@
 
 mod allocations;
 mod allocator_mutants;
+mod block_mutants;
 mod cables;
 mod clipping;
 mod clipping_mutants;
@@ -29,6 +30,7 @@ mod setups;
 mod signatures;
 mod situations;
 mod states;
+mod supply;
 mod tables;
 mod tally;
 mod traffic;

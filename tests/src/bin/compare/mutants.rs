@@ -6,14 +6,15 @@ use crate::entry_points::{
     frames_in, receive, send, Allocate, Allocating, Arrival, Departure, EntryPoints, Receive,
     Reception, Send, Sending, Serialization, REFERENCE,
 };
-use crate::{clipping_mutants, interface_mutants, reason_mutants};
+use crate::{block_mutants, clipping_mutants, interface_mutants, reason_mutants};
 use reference::bits::Refusal;
+use reference::blocks::BLOCK;
 use reference::codec::{Decode, Encode};
 use reference::frame::{Stream, Tail};
 use reference::map::Map;
 use reference::messages::{self, Message, MessageType};
 use reference::receive::{Receiver, INTERFACES};
-use reference::session::{Session, MOST_GATHERED};
+use reference::session::Session;
 use reference::state;
 use std::ops::RangeInclusive;
 
@@ -39,6 +40,7 @@ pub struct Mutant {
 pub fn all() -> Vec<Mutant> {
     let interfaces = interface_mutants::ALL.map(|(name, receive)| receiving(name, receive));
     let reasons = reason_mutants::ALL.map(|(name, receive)| receiving(name, receive));
+    let blocks = block_mutants::ALL.map(|(name, receive)| receiving(name, receive));
     let others = [
         receiving("repeated-start-is-new", repeated_start_is_new),
         receiving("passed-over-turns-toggle", passed_over_turns_toggle),
@@ -78,6 +80,7 @@ pub fn all() -> Vec<Mutant> {
         .into_iter()
         .chain(interfaces)
         .chain(reasons)
+        .chain(blocks)
         .chain(allocators)
         .chain(clipping)
         .collect()
@@ -151,7 +154,7 @@ fn serializing(name: &'static str, part: Part, calls: Serialization) -> Mutant {
 }
 
 /// Changes the receiver in a lent state that has no fault.
-fn edit(call: &mut Arrival, change: impl FnOnce(&mut Receiver)) {
+pub fn edit(call: &mut Arrival, change: impl FnOnce(&mut Receiver)) {
     if let Some(mut receiver) = state::read(call.state.content()) {
         change(&mut receiver);
         state::write(&receiver, call.state.content_mut());
@@ -203,6 +206,7 @@ fn repeated_start_is_new(call: &mut Arrival) -> u64 {
     }
     receive_changed(call, |session| {
         session.gathered.clear();
+        session.blocks.clear();
         session.toggle = false;
         session.expected_id = tail.transfer_id;
     })
@@ -235,7 +239,7 @@ fn checksum_high_byte_first(call: &mut Arrival) -> u64 {
     });
     let word = receive(call);
     if tail.end && before.len() >= state::SIZE {
-        let room = state::GATHERED..state::SIZE;
+        let room = state::BLOCK_BYTES..state::SIZE;
         call.state.content_mut()[room.clone()].copy_from_slice(&before[room]);
     }
     word
@@ -284,12 +288,15 @@ fn output_touched_by_12(call: &mut Arrival) -> u64 {
 }
 
 fn closing_clears_bytes(call: &mut Arrival) -> u64 {
+    let before = state::read(call.state.content());
     let word = receive(call);
-    let receiver = state::read(call.state.content());
-    let place = receiver.and_then(|receiver| receiver.place_of(&Stream::of_id(call.id)));
-    if let (1, Some(place)) = (word & 255, place) {
-        let room = &mut call.state.content_mut()[state::gathered_at(place)..];
-        room[..MOST_GATHERED].fill(0);
+    let place = before
+        .as_ref()
+        .and_then(|one| one.place_of(&Stream::of_id(call.id)));
+    if let (1, Some(before), Some(place)) = (word & 255, before, place) {
+        for &block in before.places[place].iter().flat_map(|one| &one.blocks) {
+            call.state.content_mut()[state::block_at(block)..][..BLOCK].fill(0);
+        }
     }
     word
 }

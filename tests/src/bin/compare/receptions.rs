@@ -8,15 +8,16 @@ use crate::random::Random;
 use crate::setups::records;
 use crate::situations::{Found, CASES};
 use crate::states;
+use crate::supply::{Supply, BLOCK_CASES};
 use crate::tally::{compare, Difference, Tally};
 use crate::traffic::{Call, Traffic, MOST_DATA, MOST_ROOM};
+use reference::blocks::BLOCK;
 use reference::entry::{self, FAULT};
 use reference::receive::{Frame, Receiver};
-use reference::session::MOST_GATHERED;
-use reference::state::{self, GATHERED, SIZE};
+use reference::state::{self, BLOCK_BYTES, SIZE};
 
-const NUMBERS: [u32; 19] = [
-    0, 1, 2, 3, 4, 5, 6, 7, 8, 9, 11, 12, 19, 20, 30, 31, 32, 33, 34,
+const NUMBERS: [u32; 20] = [
+    0, 1, 2, 3, 4, 5, 6, 7, 8, 9, 11, 12, 19, 20, 26, 30, 31, 32, 33, 34,
 ];
 const STILL_VALID: &str = "bytes altered, no fault";
 const ALTERED: &str = "20: bytes altered";
@@ -45,7 +46,8 @@ impl Receptions {
         let mut random = Random::new(seed);
         let faults = FAULTS.iter().map(|(name, _)| *name);
         let other = [TOO_SHORT, AS_NULL, ALTERED, STILL_VALID];
-        let cases: Vec<&str> = CASES.into_iter().chain(faults).chain(other).collect();
+        let cases = CASES.into_iter().chain(BLOCK_CASES);
+        let cases: Vec<&str> = cases.chain(faults).chain(other).collect();
         Receptions {
             side,
             tally: Tally::new("receive", &NUMBERS, &cases),
@@ -67,8 +69,13 @@ impl Receptions {
                 1 => u64::MAX - self.random.below(8_000_000),
                 _ => self.random.below(1 << 40),
             };
-            let mut receiver = self.open(clock)?;
-            let mut traffic = Traffic::new(&mut self.random, &receiver, clock);
+            let pressed = !self.random.once_in(6);
+            let mut receiver = self.open(clock, pressed)?;
+            let random = &mut self.random;
+            let mut traffic = match pressed {
+                true => Traffic::pressed(random, &receiver, clock),
+                false => Traffic::new(random, &receiver, clock),
+            };
             for _ in 0..traffic.length(&mut self.random) {
                 let call = traffic.next(&mut self.random, &receiver);
                 self.one(&mut receiver, &call)?;
@@ -79,18 +86,19 @@ impl Receptions {
         Ok(())
     }
 
-    /// A state to begin with, by setup or lent as it is.
-    fn open(&mut self, clock: u64) -> Result<Receiver, Difference> {
+    /// A state to begin with, by setup or lent as it is, and if so perhaps a crowded one.
+    fn open(&mut self, clock: u64, crowded: bool) -> Result<Receiver, Difference> {
         let length = SIZE + self.random.pick(&[0, 0, 1, EXTRA]);
         self.state.lend(length, false);
         self.random.fill(self.state.expected.content_mut());
-        if self.random.once_in(3) {
+        if !crowded && self.random.once_in(3) {
             let receiver = states::empty(&mut self.random);
             self.state.level();
             self.setup(&receiver)?;
             return Ok(receiver);
         }
-        let receiver = states::receiver(&mut self.random, clock);
+        let crowded = crowded || self.random.once_in(4);
+        let receiver = states::receiver(&mut self.random, clock, crowded);
         state::write(&receiver, self.state.expected.content_mut());
         self.state.level();
         Ok(receiver)
@@ -121,10 +129,14 @@ impl Receptions {
     /// The reference goes on from the receiver it kept, the other side from the bytes alone.
     fn on_state(&mut self, receiver: &mut Receiver, call: &Call) -> Result<(), Difference> {
         let found = Found::new(receiver, call);
+        let supply = Supply::new(receiver, call);
         let answer = receiver.receive(&frame(call), call.room);
         state::write(receiver, self.state.expected.content_mut());
         self.tally.number(answer.number());
         for case in found.cases(&answer) {
+            self.tally.case(case);
+        }
+        for case in supply.cases(&answer, receiver) {
             self.tally.case(case);
         }
         self.buffers.lend(call);
@@ -146,7 +158,7 @@ impl Receptions {
             None if index == FAULTS.len() => {
                 let length = self
                     .random
-                    .pick(&[SIZE - 1, SIZE - MOST_GATHERED, GATHERED, 8, 1]);
+                    .pick(&[SIZE - 1, SIZE - BLOCK, BLOCK_BYTES, 8, 1]);
                 self.spoiled.lend(length, false);
                 TOO_SHORT
             }
@@ -165,7 +177,7 @@ impl Receptions {
     fn on_altered(&mut self, call: &Call) -> Result<(), Difference> {
         self.spoiled.copy(&self.state);
         for _ in 0..self.random.between(1, 3) {
-            let at = self.random.index(state::GATHERED);
+            let at = self.random.index(BLOCK_BYTES);
             let byte = match self.random.below(3) {
                 0 => self.random.byte(),
                 1 => self.random.below(4) as u8,

@@ -7,7 +7,7 @@ use crate::states;
 use crate::tally::{compare, Difference, Tally};
 use reference::entry::{self, SUBSCRIPTION};
 use reference::receive::Subscription;
-use reference::state::{GATHERED, SIZE};
+use reference::state::{BLOCK_BYTES, SIZE};
 
 /// The arguments of a setup but its state.
 struct Arguments {
@@ -126,7 +126,8 @@ impl Setups {
 
     fn lend(&mut self, arguments: &Arguments, short: bool) {
         let length = if short {
-            self.random.pick(&[0, 1, 8, GATHERED, SIZE / 2, SIZE - 1])
+            self.random
+                .pick(&[0, 1, 8, BLOCK_BYTES, SIZE / 2, SIZE - 1])
         } else {
             SIZE + self.random.pick(&[0, 1, EXTRA])
         };

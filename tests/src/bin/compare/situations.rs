@@ -308,7 +308,7 @@ impl Found {
 
 /// Whether the frame came to the session rules.
 fn past_the_checks(answer: &Answer) -> bool {
-    matches!(answer.number(), 0 | 1 | 11 | 12 | 30..=34)
+    matches!(answer.number(), 0 | 1 | 11 | 12 | 26 | 30..=34)
 }
 
 fn oldest_age(receiver: &Receiver, time: u64) -> u64 {

@@ -1,12 +1,12 @@
 //! Counts of the answers and cases seen, and the difference that ends a comparison.
 
 use crate::lent::Pair;
-use reference::session::MOST_GATHERED;
+use reference::blocks::BLOCK;
 use reference::state::{
-    CONTROLS, COUNT, GATHERED, OWN, SIGNATURES, SIZE, STREAM_KEYS, SUBSCRIPTION_KEYS, TIMES,
+    BLOCK_BYTES, BLOCK_LISTS, CONTROLS, COUNT, FREE, LIST, OWN, SIGNATURES, SIZE, STREAM_KEYS,
+    SUBSCRIPTION_KEYS, TIMES,
 };
 use std::collections::BTreeMap;
-use std::ops::RangeInclusive;
 
 /// What was seen of one call. Numbers and cases that can occur begin at zero, so that one never
 /// seen shows.
@@ -17,8 +17,11 @@ pub struct Tally {
     cases: BTreeMap<&'static str, u64>,
 }
 
-/// Why a frame is passed over: these numbers must be seen `OFTEN` times as often as all else.
-const REASONS: RangeInclusive<u32> = 30..=34;
+/// A frame at which old sessions are emptied, since no block is free.
+pub const EMPTIED: &str = "emptied: old sessions with bytes in hand";
+/// No block, and why a frame is passed over: these numbers, and `EMPTIED`, must be seen `OFTEN`
+/// times as often as all else.
+const OFTEN_NUMBERS: [u32; 6] = [26, 30, 31, 32, 33, 34];
 const OFTEN: u64 = 10;
 
 impl Tally {
@@ -67,14 +70,15 @@ impl Tally {
 
     /// What was seen fewer than `minimum` times, or than its own minimum.
     pub fn short_of(&self, minimum: u64) -> Vec<String> {
+        let wanted = |often| if often { OFTEN * minimum } else { minimum };
         let numbers = self.numbers.iter().map(|(number, count)| {
-            let often = if REASONS.contains(number) { OFTEN } else { 1 };
-            (number.to_string(), count, often * minimum)
+            let wanted = wanted(OFTEN_NUMBERS.contains(number));
+            (number.to_string(), count, wanted)
         });
         let cases = self
             .cases
             .iter()
-            .map(|(case, count)| (case.to_string(), count, minimum));
+            .map(|(case, count)| (case.to_string(), count, wanted(*case == EMPTIED)));
         numbers
             .chain(cases)
             .filter(|(_, count, wanted)| *count < wanted)
@@ -97,11 +101,13 @@ fn field(at: isize) -> String {
         OWN => "own ID".to_string(),
         COUNT => "number of subscriptions".to_string(),
         SIGNATURES..TIMES => format!("signature {}", of(SIGNATURES, 8)),
-        TIMES..SUBSCRIPTION_KEYS => format!("time of place {}", of(TIMES, 8)),
+        TIMES..FREE => format!("time of place {}", of(TIMES, 8)),
+        FREE..SUBSCRIPTION_KEYS => "free blocks".to_string(),
         SUBSCRIPTION_KEYS..STREAM_KEYS => format!("subscription {}", of(SUBSCRIPTION_KEYS, 4)),
         STREAM_KEYS..CONTROLS => format!("stream of place {}", of(STREAM_KEYS, 4)),
-        CONTROLS..GATHERED => format!("control {} of place {}", at % 4, of(CONTROLS, 4)),
-        GATHERED..SIZE => format!("bytes of place {}", of(GATHERED, MOST_GATHERED)),
+        CONTROLS..BLOCK_LISTS => format!("control {} of place {}", at % 4, of(CONTROLS, 4)),
+        BLOCK_LISTS..BLOCK_BYTES => format!("blocks of place {}", of(BLOCK_LISTS, LIST)),
+        BLOCK_BYTES..SIZE => format!("bytes of block {}", of(BLOCK_BYTES, BLOCK)),
         _ => return String::new(),
     };
     format!(" ({name})")

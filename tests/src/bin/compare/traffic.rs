@@ -4,8 +4,9 @@
 use crate::cables::{any_interface, other_interface, Cables, Carried};
 use crate::random::Random;
 use crate::states;
+use reference::blocks::needed;
 use reference::crc::transfer_checksum;
-use reference::frame::{next_transfer_id, Stream, Tail, ID_END};
+use reference::frame::{next_transfer_id, Stream, Tail, FRAME_PAYLOAD, ID_END};
 use reference::receive::{Receiver, LONGEST_PAYLOAD};
 use reference::send::split;
 use reference::session::{Session, FAR_AHEAD, MOST_GATHERED, SWITCH_DELAY, TIMEOUT};
@@ -30,8 +31,12 @@ enum Mood {
     /// Talkers, disturbed by little else, so that long transfers come to their end.
     Calm,
     Mixed,
+    /// Many long transfers at once, more than there are blocks for.
+    Crowded,
     /// Frames aimed at the sessions that are there.
     Aimed,
+    /// The same, but only the first few, as blocks are soon free again.
+    Pressed,
 }
 
 pub struct Traffic {
@@ -47,16 +52,34 @@ impl Traffic {
         let mood = match random.below(56) {
             0 => Mood::Calm,
             1 | 2 => Mood::Mixed,
+            3 => Mood::Crowded,
             _ => Mood::Aimed,
         };
+        Traffic::of_mood(mood, random, receiver, clock)
+    }
+
+    /// Frames for a receiver that has no block to give.
+    pub fn pressed(random: &mut Random, receiver: &Receiver, clock: u64) -> Traffic {
+        Traffic::of_mood(Mood::Pressed, random, receiver, clock)
+    }
+
+    fn of_mood(mood: Mood, random: &mut Random, receiver: &Receiver, clock: u64) -> Traffic {
         let (counts, paces): (&[usize], &[u64]) = match mood {
             Mood::Calm => (&[1, 2, 4, 8, 33], &[1, 60, 2_000]),
             Mood::Mixed => (&[1, 6, 20, 40, 60], &[1, 60, 2_000, 20_000, 200_000]),
-            Mood::Aimed => (&[6], &[1, 2_000]),
+            Mood::Crowded => (&[9, 12, 20, 31], &[60, 2_000, 10_000, 20_000]),
+            Mood::Aimed | Mood::Pressed => (&[6], &[1, 2_000]),
         };
         let count = random.pick(counts);
+        let mut talkers: Vec<Talker> = (0..count).map(|_| Talker::new(random, receiver)).collect();
+        if mood == Mood::Crowded {
+            for (talker, source) in talkers.iter_mut().zip(1..) {
+                talker.stream.source = source;
+                talker.long = true;
+            }
+        }
         Traffic {
-            talkers: (0..count).map(|_| Talker::new(random, receiver)).collect(),
+            talkers,
             cables: Cables::new(random),
             clock,
             pace: random.pick(paces),
@@ -69,12 +92,15 @@ impl Traffic {
         match self.mood {
             Mood::Calm => random.pick(&[300, 3000]),
             Mood::Mixed => random.pick(&[15, 60, 300, 3000]),
+            Mood::Crowded => random.pick(&[200, 600]),
             Mood::Aimed => random.pick(&[15, 60]),
+            Mood::Pressed => 4,
         }
     }
 
     pub fn next(&mut self, random: &mut Random, receiver: &Receiver) -> Call {
-        let disturbed = self.mood != Mood::Calm || random.once_in(100);
+        let calm = matches!(self.mood, Mood::Calm | Mood::Crowded);
+        let disturbed = !calm || random.once_in(100);
         let clock = self.clock.saturating_add(random.below(self.pace));
         if let Some(copy) = self.cables.come_by(clock) {
             return self.carried(random, copy, disturbed);
@@ -82,10 +108,13 @@ impl Traffic {
         self.clock = clock;
         let session = notable(random, receiver);
         let share = match self.mood {
-            Mood::Calm if !disturbed => 0,
+            _ if !disturbed => 0,
             Mood::Aimed => random.between(45, 90),
+            Mood::Pressed => random.between(45, 99),
             _ => random.below(100),
         };
+        // of so many ends one has a wrong checksum
+        let wrong = if self.mood == Mood::Pressed { 2 } else { 4 };
         let ((id, data), interface, near) = match (share, session) {
             (0..=49, _) => {
                 let near = session.filter(|_| disturbed && random.once_in(16));
@@ -98,7 +127,7 @@ impl Traffic {
             (50..=84, Some(session)) => {
                 let age = random.pick(&[SWITCH_DELAY, TIMEOUT]);
                 (
-                    aimed(random, receiver, session),
+                    aimed(random, receiver, session, wrong),
                     aimed_interface(random, session),
                     random.once_in(4).then_some((session, age)),
                 )
@@ -156,18 +185,31 @@ impl Traffic {
     }
 }
 
-/// A session at random, with a liking for full ones and for the oldest.
+/// A session at random, with a liking for full ones, for the oldest, and for one that is about to
+/// need a block.
 fn notable<'a>(random: &mut Random, receiver: &'a Receiver) -> Option<&'a Session> {
     let sessions: Vec<&Session> = receiver.places.iter().flatten().collect();
     if sessions.is_empty() {
         return None;
     }
     let (one, other) = (random.pick(&sessions), random.pick(&sessions));
+    let later = sessions.iter().cycle().skip(random.index(sessions.len()));
+    let mut later = later.take(sessions.len());
     match random.below(8) {
-        0..=3 if one.gathered.len() < other.gathered.len() => Some(other),
-        4 => sessions.into_iter().min_by_key(|session| session.time),
+        0..=2 if one.gathered.len() < other.gathered.len() => Some(other),
+        3 => sessions.into_iter().min_by_key(|session| session.time),
+        4..=6 => later
+            .find(|session| needs_another(session))
+            .copied()
+            .or(Some(one)),
         _ => Some(one),
     }
+}
+
+/// Whether bytes are in hand, and the next full frame needs a block that the session does not have.
+fn needs_another(session: &Session) -> bool {
+    let count = session.gathered.len();
+    count > 0 && needed(count + FRAME_PAYLOAD) > session.blocks.len()
 }
 
 fn room(random: &mut Random, disturbed: bool) -> usize {
@@ -267,12 +309,17 @@ pub fn payload_length(random: &mut Random, long: bool) -> usize {
 }
 
 /// A frame of a session's stream that fits it, or nearly so.
-fn aimed(random: &mut Random, receiver: &Receiver, session: &Session) -> (u32, Vec<u8>) {
+fn aimed(
+    random: &mut Random,
+    receiver: &Receiver,
+    session: &Session,
+    wrong: u64,
+) -> (u32, Vec<u8>) {
     let tail = aimed_tail(random, session);
     let count = aimed_count(random, tail, session);
     let mut data = random.bytes(count);
     let signature = receiver.signature(&session.stream).unwrap_or(0);
-    if tail.end && !random.once_in(4) {
+    if tail.end && !random.once_in(wrong) {
         forge(&mut data, signature, &session.gathered);
     }
     data.push(tail.byte());

@@ -10,30 +10,38 @@ use std::fmt::Write;
 
 /// More streams than the receiver has places.
 const TALKERS: usize = 48;
+/// Long transfers of so many at once need more blocks than there are.
+const CROWD: usize = 20;
 /// The largest time of a log, in milliseconds.
 const LAST: u64 = 999_999_999_999;
 
 pub fn log(random: &mut Random, lines: u64) -> Vec<u8> {
     let mut talkers: Vec<Talker> = (0..TALKERS).map(|_| Talker::new(random)).collect();
-    let (mut clock, mut talking) = (0, 1);
+    let (mut clock, mut talking) = (0, CROWD);
     let mut log = Vec::new();
-    for _ in 0..lines {
-        clock = tick(random, clock);
-        if random.once_in(2000) {
+    for line in 0..lines {
+        // first many long transfers, without leaps of the clock, which leave few places for them
+        let crowded = line < lines / 10;
+        clock = if crowded {
+            line / 2
+        } else {
+            tick(random, clock)
+        };
+        if !crowded && random.once_in(2000) {
             talking = random.pick(&[1, 2, 4, 12, TALKERS]);
         }
-        // with few talkers the link is better, so that long transfers come to their end
-        let trouble = if talking <= 4 { 600 } else { 30 };
+        // with few talkers, or long transfers, the link is better, so that these come to their end
+        let trouble = if crowded || talking <= 4 { 600 } else { 30 };
         let talker = &mut talkers[random.index(talking)];
         // about a second later, the start again: on one cable this alone shows the switch delay
-        if random.once_in(1000) {
+        if !crowded && random.once_in(1000) {
             talker.next = 0;
             clock = (clock + 990 + random.below(20)).min(LAST);
         }
         let (id, data) = match random.below(16) {
             0 => wild(random),
             1 if talker.next > 0 && random.once_in(8) => talker.start_again(random),
-            _ => talker.speak(random, trouble),
+            _ => talker.speak(random, trouble, crowded),
         };
         let line = text(clock, id, &data);
         match random.below(trouble) {
@@ -158,9 +166,9 @@ impl Talker {
         }
     }
 
-    fn speak(&mut self, random: &mut Random, trouble: u64) -> (u32, Vec<u8>) {
+    fn speak(&mut self, random: &mut Random, trouble: u64, long: bool) -> (u32, Vec<u8>) {
         if self.next >= self.frames.len() {
-            self.begin(random);
+            self.begin(random, long);
         }
         let mut data = self.frames[self.next].clone();
         match random.below(trouble) {
@@ -192,7 +200,7 @@ impl Talker {
     }
 
     /// The next transfer, and at times another stream.
-    fn begin(&mut self, random: &mut Random) {
+    fn begin(&mut self, random: &mut Random, long: bool) {
         if random.once_in(8) {
             self.stream = talked(random);
         }
@@ -200,6 +208,7 @@ impl Talker {
         self.anonymous = random.once_in(16) && !self.stream.transfer_type.is_service();
         let length = match random.below(16) {
             _ if self.anonymous => random.index(8),
+            _ if long => LONGEST_PAYLOAD + 20 - random.index(100),
             0..=8 => random.index(8),
             9..=12 => random.index(40),
             13 => random.index(LONGEST_PAYLOAD + 1),

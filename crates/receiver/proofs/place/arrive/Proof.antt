@@ -1,25 +1,20 @@
 -- `place::arrive` meets its contract: the stream has a place, or its start gets one.
 use mathlib.Core.Path.{_≡_, refl, sym, ap, _∙_}
+use mathlib.Core.Bool.{Bool, false}
 use mathlib.Core.List.{List}
 use mathlib.Core.Option.{Option}
 use Prim.Native.Nat.{ℕ, _<_}
-use native.Mathlib.Nat.{zero-add}
 use native.Mathlib.Omega.{arith}
-use lib.ListN.{getD}
 use Rattle.bits.proofs.Octets.{octets-all}
-use mathlib.Core.Bool.{Bool, true, false}
-use Rattle.rules.specs.Check.{Parsed}
-use Rattle.rules.specs.Reception.{store, stepSeek, stepStart, sessionIn}
-use Rattle.rules.specs.Session.{Session, react}
-use Rattle.rules.specs.Table.{Place, empty}
+use Rattle.rules.specs.Reception.{stepSeek, stepStart, stepHeld}
+use Rattle.rules.specs.Table.{Place}
 use Rattle.receiver.specs.Receive.{lent}
 use Rattle.session.specs.inside.Session.{streamOf, parsedOf}
 use Rattle.session.specs.declared.Incoming.{Incoming}
-use Rattle.state.specs.Layout.{keyAt, sessionAt, placeAt, placesOf}
+use Rattle.state.specs.Layout.{placesOf}
 use Rattle.frame.specs.Key.{keyOf, streamOfKey}
-use Rattle.state.specs.Sound.{soundState}
-use Rattle.bits.proofs.Tabulate.{tab-at}
-use Rattle.state.proofs.Faultless.{long, place-held}
+use Rattle.state.proofs.Faultless.{long}
+use Rattle.state.proofs.Table as table
 use Rattle.receiver.proofs.Lent.{head-key, key-some, key-word, untouched}
 use Rattle.receiver.proofs.Seek.{place-of, no-place-of, key-found}
 use borrow.Author.Needs.{needs}
@@ -29,12 +24,6 @@ use Rattle.receiver.proofs.place.arrive.Tie as tie
 -- the step at the place that was found
 at-place : (m out p : List ℕ) (h : Incoming) {o q : Option ℕ} → o ≡ q → lent m out (stepSeek q (placesOf m) (parsedOf h p)) ≡ lent m out (stepSeek o (placesOf m) (parsedOf h p))
 at-place m out p h e = ap (λ (x : Option ℕ). lent m out (stepSeek x (placesOf m) (parsedOf h p))) (sym e)
-
--- the session in a place that is held
-session-of : (m : List ℕ) → soundState m ≡ true → (i : ℕ) → i < 32 → (keyAt m i ≡ 0 → ⊥) → (v : Parsed) → sessionIn (getD (placesOf m) i empty) v ≡ sessionAt m i
-unfolding placesOf
-session-of m fine i h z v =
-    ap (λ (x : Place). sessionIn x v) (tab-at (placeAt m) empty 0 32 i h ∙ ap (placeAt m) (zero-add i) ∙ place-held m fine i h z)
 
 key-requires : tie.Need-key-requires
 key-requires c κs = search needs
@@ -86,13 +75,11 @@ returns c =
     let g : streamOfKey (y .key .result) ≡ d = ap streamOfKey f ∙ head-key d (q .transferType) (q .type) (q .source) (q .destination) in
     let v = parsedOf (a .f) (a .p .now) in
     let i = n .scan .result in
-    let at : keyAt m i ≡ y .key .result = key-found m o (long m (q .sound)) d (y .key .result) z w g i (n .scan .ensures) (t .if1 .taken) in
-    k .known .ensures
-    ∙ ap (λ (x : Session). lent m (a .out .now) (store (placesOf m) i d (react x v))) (sym (session-of m (q .sound) i (t .if1 .taken) (λ e. z (sym at ∙ e)) v))
+    k .known .ensures ∙ ap (λ (x : Place). lent m (a .out .now) (stepHeld (placesOf m) i x v)) (sym (table.place-of m i (t .if1 .taken)))
     ∙ at-place m (a .out .now) (a .p .now) (a .f) (place-of m o (long m (q .sound)) d (y .key .result) z w g i (n .scan .ensures) (t .if1 .taken))
 
 unknown-requires : tie.Need-unknown-requires
-unknown-requires c κs = search needs
+unknown-requires c κs = (c .before .before .before .before .before .before .before .before .before .before .pre, (c .before .before .before .before .before .before .key .ensures, c .before .before .if2 .taken))
 
 same-length-3 : tie.Need-same-length-3
 same-length-3 c = search needs

@@ -1,40 +1,55 @@
--- `place::load` meets its contract: all bytes of the place are copied.
-use mathlib.Core.Path.{refl}
+-- `place::load` meets its contract: the fields are where the layout says.
 use native.Mathlib.Omega.{arith}
-use Rattle.sessions.proofs.Stored.{loaded}
+use Rattle.state.specs.Layout.{countAt}
+use Rattle.sessions.proofs.Stored.{fields, loaded}
 use borrow.Author.Needs.{needs}
 use Rattle.sessions.proofs.place.load.Statement.{statement}
 use Rattle.sessions.proofs.place.load.Tie as tie
 
-progress-requires : tie.Need-progress-requires
-progress-requires c κs = search needs
+mul-at : tie.Need-mul-at
+mul-at c = search needs
 
-slice-aggregate-copy-span : tie.Need-slice-aggregate-copy-span
-slice-aggregate-copy-span c = search needs
+add-at : tie.Need-add-at
+add-at c = search needs
 
-mul-copy-span : tie.Need-mul-copy-span
-mul-copy-span c = search needs
+get-at-requires : tie.Need-get-at-requires
+get-at-requires c κs = search needs
 
-add-copy-span : tie.Need-add-copy-span
-add-copy-span c = search needs
+time-requires : tie.Need-time-requires
+time-requires c κs = search needs
 
-copy-span-requires : tie.Need-copy-span-requires
-copy-span-requires c κs = search needs
+add-flags : tie.Need-add-flags
+add-flags c = search needs
+
+shared-slice-read-flags : tie.Need-shared-slice-read-flags
+shared-slice-read-flags c = search needs
+
+add-t7 : tie.Need-add-t7
+add-t7 c = search needs
+
+shared-slice-read-t10 : tie.Need-shared-slice-read-t10
+shared-slice-read-t10 c = search needs
 
 returns : tie.Need-returns
+unfolding countAt
 returns c =
-    let y = c .before in
-    let p = y .before .before in
-    let a = p .before .before .args in
-    loaded (a .state .now) _ _ (a .i) (p .progress .result) (omega arith) (omega arith) (omega arith) refl (p .progress .ensures) (y .copy-span .ensures)
+    let t = c .before .before in
+    let g = t .before in
+    let a = g .before .before .args in
+    let m = a .state .now in
+    let f = fields m (a .i) (omega arith) (omega arith) in
+    loaded m (a .i) _ _ _ _ (f .0) (f .1) (t .time .ensures) (g .get-at .ensures)
 
 pub load-spec : {M : Type 1} → statement M
 load-spec =
     tie.close
     (tie.spec
-    progress-requires
-    slice-aggregate-copy-span
-    mul-copy-span
-    add-copy-span
-    copy-span-requires
+    mul-at
+    add-at
+    get-at-requires
+    time-requires
+    add-flags
+    shared-slice-read-flags
+    add-t7
+    shared-slice-read-t10
     returns)

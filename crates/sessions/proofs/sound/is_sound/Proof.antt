@@ -13,7 +13,7 @@ use Rattle.bits.proofs.Tabulate.{length-tabulate}
 use Rattle.keys.specs.inside.Keys.{distinct}
 use Rattle.rules.specs.Limits.{sessionsMax, subscriptionsMax}
 use Rattle.rules.specs.Setup.{acceptable, allFit}
-use Rattle.sessions.specs.inside.Sound.{emptyOrFits, keysOf}
+use Rattle.sessions.specs.inside.Sound.{emptyOrFits, keysOf, shares}
 use Rattle.sessions.proofs.Soundness.{whole}
 use Rattle.state.specs.Layout.{ownAt, subscriptionCountAt, size, keyAt, setupOf, subscriptionAt}
 use Rattle.bits.specs.Tabulate.{every}
@@ -45,7 +45,7 @@ module _ (m : List ℕ) where
 
       -- after the length and the numbers: subscriptions, then places
       module _ (few : n ≤ subscriptionsMax) (b : Bool) (fit : allFit (setupOf m .subscriptions) ≡ b) (bytes : Octets m) where
-        tested : (b && (every (emptyOrFits m) 0 sessionsMax && distinct (keysOf m))) ≡ soundState m
+        tested : (b && ((every (emptyOrFits m) 0 sessionsMax && distinct (keysOf m)) && shares m)) ≡ soundState m
         unfolding soundState acceptable setupOf
         tested = rw (whole m bytes long, le-leb size (length m) long, named, length-tabulate (subscriptionAt m) 0 n, le-leb n subscriptionsMax few, fit)
 
@@ -92,7 +92,7 @@ returns-4 c =
     let o = e .before .before in
     let m = o .before .before .args .state .now in
     let bytes = octets-all m (λ i. omega (arith, o .before .shared-slice-known .given i)) in
-    c .places-sound .ensures ∙ ap (λ x. every (emptyOrFits m) 0 sessionsMax && distinct x) (d .load .ensures)
+    c .places-sound .ensures ∙ ap (λ x. (every (emptyOrFits m) 0 sessionsMax && distinct x) && shares m) (d .load .ensures)
     ∙ tested m (o .if1 .left) (e .if2 .left) (a .before .if3 .left) true (sym (a .all-fit .ensures) ∙ d .before .before .if4 .taken) bytes
 
 returns-5 : tie.Need-returns-5

@@ -1,0 +1,3 @@
+pub mod Set
+pub mod Stores
+pub mod inside
