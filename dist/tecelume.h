@@ -1,4 +1,5 @@
-/* Tecelume 0.2.0: UAVCAN v0 (DroneCAN) transfers from CAN 2.0B frames, and frames from transfers. For C99 and later, and C++11 and later.
+/* Tecelume 0.2.0: UAVCAN v0 (DroneCAN) transfers from CAN 2.0B frames, frames from transfers, node IDs, and signatures of type definitions.
+ * For C99 and later, and C++11 and later.
  *
  * The functions are in libtecelume.a, which is for x86-64 Linux only, and in tecelume.c, the same library as one file of portable C. This
  * header goes with both. At the start of your program compare tecelume_version() with TECELUME_VERSION.
@@ -55,6 +56,8 @@ uint32_t tecelume_version(void);
 #define TECELUME_ALLOCATOR_SIZE 2151   /* the state of an allocator */
 #define TECELUME_REPLY_SIZE 17         /* the output buffer of tecelume_allocate: the longest reply */
 #define TECELUME_UNIQUE_ID_SIZE 16     /* a node's unique ID */
+#define TECELUME_LENGTHS_SIZE 8        /* of a type definition: the lengths of name (4) and text (4), low bytes first */
+#define TECELUME_SIGNED_SIZE 12        /* a record from tecelume_signatures: length of the form (4), signature (8), low bytes first */
 
 /* The output buffer of tecelume_send for a payload of n bytes, at most TECELUME_PAYLOAD_MAX. It is a constant if n is one, and evaluates n
  * more than once. */
@@ -71,6 +74,9 @@ uint32_t tecelume_version(void);
 #define TECELUME_PAYLOAD_MAX 512
 #define TECELUME_FRAMES_MAX 74       /* what a payload of that length is sent as */
 #define TECELUME_ALLOCATIONS_MAX 125 /* nodes in an allocator's table; their IDs are 1 to 125 */
+#define TECELUME_DEFINITIONS_MAX 8   /* type definitions in one call */
+#define TECELUME_TEXT_MAX 4096       /* bytes of a definition's text */
+#define TECELUME_NAME_MAX 80         /* characters of a type's full name */
 
 /* ---- the numbers answered ---- */
 
@@ -91,6 +97,7 @@ uint32_t tecelume_version(void);
  *   8   receive: out has under TECELUME_OUTPUT_SIZE bytes                        call again with more room
  *       send: out has under TECELUME_SEND_SIZE(payload_len) bytes                the same
  *       allocate: the reply is longer than out                                   the same; TECELUME_REPLY_SIZE bytes always do
+ *       signatures: the forms are longer than out, or too few records            the same
  *   9   receive: start of a new stream, 32 sessions in use and none is old       subscribe to less; a later start may be taken
  *       send: new topic, 32 entries in use, none unused for 2,000,000 or more    use fewer topics, or call again later
  *  11   receive: payload over 512 bytes; the transfer is dropped                 nothing: too long for this library
@@ -127,12 +134,19 @@ uint32_t tecelume_version(void);
  *  34   receive: passed over, by another interface than the one that the         nothing: normal with several cables; if a stream
  *       stream follows                                                           has no other answer, the cable that it follows
  *                                                                                has failed: see interfaces, below
+ *  40   signatures: a definition is not in the grammar. The result has the       correct that line of the text
+ *       definition and the line, or line 0 if the name is no full name
+ *  41   signatures: a nested type is not among the definitions, or is a          give its definition as well
+ *       service
+ *  42   signatures: types are nested in a circle, or more than 4 deep            nothing: such types cannot be
+ *  43   signatures: more than 8 definitions, a text over 4096 bytes, lengths     give fewer, cut comments, give each name once
+ *       past the source, or a name twice
  *
- * Under 2 to 9, 13 to 16, 19, 20 and 31 to 34 a call leaves state or map and out byte for byte as they were. Under 11, 12, 26 and 30
- * tecelume_receive leaves out as it was. Of the sessions it changes the one of the frame's stream, under 30 only an old one; under 12 it may
- * have emptied old ones for a block, and under 26 a new session may have got an old one's place. A tecelume_send that answers 11 changes
- * nothing. Under 21 tecelume_allocate leaves out as it was and drops the gathered bytes of the unique ID. 10 is no answer any more: version
- * 0.1 gave it for 30 to 33. */
+ * Under 2 to 9, 13 to 16, 19, 20, 31 to 34 and 40 to 43 a call leaves state, map, records and out byte for byte as they were. Under 11, 12,
+ * 26 and 30 tecelume_receive leaves out as it was. Of the sessions it changes the one of the frame's stream, under 30 only an old one; under
+ * 12 it may have emptied old ones for a block, and under 26 a new session may have got an old one's place. A tecelume_send that answers 11
+ * changes nothing. Under 21 tecelume_allocate leaves out as it was and drops the gathered bytes of the unique ID. 10 is no answer any more:
+ * version 0.1 gave it for 30 to 33. */
 enum tecelume_answer {
     TECELUME_SUCCESS = 0, /* of setup, sending and handing out node IDs */
     TECELUME_TAKEN = 0,   /* of tecelume_receive */
@@ -159,7 +173,11 @@ enum tecelume_answer {
     TECELUME_WRONG_TOGGLE = 31,
     TECELUME_WRONG_TRANSFER = 32,
     TECELUME_REPEATED_START = 33,
-    TECELUME_OTHER_INTERFACE = 34
+    TECELUME_OTHER_INTERFACE = 34,
+    TECELUME_NOT_IN_GRAMMAR = 40,
+    TECELUME_NESTED_NOT_GIVEN = 41,
+    TECELUME_NESTED_TOO_DEEP = 42,
+    TECELUME_DEFINITIONS_TOO_LARGE = 43
 };
 
 /* One line for each number that is an answer, those of calls that are not in this header included. */
@@ -194,14 +212,18 @@ static inline const char *tecelume_text(uint32_t number)
     case 32: return "passed over, wrong transfer ID: a repeat of the transfer before, or the start of this one was lost";
     case 33: return "passed over: a repeat of the start of the transfer in hand";
     case 34: return "passed over: by another interface than the one that the stream follows";
+    case 40: return "a type definition is not in the grammar";
+    case 41: return "a nested type is not given, or is a service";
+    case 42: return "types nested in a circle, or more than 4 deep";
+    case 43: return "more than 8 type definitions, a text over 4096 bytes, lengths past the source, or a name twice";
     default: return "unknown number";
     }
 }
 
 /* ---- results ---- */
 
-/* What tecelume_receive, tecelume_send and tecelume_allocate give. It is a struct so that a comparison with a number does not compile: the
- * number answered is only a part of it. The functions below read it. */
+/* What tecelume_receive, tecelume_send, tecelume_allocate and tecelume_signatures give. It is a struct so that a comparison with a number
+ * does not compile: the number answered is only a part of it. The functions below read it. */
 typedef struct {
     uint64_t word;
 } tecelume_result;
@@ -231,8 +253,8 @@ enum tecelume_kind {
  * (BatteryInfo) and 1030 (RawCommand), service 1 (GetNodeInfo). 0 for any other kind or type ID.
  *
  * Check for 0. Setup and send accept every signature, 0 too. Single frames then come through, but transfers of several frames fail with 12:
- * here, if a sender has the right signature, and at every receiver that has it. For a type of your own take the signature from the tool
- * that reads its definition. */
+ * here, if a sender has the right signature, and at every receiver that has it. tecelume_signatures works out the signature of a
+ * type of your own. */
 uint64_t tecelume_signature(uint32_t kind, uint32_t type_id);
 
 /* Writes a subscription record of TECELUME_SUBSCRIPTION_SIZE bytes and gives the place after it, where the next one goes. It checks
@@ -567,6 +589,82 @@ static inline const uint8_t *tecelume_allocation_unique_id(const uint8_t *state,
 static inline uint32_t tecelume_allocation_node_id(const uint8_t *state, size_t entry)
 {
     return tecelume_allocation_unique_id(state, entry)[TECELUME_UNIQUE_ID_SIZE];
+}
+
+/* ---- signatures of type definitions ---- */
+
+/* A type definition is a full name, as uavcan.protocol.NodeStatus, and a text in the data structure description language (DSDL; RULES 17
+ * has the grammar). Its normalized form is its name and what of the text matters for compatibility: no comments or constants, full names
+ * of nested types, one spelling for all else. The signature is worked out from the form and from the signatures of the nested types, so
+ * the definitions of these are given in the same call. Subscriptions and sends take it.
+ *
+ * Definitions are given as a source, which has the first name, the first text, the second name and so on with nothing between, and a list
+ * of their lengths. */
+
+/* Writes the lengths of a definition, TECELUME_LENGTHS_SIZE bytes, and gives the place after them. A length of 2^32 or more becomes
+ * 2^32 - 1, which the call refuses, too. */
+static inline uint8_t *tecelume_lengths(uint8_t *lengths, size_t name_len, size_t text_len)
+{
+    int i;
+    const uint32_t most = 0xFFFFFFFFu;
+    uint32_t name = name_len < most ? (uint32_t)name_len : most, text = text_len < most ? (uint32_t)text_len : most;
+    for (i = 0; i < 4; i++)
+        *lengths++ = (uint8_t)(name >> (8 * i) & 255);
+    for (i = 0; i < 4; i++)
+        *lengths++ = (uint8_t)(text >> (8 * i) & 255);
+    return lengths;
+}
+
+/* Works out signatures as a result word (RULES 13.3), for callers in other languages. C programs call tecelume_signatures. */
+uint64_t tecelume_signatures_word(const uint8_t *source, size_t source_len, const uint8_t *lengths, size_t lengths_len, uint8_t *out,
+                                  size_t out_len, uint8_t *records, size_t records_len);
+
+/* Reads type definitions, and works out the normalized form and the signature of each.
+ *
+ * Takes    source   names and texts; bytes after the last text are ignored
+ *          lengths  TECELUME_LENGTHS_SIZE bytes a definition, at most TECELUME_DEFINITIONS_MAX; what is left over after the last whole one
+ *                   is ignored. None is allowed
+ *          out      room for all forms. A form may be longer than its text
+ *          records  TECELUME_SIGNED_SIZE bytes a definition
+ * Gives    a result: 0, with the forms one after another at the front of out, nothing between them, and a record for each definition,
+ *          both in the order given. Bytes after them stay.
+ * Refuses  first match of 43, 40, 41, 42 and 8 (RULES 17.12). All leave out and records as they were. 40 has the first definition at fault
+ *          and its first line at fault: tecelume_definition and tecelume_line.
+ * Costs    reads each text a few times, however often its type is nested; an array size of n digits takes work as n times n. */
+static inline tecelume_result tecelume_signatures(const uint8_t *source, size_t source_len, const uint8_t *lengths, size_t lengths_len,
+                                                  uint8_t *out, size_t out_len, uint8_t *records, size_t records_len)
+{
+    tecelume_result result;
+    result.word = tecelume_signatures_word(source, source_len, lengths, lengths_len, out, out_len, records, records_len);
+    return result;
+}
+
+/* The definition at fault, 1 for the first; 0 with a number other than 40. */
+static inline uint32_t tecelume_definition(tecelume_result result)
+{
+    return tecelume_number(result) == TECELUME_NOT_IN_GRAMMAR ? (uint32_t)(result.word >> 8 & 15) : 0;
+}
+
+/* The line at fault, 1 for the first, empty lines and comments counted; 0 for the name, and with a number other than 40. */
+static inline uint32_t tecelume_line(tecelume_result result)
+{
+    return tecelume_number(result) == TECELUME_NOT_IN_GRAMMAR ? (uint32_t)(result.word >> 16 & 65535) : 0;
+}
+
+/* Of a record: the length of the form in bytes. */
+static inline size_t tecelume_form_length(const uint8_t *record)
+{
+    return (size_t)record[0] | (size_t)record[1] << 8 | (size_t)record[2] << 16 | (size_t)record[3] << 24;
+}
+
+/* Of a record: the signature. */
+static inline uint64_t tecelume_form_signature(const uint8_t *record)
+{
+    uint64_t signature = 0;
+    int i;
+    for (i = 11; i >= 4; i--)
+        signature = signature << 8 | record[i];
+    return signature;
 }
 
 #ifdef __cplusplus

@@ -141,6 +141,8 @@ class Body(Values):
             self.spoilt |= {i} & set(self.pending)
             self.made[i] += 1
             if i in self.candidates and (i, self.made[i]) not in self.kept:
+                if e.fill is not None:
+                    refuse('a value that waits,', e.text)
                 e.own = (i, self.made[i])
                 e.temps |= {e.own}
                 self.pending[i] = e
@@ -151,6 +153,10 @@ class Body(Values):
             self.lines.put(f'(void){e.inner()};')
             return
         to = self.place(place)
+        if e.fill is not None:
+            self.flush()
+            self.lines.put(f'memset(&{to.text}, {e.fill}, sizeof {to.text});')
+            return
         if e.kind == 'calls' and any(step[0] == 'deref' for step in place.steps):
             self.keep(e)
         self.flush()

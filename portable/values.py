@@ -225,11 +225,18 @@ class Values:
         return Expr(self.shapes.made(symbol, k, [self.convert(p, t).text for p, t in zip(parts[1:], types)]), type_)
 
     def repeat(self, part, count, type_):
-        """C fills an array with zeros only."""
-        if part.constant not in (0, False) or type_ != ('array', part.type, count):
+        """C fills an array with zeros by itself, and with another byte by memset; a few copies of true are written out."""
+        if type_ != ('array', part.type, count):
             refuse('an array of copies of', part.text)
-        zero = 'false' if part.type == ('bool',) else '0u'
-        return Expr(f'MAKE({self.shapes.c_type(type_)}){{ {{ {zero} }} }}', type_)
+        if part.constant is True and count <= 16:
+            inner = ', '.join(['true'] * count)
+        elif part.constant and self.shapes.c_type(part.type) == 'uint8_t':
+            return Expr(f'an array of copies of {part.text}', type_, fill=part.constant)
+        elif part.constant in (0, False):
+            inner = 'false' if part.type == ('bool',) else '0u'
+        else:
+            refuse('an array of copies of', part.text)
+        return Expr(f'MAKE({self.shapes.c_type(type_)}){{ {{ {inner} }} }}', type_)
 
     def separate(self, parts):
         """C does not say in which order operands are evaluated: a call may not stand beside what calls or reads memory."""

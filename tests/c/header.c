@@ -816,6 +816,13 @@ static const struct {
     {"allocator_kept", allocator_kept},
     {"table_of_an_allocator", table_of_an_allocator},
     {"allocator_faults", allocator_faults},
+    {"forms_and_signatures", forms_and_signatures},
+    {"given_and_ignored", given_and_ignored},
+    {"definition_and_line", definition_and_line},
+    {"refused_definitions", refused_definitions},
+    {"room_of_forms", room_of_forms},
+    {"limits_of_definitions", limits_of_definitions},
+    {"lengths_that_are_too_large", lengths_that_are_too_large},
 };
 
 int main(int count, char **words)

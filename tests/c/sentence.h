@@ -1,4 +1,4 @@
-/* What the sentences of header.c and allocator.c share. */
+/* What the sentences of header.c, allocator.c and definitions.c share. */
 #ifndef SENTENCE_H
 #define SENTENCE_H
 
@@ -25,5 +25,14 @@ void refused_allocations(void);
 void allocator_kept(void);
 void table_of_an_allocator(void);
 void allocator_faults(void);
+
+/* Those of definitions.c. */
+void forms_and_signatures(void);
+void given_and_ignored(void);
+void definition_and_line(void);
+void refused_definitions(void);
+void room_of_forms(void);
+void limits_of_definitions(void);
+void lengths_that_are_too_large(void);
 
 #endif

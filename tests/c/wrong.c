@@ -481,3 +481,90 @@ uint64_t __wrap_tecelume_allocate_word(uint8_t *state, size_t state_len, uint32_
         word = TECELUME_SUCCESS;
     return answer(word, OTHER);
 }
+
+/* ---- type definitions ---- */
+
+/* The arguments of a call. */
+struct texts {
+    const uint8_t *source, *lengths;
+    size_t source_len, lengths_len;
+    uint8_t *out, *records;
+    size_t out_len, records_len;
+};
+
+uint64_t __real_tecelume_signatures_word(const uint8_t *source, size_t source_len, const uint8_t *lengths, size_t lengths_len, uint8_t *out,
+                                         size_t out_len, uint8_t *records, size_t records_len);
+
+static uint64_t signatures(const struct texts *t)
+{
+    return __real_tecelume_signatures_word(t->source, t->source_len, t->lengths, t->lengths_len, t->out, t->out_len, t->records,
+                                           t->records_len);
+}
+
+/* Changes the arguments. */
+static void misread_texts(struct texts *t)
+{
+    if (is("seven-definitions-at-most") && t->lengths_len / TECELUME_LENGTHS_SIZE == TECELUME_DEFINITIONS_MAX)
+        t->source_len = 0;
+    if (is("ninth-definition-ignored") && t->lengths_len / TECELUME_LENGTHS_SIZE > TECELUME_DEFINITIONS_MAX)
+        t->lengths_len = TECELUME_DEFINITIONS_MAX * TECELUME_LENGTHS_SIZE;
+    if (is("records-not-counted") && t->records_len % TECELUME_SIGNED_SIZE == TECELUME_SIGNED_SIZE - 1)
+        t->records_len++;
+}
+
+/* The number in place of the call; OTHER for none. */
+static uint32_t refused_texts(const struct texts *t)
+{
+    size_t left = t->lengths_len % TECELUME_LENGTHS_SIZE;
+    if (is("odd-lengths-refused") && left != 0)
+        return TECELUME_DEFINITIONS_TOO_LARGE;
+    if (is("nothing-refused") && t->lengths_len == 0)
+        return TECELUME_DEFINITIONS_TOO_LARGE;
+    if (is("room-looked-at-first") && t->out_len == 0 && t->lengths_len > 0)
+        return TECELUME_OUTPUT_TOO_SMALL;
+    if (is("more-room-for-forms") && t->out_len < 200 && t->lengths_len > 0)
+        return TECELUME_OUTPUT_TOO_SMALL;
+    return OTHER;
+}
+
+/* Changes what the call leaves, and its word. */
+static uint64_t touch_texts(const struct texts *t, uint64_t word)
+{
+    uint32_t number = (uint32_t)(word & 255);
+    bool done = number == TECELUME_SUCCESS && t->lengths_len >= TECELUME_LENGTHS_SIZE;
+    if (is("refusal-touches-forms") && number != TECELUME_SUCCESS)
+        t->out[0] ^= 1;
+    if (is("refusal-touches-records") && number != TECELUME_SUCCESS)
+        t->records[0] ^= 1;
+    if (is("form-altered") && done)
+        t->out[5] ^= 1;
+    if (is("signature-high-byte-first") && done) {
+        uint8_t byte = t->records[4];
+        t->records[4] = t->records[11];
+        t->records[11] = byte;
+    }
+    if (is("touches-behind-the-records") && done)
+        t->records[t->records_len - 1] ^= 1;
+    if (number != TECELUME_NOT_IN_GRAMMAR)
+        return word;
+    if (is("lines-from-0") && word >> 16 > 0)
+        return word - ((uint64_t)1 << 16);
+    if (is("definitions-from-0"))
+        return word - ((uint64_t)1 << 8);
+    if (is("place-not-told"))
+        return number;
+    return word;
+}
+
+uint64_t __wrap_tecelume_signatures_word(const uint8_t *source, size_t source_len, const uint8_t *lengths, size_t lengths_len, uint8_t *out,
+                                         size_t out_len, uint8_t *records, size_t records_len)
+{
+    struct texts t = {source, lengths, source_len, lengths_len, out, records, out_len, records_len};
+    misread_texts(&t);
+    uint32_t number = refused_texts(&t);
+    uint64_t word = number != OTHER ? number : signatures(&t);
+    word = touch_texts(&t, word);
+    if (is("large-length-accepted") && word == TECELUME_DEFINITIONS_TOO_LARGE && lengths_len == TECELUME_LENGTHS_SIZE)
+        word = TECELUME_SUCCESS;
+    return answer(word, OTHER);
+}

@@ -10,11 +10,11 @@
 
 #include "tecelume.h"
 
-enum { CALLS = 100000, FOLD = 1000, LANES = 6, NODES = 2, TYPES = 6, NUMBERS = TECELUME_OTHER_INTERFACE + 1, ALLOCATEES = 140 };
+enum { CALLS = 100000, FOLD = 1000, LANES = 6, NODES = 2, TYPES = 6, NUMBERS = TECELUME_DEFINITIONS_TOO_LARGE + 1, ALLOCATEES = 140 };
 enum { BLOCKS_AT = 1584, FIRST_ENTRIES = 60 }; /* where the blocks of a receiver start; of an allocator, counts and two entries */
-enum entry { SETUP, RECEIVE, MAP_SETUP, SEND, ALLOCATOR_SETUP, ALLOCATE, OTHERS, ENTRIES };
+enum entry { SETUP, RECEIVE, MAP_SETUP, SEND, ALLOCATOR_SETUP, ALLOCATE, SIGNATURES, OTHERS, ENTRIES };
 
-static const char *const names[ENTRIES] = {"setup", "receive", "map_setup", "send", "allocator_setup", "allocate", "others"};
+static const char *const names[ENTRIES] = {"setup", "receive", "map_setup", "send", "allocator_setup", "allocate", "signatures", "others"};
 #define BIT(number) ((uint64_t)1 << (number))
 static const uint64_t must[ENTRIES] = {
     BIT(0) | BIT(13) | BIT(20),
@@ -23,6 +23,7 @@ static const uint64_t must[ENTRIES] = {
     BIT(0) | BIT(8) | BIT(9) | BIT(11) | BIT(14) | BIT(20),
     BIT(0) | BIT(20),
     BIT(0) | BIT(8) | BIT(13) | BIT(15) | BIT(16) | BIT(20) | BIT(21),
+    BIT(0) | BIT(8) | (BIT(44) - BIT(40)),
     BIT(0),
 };
 
@@ -197,6 +198,42 @@ static void allocate(void)
         node = (uint8_t)below(ALLOCATEES);
 }
 
+/* Definitions of a few lines each, which may nest each other; now and then too many, or a name twice. */
+static void define(void)
+{
+    static const char *const types[] = {"a.A", "a.B", "a.C", "a.D", "a.E", "a.b.F", "a.G", "a.H", "a.I"};
+    static const char *const lines[] = {
+        "uint8[<9] x", "B b # nested", "C[0x10] c", "D d", "a.E e", "int8 X = -128", "@union", "---", "void7", "float16 f", "", "bool x",
+        "wrong", "float64 Y = 1.7976931348623158e308", "uint64[99999999999999999999999] w",
+    };
+    enum { TYPES_GIVEN = sizeof types / sizeof types[0], LINES = sizeof lines / sizeof lines[0] };
+    static uint8_t source[2000];
+    uint8_t lengths[TYPES_GIVEN * TECELUME_LENGTHS_SIZE], records[TECELUME_DEFINITIONS_MAX * TECELUME_SIGNED_SIZE], *length = lengths;
+    uint32_t count = once_in(20) ? TYPES_GIVEN : below(6);
+    size_t at = 0, left = 0;
+    for (uint32_t i = 0; i < count; i++) {
+        const char *name = types[once_in(30) ? below(TYPES_GIVEN) : i];
+        size_t name_len = strlen(name), from = at + name_len;
+        memcpy(source + at, name, name_len);
+        at = from;
+        for (uint32_t n = below(3); n > 0; n--) {
+            const char *line = lines[below(LINES)];
+            memcpy(source + at, line, strlen(line));
+            at += strlen(line);
+            source[at++] = '\n';
+        }
+        length = tecelume_lengths(length, name_len, at - from);
+    }
+    size_t out_len = once_in(4) ? below(100) : sizeof out;
+    tecelume_result given = tecelume_signatures(source, at, lengths, (size_t)(length - lengths), out, out_len, records, sizeof records);
+    if (tecelume_number(given) == TECELUME_SUCCESS) {
+        for (uint32_t i = 0; i < count; i++)
+            left += tecelume_form_length(records + i * TECELUME_SIGNED_SIZE);
+        add(records, count * TECELUME_SIGNED_SIZE);
+    }
+    answered(SIGNATURES, given.word, left);
+}
+
 /* Any frame, or a long transfer that never ends. */
 static void receive_any(void)
 {
@@ -264,6 +301,8 @@ static void step(void)
         set_up_allocator();
     else if (which < 120)
         allocate();
+    else if (which < 150)
+        define();
     else if (which < 320)
         receive_any();
     else if (lane->next < lane->count)

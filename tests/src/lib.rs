@@ -8,6 +8,7 @@ pub mod blocks;
 pub mod codec;
 pub mod crc;
 pub mod definitions;
+pub mod dsdl;
 pub mod entry;
 pub mod frame;
 pub mod logs;

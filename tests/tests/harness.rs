@@ -45,3 +45,22 @@ fn other_program_fails() {
 fn rare_answers_fail() {
     assert_eq!(status(&["--self", "--minimum", "1000000"]), Some(1));
 }
+
+/// The exit status of a short run of the comparison of type definitions.
+fn dsdl(options: &[&str]) -> Option<i32> {
+    Command::new(env!("CARGO_BIN_EXE_dsdl"))
+        .args(["--texts", "20000", "--minimum", "10"])
+        .args(options)
+        .output()
+        .expect("the comparison runs")
+        .status
+        .code()
+}
+
+#[test]
+fn type_definitions_are_compared() {
+    assert_eq!(dsdl(&["--self"]), Some(0));
+    assert_eq!(dsdl(&["--self", "--minimum", "1000000"]), Some(1));
+    assert_eq!(dsdl(&["--mutant", "union-without-at"]), Some(1));
+    assert_eq!(dsdl(&["--mutant", "no-such"]), Some(2));
+}

@@ -2,9 +2,10 @@
 use mathlib.Core.List.{List}
 use Prim.Native.Nat.{ℕ, _+_, _*_, _^_}
 use Rattle.answers.specs.Setup.{numberOf}
-use Rattle.tecelume.specs.Word.{wordOf, sentWord, allocationWord}
+use Rattle.tecelume.specs.Word.{wordOf, sentWord, allocationWord, signaturesWord}
 use Rattle.allocator.specs.Allocate as allocate
 use Rattle.allocator.specs.Setup as allocator
+use Rattle.dsdl_signature.specs.Call as signing
 use Rattle.id_map.specs.Setup as map
 use Rattle.receiver.specs.Receive as receive
 use Rattle.sender.specs.Send as send
@@ -47,3 +48,15 @@ packedSend r = entry (sentWord (r .answer)) (r .map) (r .out)
 
 abbrev pub packedAllocation : allocate.Result → Called
 packedAllocation r = entry (allocationWord (r .answer)) (r .state) (r .out)
+
+-- of signatures: the result word, the output buffer and the records
+pub record Signed : Type 0 where
+  pub word : ℕ
+  pub out : List ℕ
+  pub records : List ℕ
+
+abbrev pub signed : ℕ → List ℕ → List ℕ → Signed
+signed w out records = record { word = w; out = out; records = records }
+
+abbrev pub packedSignatures : signing.Result → Signed
+packedSignatures r = signed (signaturesWord (r .answer)) (r .out) (r .records)

@@ -15,6 +15,8 @@ use Rattle.answers.specs.Sending as sending
 use Rattle.allocator.specs.Answer as allocator
 use Rattle.allocator.specs.Calls.{Call, resultOf}
 use Rattle.allocator.specs.declared.answer.Answer as allocator-answer
+use Rattle.dsdl_signature.specs.Call as signing
+use Rattle.dsdl_signature.specs.declared.answer.Answer as signing-answer
 use Rattle.rules.specs.Limits.{payloadMax}
 use Rattle.rules.specs.Range.{answered}
 
@@ -79,3 +81,14 @@ allocationWord a = allocator.numberOf a + allocator.lengthIn a * 2 ^ 8
 pub record AllocationWordLaws : Type 0 where
   pub number : (m : List ℕ) (c : Call) → numberIn (allocationWord (resultOf m c .answer)) ≡ allocator.numberOf (resultOf m c .answer)
   pub len : (m : List ℕ) (c : Call) → lengthIn (allocationWord (resultOf m c .answer)) ≡ allocator.lengthIn (resultOf m c .answer)
+
+-- ── the result word of signatures: the number in bits 0 to 7; with 40 the definition in 8 to 11 and the line in 16 to 31 ──
+
+abbrev pub signaturesWord : signing-answer.Answer → ℕ
+signaturesWord a = signing.numberOf a + (signing.definitionIn a * 2 ^ 8 + signing.lineIn a * 2 ^ 16)
+
+-- C reads all three
+pub record SignaturesWordLaws : Type 0 where
+  pub number : (source lengths out records : List ℕ) → let a = signing.signatures source lengths out records .answer in numberIn (signaturesWord a) ≡ signing.numberOf a
+  pub definition : (source lengths out records : List ℕ) → let a = signing.signatures source lengths out records .answer in signaturesWord a / 2 ^ 8 % 2 ^ 4 ≡ signing.definitionIn a
+  pub line : (source lengths out records : List ℕ) → let a = signing.signatures source lengths out records .answer in signaturesWord a / 2 ^ 16 % 2 ^ 16 ≡ signing.lineIn a

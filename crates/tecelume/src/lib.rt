@@ -6,11 +6,12 @@ use allocator_table::free::Reserved;
 use transport::Outgoing;
 ghost use mathlib.Core.Path.{_≡_};
 ghost use Rattle.tecelume.specs.Condition3.{wordBytes};
-ghost use Rattle.tecelume.specs.Entry.{version, numbered, numberedMap, numberedAllocator, entry, packed, packedSend, packedAllocation};
-ghost use Rattle.tecelume.specs.Word.{WordLaws, AllocationWordLaws};
+ghost use Rattle.tecelume.specs.Entry.{version, numbered, numberedMap, numberedAllocator, entry, packed, packedSend, packedAllocation, signed, packedSignatures};
+ghost use Rattle.tecelume.specs.Word.{WordLaws, AllocationWordLaws, SignaturesWordLaws};
 ghost use Rattle.allocator.specs.Allocate.{allocated};
 ghost use Rattle.allocator.specs.Setup as allocator;
 ghost use Rattle.allocator_table.specs.Layout as table;
+ghost use Rattle.dsdl_signature.specs.Call.{signatures};
 ghost use Rattle.id_map.specs.Layout as layout;
 ghost use Rattle.id_map.specs.Setup as setting;
 ghost use Rattle.receiver.specs.Receive.{arrivalOf, received};
@@ -159,6 +160,19 @@ pub extern "C" fn tecelume_allocate_word(
     word::of_allocation(allocator::allocate(state, q, payload, out))
 }
 
+// Signatures of type definitions: the result word, the forms in `out`, a record of 12 bytes for each.
+#[no_mangle]
+pub extern "C" fn tecelume_signatures_word(
+    source: &[u8],
+    lengths: &[u8],
+    out: &mut [u8],
+    records: &mut [u8],
+) -> u64
+    ensures { λ r. ⌜ signed r (now (out .exit)) (now (records .exit)) ≡ packedSignatures (signatures (now (source .entry)) (now (lengths .entry)) (now (out .entry)) (now (records .entry))) ⌝ }
+{
+    word::of_signatures(dsdl_signature::call::signatures(source, lengths, out, records))
+}
+
 // What the result word of a reception holds: a number of RULES 4.10 or 20; and every value that is handed out fits its field and is read back from it.
 pub fn word_fields()
     ensures { λ _. ⌜ WordLaws ⌝ }
@@ -167,6 +181,11 @@ pub fn word_fields()
 // What the result word of an allocator holds, the same way.
 pub fn allocation_word_fields()
     ensures { λ _. ⌜ AllocationWordLaws ⌝ }
+{}
+
+// What the result word of signatures holds, the same way.
+pub fn signatures_word_fields()
+    ensures { λ _. ⌜ SignaturesWordLaws ⌝ }
 {}
 
 // RULES 14.14: condition 3, of what a C program reads.

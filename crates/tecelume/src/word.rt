@@ -7,7 +7,7 @@ ghost use mathlib.Core.Path.{_≡_};
 ghost use Prim.Native.Nat.{_≤_, _<_};
 ghost use Rattle.allocator.specs.Laws.{Range};
 ghost use Rattle.answers.specs.Sending.{dispatchIn};
-ghost use Rattle.tecelume.specs.Word.{transferWord, wordOf, sentWord, allocationWord, TransferFits, Fits};
+ghost use Rattle.tecelume.specs.Word.{transferWord, wordOf, sentWord, allocationWord, signaturesWord, TransferFits, Fits};
 
 fn of_transfer(t: Transfer) -> u64
     requires { ⌜ TransferFits t ⌝ }
@@ -42,4 +42,10 @@ pub fn of_allocation(a: answer::Answer) -> u64
     ensures { λ r. ⌜ r ≡ allocationWord a ⌝ }
 {
     a.number() as u64 + a.length() as u64 * 0x100
+}
+
+pub fn of_signatures(a: dsdl_signature::answer::Answer) -> u64
+    ensures { λ r. ⌜ r ≡ signaturesWord a ⌝ }
+{
+    a.number() as u64 + (a.definition() as u64 * 0x100 + a.line() as u64 * 0x10000)
 }

@@ -10,3 +10,4 @@ mod log_program;
 mod reception;
 mod sending;
 mod serialization;
+mod type_definitions;

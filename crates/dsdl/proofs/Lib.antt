@@ -1,0 +1,3 @@
+pub mod Services
+pub mod NamePlaces
+pub mod Readings

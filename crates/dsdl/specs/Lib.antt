@@ -1,0 +1,4 @@
+pub mod Definition
+pub mod Form
+pub mod Samples
+pub mod inside

@@ -1,0 +1,5 @@
+pub mod Turns
+pub mod Lengths
+pub mod Names
+pub mod Located
+pub mod Sizes

@@ -1,0 +1,11 @@
+pub mod Characters
+pub mod Dots
+pub mod Bases
+pub mod Rows
+pub mod Equal
+pub mod Spaces
+pub mod Faults
+pub mod Texts
+pub mod Sizes
+pub mod Again
+pub mod Itself

@@ -1,0 +1,2 @@
+// One line of a definition (RULES 17.2).
+pub mod shape;

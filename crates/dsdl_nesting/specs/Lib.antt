@@ -1,0 +1,3 @@
+pub mod Nesting
+pub mod Signature
+pub mod inside

@@ -1,0 +1,3 @@
+pub mod Bases
+pub mod Kept
+pub mod Sets

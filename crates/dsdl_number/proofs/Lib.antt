@@ -1,0 +1,11 @@
+pub mod Literals
+pub mod Capped
+pub mod Characters
+pub mod Bounded
+pub mod Floats
+pub mod Significands
+pub mod Scaled
+pub mod Compared
+pub mod Exponents
+pub mod Digits
+pub mod Values

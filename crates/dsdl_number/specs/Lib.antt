@@ -1,0 +1,3 @@
+pub mod Integer
+pub mod Number
+pub mod inside

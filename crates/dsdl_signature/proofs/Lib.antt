@@ -1,0 +1,4 @@
+pub mod Faults
+pub mod Joined
+pub mod Answers
+pub mod Ranges

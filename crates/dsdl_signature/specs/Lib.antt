@@ -1,0 +1,4 @@
+pub mod Call
+pub mod Laws
+pub mod Samples
+pub mod inside

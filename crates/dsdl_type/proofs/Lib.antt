@@ -1,0 +1,5 @@
+pub mod Bases
+pub mod Sizes
+pub mod Finite
+pub mod Holding
+pub mod Initializers

@@ -1,0 +1,4 @@
+pub mod Base
+pub mod Size
+pub mod Constant
+pub mod inside
