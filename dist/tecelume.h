@@ -250,7 +250,7 @@ enum tecelume_kind {
 };
 
 /* The signature of a standard type: messages 341 (NodeStatus), 1 (Allocation), 16370 (KeyValue), 16383 (LogMessage), 1092
- * (BatteryInfo) and 1030 (RawCommand), service 1 (GetNodeInfo). 0 for any other kind or type ID.
+ * (BatteryInfo) and 1030 (RawCommand), services 1 (GetNodeInfo), 11 (GetSet) and 10 (ExecuteOpcode). 0 for any other kind or type ID.
  *
  * Check for 0. Setup and send accept every signature, 0 too. Single frames then come through, but transfers of several frames fail with 12:
  * here, if a sender has the right signature, and at every receiver that has it. tecelume_signatures works out the signature of a

@@ -543,7 +543,8 @@ static void signature_zero(void)
     CHECK(tecelume_signature(TECELUME_KIND_MESSAGE, 341) != 0 && tecelume_signature(TECELUME_KIND_MESSAGE, 1) != 0);
     CHECK(tecelume_signature(TECELUME_KIND_MESSAGE, 16370) != 0 && tecelume_signature(TECELUME_KIND_MESSAGE, 16383) != 0);
     CHECK(tecelume_signature(TECELUME_KIND_SERVICE, 1) != 0 && tecelume_signature(TECELUME_KIND_MESSAGE, 1092) != 0);
-    CHECK(tecelume_signature(TECELUME_KIND_MESSAGE, 1030) != 0);
+    CHECK(tecelume_signature(TECELUME_KIND_MESSAGE, 1030) != 0 && tecelume_signature(TECELUME_KIND_SERVICE, 11) != 0);
+    CHECK(tecelume_signature(TECELUME_KIND_SERVICE, 10) != 0 && tecelume_signature(TECELUME_KIND_MESSAGE, 11) == 0);
     begin();
     CHECK(setup_under(0) == TECELUME_SUCCESS);
     CHECK(frame(SOURCE, SINGLE, 0) == TECELUME_HANDED_OUT);

@@ -11,6 +11,7 @@ pub enum Refusal {
     PayloadEnds,
     TooMany,
     PaddingNotZero,
+    UnknownTag,
     NotAllowed,
 }
 
@@ -21,13 +22,14 @@ impl Refusal {
             Refusal::PayloadEnds => 15,
             Refusal::TooMany => 16,
             Refusal::PaddingNotZero => 25,
+            Refusal::UnknownTag => 27,
             Refusal::NotAllowed => 17,
         }
     }
 }
 
-/// The fewest bits that hold `most`.
-fn length_bits(most: usize) -> u32 {
+/// The fewest bits that hold `most`: of a length, or of the last tag of a union.
+fn fewest_bits(most: usize) -> u32 {
     (0..usize::BITS)
         .find(|&bits| most >> bits == 0)
         .unwrap_or(usize::BITS)
@@ -88,9 +90,18 @@ impl<'a> Reader<'a> {
         Ok(bytes)
     }
 
+    /// The tag of a union of so many cases.
+    pub fn tag(&mut self, cases: usize) -> Result<i128, Refusal> {
+        let tag = self.number(fewest_bits(cases - 1))?;
+        if tag >= cases as i128 {
+            return Err(Refusal::UnknownTag);
+        }
+        Ok(tag)
+    }
+
     /// A list after its length field.
     pub fn list(&mut self, most: usize) -> Result<&'a [u8], Refusal> {
-        let count = self.number(length_bits(most))? as usize;
+        let count = self.number(fewest_bits(most))? as usize;
         let bytes = self.bytes(count)?;
         if count > most {
             return Err(Refusal::TooMany);
@@ -119,28 +130,32 @@ impl<'a> Reader<'a> {
         for _ in 0..count {
             numbers.push(self.number(bits)?);
         }
+        self.end()?;
+        Ok(numbers)
+    }
+
+    /// The end of a message: fewer than 8 bits are left, and all are zero.
+    pub fn end(&mut self) -> Result<(), Refusal> {
+        let left = 8 * self.payload.len() - self.position;
+        if left >= 8 {
+            return Err(Refusal::TooMany);
+        }
         for _ in 0..left {
             if self.bit()? == 1 {
                 return Err(Refusal::PaddingNotZero);
             }
         }
-        Ok(numbers)
-    }
-
-    /// The end of a message that no list ends.
-    pub fn end(&self) -> Result<(), Refusal> {
-        if self.position < 8 * self.payload.len() {
-            return Err(Refusal::TooMany);
-        }
         Ok(())
     }
 }
 
-/// Gathers bits, and whether any list was given that its field does not take.
+/// Gathers bits, whether any tag was given that no case has, and whether anything else was that its
+/// field does not take.
 #[derive(Default)]
 pub struct Writer {
     bytes: Vec<u8>,
     bits: usize,
+    unknown: bool,
     refused: bool,
 }
 
@@ -175,6 +190,12 @@ impl Writer {
         self.bits += 1;
     }
 
+    /// Writes the tag of a union of so many cases.
+    pub fn tag(&mut self, tag: i128, cases: usize) {
+        self.unknown |= !(0..cases as i128).contains(&tag);
+        self.number(tag, fewest_bits(cases - 1));
+    }
+
     pub fn require(&mut self, allowed: bool) {
         self.refused |= !allowed;
     }
@@ -186,7 +207,7 @@ impl Writer {
     }
 
     pub fn list(&mut self, items: &[u8], most: usize) {
-        self.number(items.len() as i128, length_bits(most));
+        self.number(items.len() as i128, fewest_bits(most));
         self.last_list(items, most);
     }
 
@@ -202,6 +223,9 @@ impl Writer {
 
     /// Puts what was written to the front of the output and gives its length.
     pub fn finish(self, out: &mut [u8]) -> Result<usize, Refusal> {
+        if self.unknown {
+            return Err(Refusal::UnknownTag);
+        }
         if self.refused {
             return Err(Refusal::NotAllowed);
         }

@@ -2,8 +2,9 @@
 
 use crate::bits::Refusal;
 use crate::messages::{
-    Allocation, BatteryInfo, HardwareVersion, KeyValue, LogMessage, Message, MessageType, NodeInfo,
-    NodeStatus, RawCommand, SoftwareVersion, MOST_COMMANDS,
+    Allocation, BatteryInfo, GetSetRequest, GetSetResponse, HardwareVersion, KeyValue, LogMessage,
+    Message, MessageType, NodeInfo, NodeStatus, OpcodeRequest, OpcodeResponse, Parameter,
+    RawCommand, SoftwareVersion, MOST_COMMANDS, NUMERIC_CASES, VALUE_CASES,
 };
 use crate::receive::LONGEST_PAYLOAD;
 use std::collections::BTreeMap;
@@ -98,6 +99,10 @@ pub fn type_name(message_type: MessageType) -> &'static str {
         MessageType::NodeInfoResponse => "GetNodeInfo.Response",
         MessageType::BatteryInfo => "BatteryInfo",
         MessageType::RawCommand => "RawCommand",
+        MessageType::GetSetRequest => "GetSet.Request",
+        MessageType::GetSetResponse => "GetSet.Response",
+        MessageType::OpcodeRequest => "ExecuteOpcode.Request",
+        MessageType::OpcodeResponse => "ExecuteOpcode.Response",
     }
 }
 
@@ -112,7 +117,7 @@ fn decoded(result: Result<Message, Refusal>) -> String {
         Err(refusal) => return refusal.number().to_string(),
     };
     let mut text = "0".to_string();
-    for (name, value) in fields(&message) {
+    for (name, value) in counting(fields(&message)) {
         write!(text, " {name}={}", value.text()).expect("a String takes all");
     }
     text
@@ -140,7 +145,41 @@ pub fn hex(bytes: &[u8]) -> String {
     bytes.iter().map(|byte| format!("{byte:02X}")).collect()
 }
 
-/// The fields of a message in order.
+/// The cases of a parameter's value by tag. The first has no field.
+pub const CASES: [&str; VALUE_CASES] = [
+    "empty",
+    "integer_value",
+    "real_value",
+    "boolean_value",
+    "string_value",
+];
+
+/// The name of the union that a field is a case of, and that case's tag.
+pub fn case_of(name: &str) -> Option<(&str, usize)> {
+    let (union, case) = name.rsplit_once('.')?;
+    let tag = CASES.iter().position(|&known| known == case)?;
+    Some((union, tag))
+}
+
+/// Without the fields of cases that their union's tag does not name.
+pub fn counting(fields: Fields) -> Fields {
+    let tags: Fields = fields
+        .iter()
+        .filter(|(name, _)| name.ends_with(".tag"))
+        .cloned()
+        .collect();
+    let counts = |name: &str| {
+        case_of(name).is_none_or(|(union, tag)| {
+            tags.contains(&(format!("{union}.tag"), Value::Number(tag as i128)))
+        })
+    };
+    fields
+        .into_iter()
+        .filter(|(name, _)| counts(name))
+        .collect()
+}
+
+/// The fields of a message in order, every case of a union among them.
 pub fn fields(message: &Message) -> Fields {
     let named = |name: &str, value: Value| (name.to_string(), value);
     let number = |name: &str, value: i128| named(name, Value::Number(value));
@@ -198,7 +237,46 @@ pub fn fields(message: &Message) -> Fields {
             let numbers = (0..one.count).map(|at| one.places.get(at).copied().unwrap_or(0));
             vec![named("cmd", Value::Numbers(numbers.collect()))]
         }
+        Message::GetSetRequest(one) => {
+            let value = parameter_fields(&one.value, "value", VALUE_CASES);
+            let first = [number("index", one.index)].into_iter();
+            first.chain(value).chain([list("name", one.name)]).collect()
+        }
+        Message::GetSetResponse(one) => {
+            let mut all = parameter_fields(&one.value, "value", VALUE_CASES);
+            all.extend(parameter_fields(&one.default, "default_value", VALUE_CASES));
+            all.extend(parameter_fields(&one.highest, "max_value", NUMERIC_CASES));
+            all.extend(parameter_fields(&one.lowest, "min_value", NUMERIC_CASES));
+            all.push(list("name", one.name));
+            all
+        }
+        Message::OpcodeRequest(one) => {
+            vec![
+                number("opcode", one.opcode),
+                number("argument", one.argument),
+            ]
+        }
+        Message::OpcodeResponse(one) => {
+            vec![number("argument", one.argument), number("ok", one.ok)]
+        }
     }
+}
+
+/// The tag, and a field for each of the first so many cases that has one.
+fn parameter_fields(value: &Parameter, union: &str, cases: usize) -> Fields {
+    let values = [
+        Value::Number(value.tag),
+        Value::Number(value.integer),
+        Value::Number(value.real),
+        Value::Number(value.boolean),
+        Value::List(value.text.to_vec()),
+    ];
+    let names = ["tag"].into_iter().chain(CASES.into_iter().skip(1));
+    names
+        .map(|name| format!("{union}.{name}"))
+        .zip(values)
+        .take(cases)
+        .collect()
 }
 
 fn status_fields(status: &NodeStatus, prefix: &str) -> Fields {
@@ -321,7 +399,38 @@ impl Given {
                 model_name: self.list("model_name"),
             }),
             MessageType::RawCommand => Message::RawCommand(self.commands()),
+            MessageType::GetSetRequest => Message::GetSetRequest(GetSetRequest {
+                index: self.number("index"),
+                value: self.parameter("value"),
+                name: self.list("name"),
+            }),
+            MessageType::GetSetResponse => Message::GetSetResponse(GetSetResponse {
+                value: self.parameter("value"),
+                default: self.parameter("default_value"),
+                highest: self.parameter("max_value"),
+                lowest: self.parameter("min_value"),
+                name: self.list("name"),
+            }),
+            MessageType::OpcodeRequest => Message::OpcodeRequest(OpcodeRequest {
+                opcode: self.number("opcode"),
+                argument: self.number("argument"),
+            }),
+            MessageType::OpcodeResponse => Message::OpcodeResponse(OpcodeResponse {
+                argument: self.number("argument"),
+                ok: self.number("ok"),
+            }),
         })
+    }
+
+    fn parameter(&self, union: &str) -> Parameter<'_> {
+        let number = |name: &str| self.number(&format!("{union}.{name}"));
+        Parameter {
+            tag: number("tag"),
+            integer: number("integer_value"),
+            real: number("real_value"),
+            boolean: number("boolean_value"),
+            text: self.list(&format!("{union}.string_value")),
+        }
     }
 
     /// As many as are given, and those that have a place.

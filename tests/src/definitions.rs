@@ -10,6 +10,8 @@ pub const LOG_MESSAGE: u16 = 16383;
 pub const GET_NODE_INFO: u16 = 1;
 pub const BATTERY_INFO: u16 = 1092;
 pub const RAW_COMMAND: u16 = 1030;
+pub const GET_SET: u16 = 11;
+pub const EXECUTE_OPCODE: u16 = 10;
 
 /// The signature of one of the types, of kind 0 (message) or 1 (service); 0 of any other.
 pub fn signature(kind: u32, type_id: u32) -> u64 {
@@ -24,6 +26,8 @@ pub fn signature(kind: u32, type_id: u32) -> u64 {
         (1, GET_NODE_INFO) => get_node_info(),
         (0, BATTERY_INFO) => battery_info(),
         (0, RAW_COMMAND) => raw_command(),
+        (1, GET_SET) => get_set(),
+        (1, EXECUTE_OPCODE) => execute_opcode(),
         _ => 0,
     }
 }
@@ -102,6 +106,68 @@ pub fn battery_info() -> u64 {
 
 pub fn raw_command() -> u64 {
     hash(b"uavcan.equipment.esc.RawCommand\nsaturated int14[<=20] cmd")
+}
+
+pub fn get_set() -> u64 {
+    let own = hash(
+        b"uavcan.protocol.param.GetSet\n\
+        saturated uint13 index\n\
+        uavcan.protocol.param.Value value\n\
+        saturated uint8[<=92] name\n\
+        ---\n\
+        void5\n\
+        uavcan.protocol.param.Value value\n\
+        void5\n\
+        uavcan.protocol.param.Value default_value\n\
+        void6\n\
+        uavcan.protocol.param.NumericValue max_value\n\
+        void6\n\
+        uavcan.protocol.param.NumericValue min_value\n\
+        saturated uint8[<=92] name",
+    );
+    let (value, numeric) = (parameter_value(), numeric_value());
+    [value, value, value, numeric, numeric]
+        .into_iter()
+        .fold(own, extend)
+}
+
+pub fn execute_opcode() -> u64 {
+    hash(
+        b"uavcan.protocol.param.ExecuteOpcode\n\
+        saturated uint8 opcode\n\
+        saturated int48 argument\n\
+        ---\n\
+        saturated int48 argument\n\
+        saturated bool ok",
+    )
+}
+
+fn parameter_value() -> u64 {
+    let own = hash(
+        b"uavcan.protocol.param.Value\n\
+        @union\n\
+        uavcan.protocol.param.Empty empty\n\
+        saturated int64 integer_value\n\
+        saturated float32 real_value\n\
+        saturated uint8 boolean_value\n\
+        saturated uint8[<=128] string_value",
+    );
+    extend(own, empty())
+}
+
+fn numeric_value() -> u64 {
+    let own = hash(
+        b"uavcan.protocol.param.NumericValue\n\
+        @union\n\
+        uavcan.protocol.param.Empty empty\n\
+        saturated int64 integer_value\n\
+        saturated float32 real_value",
+    );
+    extend(own, empty())
+}
+
+fn empty() -> u64 {
+    hash(b"uavcan.protocol.param.Empty")
 }
 
 fn log_level() -> u64 {

@@ -41,6 +41,8 @@ fn receiver() -> Receiver {
         one(true, types::GET_NODE_INFO, types::get_node_info()),
         one(false, types::BATTERY_INFO, types::battery_info()),
         one(false, types::RAW_COMMAND, types::raw_command()),
+        one(true, types::GET_SET, types::get_set()),
+        one(true, types::EXECUTE_OPCODE, types::execute_opcode()),
     ];
     Receiver::setup(1, subscriptions).expect("types that differ")
 }

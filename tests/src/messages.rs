@@ -84,6 +84,51 @@ pub struct RawCommand {
     pub places: [i128; MOST_COMMANDS],
 }
 
+/// The cases of a parameter's value, and how many of them one that is a number has.
+pub const VALUE_CASES: usize = 5;
+pub const NUMERIC_CASES: usize = 3;
+
+/// The value of a parameter, with room for every case. The tag says which counts; after reading the
+/// others are zero or empty.
+#[derive(Clone, Debug, Default, PartialEq, Eq)]
+pub struct Parameter<'a> {
+    pub tag: i128,
+    pub integer: i128,
+    /// The float32 as the number that its bits make. One that 32 bits do not make is refused.
+    pub real: i128,
+    pub boolean: i128,
+    pub text: &'a [u8],
+}
+
+#[derive(Clone, Debug, PartialEq, Eq)]
+pub struct GetSetRequest<'a> {
+    pub index: i128,
+    pub value: Parameter<'a>,
+    pub name: &'a [u8],
+}
+
+#[derive(Clone, Debug, PartialEq, Eq)]
+pub struct GetSetResponse<'a> {
+    pub value: Parameter<'a>,
+    pub default: Parameter<'a>,
+    /// Both of the first three cases only.
+    pub highest: Parameter<'a>,
+    pub lowest: Parameter<'a>,
+    pub name: &'a [u8],
+}
+
+#[derive(Clone, Debug, PartialEq, Eq)]
+pub struct OpcodeRequest {
+    pub opcode: i128,
+    pub argument: i128,
+}
+
+#[derive(Clone, Debug, PartialEq, Eq)]
+pub struct OpcodeResponse {
+    pub argument: i128,
+    pub ok: i128,
+}
+
 #[derive(Clone, Debug, PartialEq, Eq)]
 pub enum Message<'a> {
     NodeStatus(NodeStatus),
@@ -94,6 +139,10 @@ pub enum Message<'a> {
     NodeInfoResponse(NodeInfo<'a>),
     BatteryInfo(BatteryInfo<'a>),
     RawCommand(RawCommand),
+    GetSetRequest(GetSetRequest<'a>),
+    GetSetResponse(GetSetResponse<'a>),
+    OpcodeRequest(OpcodeRequest),
+    OpcodeResponse(OpcodeResponse),
 }
 
 #[derive(Clone, Copy, Debug, PartialEq, Eq)]
@@ -106,10 +155,14 @@ pub enum MessageType {
     NodeInfoResponse,
     BatteryInfo,
     RawCommand,
+    GetSetRequest,
+    GetSetResponse,
+    OpcodeRequest,
+    OpcodeResponse,
 }
 
 impl MessageType {
-    pub const ALL: [MessageType; 8] = [
+    pub const ALL: [MessageType; 12] = [
         MessageType::NodeStatus,
         MessageType::Allocation,
         MessageType::KeyValue,
@@ -118,6 +171,10 @@ impl MessageType {
         MessageType::NodeInfoResponse,
         MessageType::BatteryInfo,
         MessageType::RawCommand,
+        MessageType::GetSetRequest,
+        MessageType::GetSetResponse,
+        MessageType::OpcodeRequest,
+        MessageType::OpcodeResponse,
     ];
 }
 
@@ -132,6 +189,10 @@ impl Message<'_> {
             Message::NodeInfoResponse(_) => MessageType::NodeInfoResponse,
             Message::BatteryInfo(_) => MessageType::BatteryInfo,
             Message::RawCommand(_) => MessageType::RawCommand,
+            Message::GetSetRequest(_) => MessageType::GetSetRequest,
+            Message::GetSetResponse(_) => MessageType::GetSetResponse,
+            Message::OpcodeRequest(_) => MessageType::OpcodeRequest,
+            Message::OpcodeResponse(_) => MessageType::OpcodeResponse,
         }
     }
 }
@@ -148,6 +209,10 @@ pub fn decode(message_type: MessageType, payload: &[u8]) -> Result<Message<'_>, 
         MessageType::NodeInfoResponse => Message::NodeInfoResponse(NodeInfo::read(reader)?),
         MessageType::BatteryInfo => Message::BatteryInfo(BatteryInfo::read(reader)?),
         MessageType::RawCommand => Message::RawCommand(RawCommand::read(reader)?),
+        MessageType::GetSetRequest => Message::GetSetRequest(GetSetRequest::read(reader)?),
+        MessageType::GetSetResponse => Message::GetSetResponse(GetSetResponse::read(reader)?),
+        MessageType::OpcodeRequest => Message::OpcodeRequest(OpcodeRequest::read(reader)?),
+        MessageType::OpcodeResponse => Message::OpcodeResponse(OpcodeResponse::read(reader)?),
     };
     reader.end()?;
     Ok(message)
@@ -165,6 +230,10 @@ pub fn encode(message: &Message, out: &mut [u8]) -> Result<usize, Refusal> {
         Message::NodeInfoResponse(one) => one.write(&mut writer),
         Message::BatteryInfo(one) => one.write(&mut writer),
         Message::RawCommand(one) => one.write(&mut writer),
+        Message::GetSetRequest(one) => one.write(&mut writer),
+        Message::GetSetResponse(one) => one.write(&mut writer),
+        Message::OpcodeRequest(one) => one.write(&mut writer),
+        Message::OpcodeResponse(one) => one.write(&mut writer),
     }
     writer.finish(out)
 }
@@ -349,6 +418,115 @@ impl RawCommand {
         for &number in self.places.iter().take(self.count) {
             writer.signed(number, 14);
         }
+    }
+}
+
+impl<'a> Parameter<'a> {
+    /// A value of the first so many cases.
+    fn read(reader: &mut Reader<'a>, cases: usize) -> Result<Parameter<'a>, Refusal> {
+        let tag = reader.tag(cases)?;
+        let mut value = Parameter {
+            tag,
+            ..Parameter::default()
+        };
+        match tag {
+            1 => value.integer = signed(reader.number(64)?, 64),
+            2 => value.real = reader.number(32)?,
+            3 => value.boolean = reader.number(8)?,
+            4 => value.text = reader.list(128)?,
+            _ => (),
+        }
+        Ok(value)
+    }
+
+    /// Only the case that the tag names is looked at.
+    fn write(&self, writer: &mut Writer, cases: usize) {
+        writer.tag(self.tag, cases);
+        match self.tag {
+            1 => writer.signed(self.integer, 64),
+            2 => {
+                writer.require((0..1 << 32).contains(&self.real));
+                writer.number(self.real, 32);
+            }
+            3 => writer.number(self.boolean, 8),
+            4 => writer.list(self.text, 128),
+            _ => (),
+        }
+    }
+}
+
+/// The most bytes of a parameter's name. They may be any.
+const LONGEST_NAME: usize = 92;
+
+impl<'a> GetSetRequest<'a> {
+    fn read(reader: &mut Reader<'a>) -> Result<GetSetRequest<'a>, Refusal> {
+        Ok(GetSetRequest {
+            index: reader.number(13)?,
+            value: Parameter::read(reader, VALUE_CASES)?,
+            name: reader.last_list(LONGEST_NAME)?,
+        })
+    }
+
+    fn write(&self, writer: &mut Writer) {
+        writer.number(self.index, 13);
+        self.value.write(writer, VALUE_CASES);
+        writer.last_list(self.name, LONGEST_NAME);
+    }
+}
+
+impl<'a> GetSetResponse<'a> {
+    fn read(reader: &mut Reader<'a>) -> Result<GetSetResponse<'a>, Refusal> {
+        let mut padded = |padding, cases| {
+            reader.number(padding)?;
+            Parameter::read(reader, cases)
+        };
+        Ok(GetSetResponse {
+            value: padded(5, VALUE_CASES)?,
+            default: padded(5, VALUE_CASES)?,
+            highest: padded(6, NUMERIC_CASES)?,
+            lowest: padded(6, NUMERIC_CASES)?,
+            name: reader.last_list(LONGEST_NAME)?,
+        })
+    }
+
+    fn write(&self, writer: &mut Writer) {
+        let mut padded = |padding, value: &Parameter, cases| {
+            writer.number(0, padding);
+            value.write(writer, cases);
+        };
+        padded(5, &self.value, VALUE_CASES);
+        padded(5, &self.default, VALUE_CASES);
+        padded(6, &self.highest, NUMERIC_CASES);
+        padded(6, &self.lowest, NUMERIC_CASES);
+        writer.last_list(self.name, LONGEST_NAME);
+    }
+}
+
+impl OpcodeRequest {
+    fn read(reader: &mut Reader) -> Result<OpcodeRequest, Refusal> {
+        Ok(OpcodeRequest {
+            opcode: reader.number(8)?,
+            argument: signed(reader.number(48)?, 48),
+        })
+    }
+
+    fn write(&self, writer: &mut Writer) {
+        writer.number(self.opcode, 8);
+        writer.signed(self.argument, 48);
+    }
+}
+
+impl OpcodeResponse {
+    fn read(reader: &mut Reader) -> Result<OpcodeResponse, Refusal> {
+        Ok(OpcodeResponse {
+            argument: signed(reader.number(48)?, 48),
+            ok: reader.number(1)?,
+        })
+    }
+
+    fn write(&self, writer: &mut Writer) {
+        writer.signed(self.argument, 48);
+        writer.number(self.ok, 1);
     }
 }
 

@@ -36,5 +36,5 @@ small-read bs =
     (small-if (not (allZero (drop (length (drop 1 (drop 7 bs)) / 8 * 8) (drop 1 (drop 7 bs))))) 25 _ (omega arith) (small-if false 17 _ (omega arith) tt)))))))
 
 pub small-write : (v : Values allocation) (room : ℕ) → Small (encoded allocation v room)
-unfolding encoded
+unfolding encoded refuseIf
 small-write v room = small-if (not (fits allocation v)) 17 _ (omega arith) (small-if (ltb room (length (message allocation v))) 8 _ (omega arith) tt)

@@ -1,8 +1,12 @@
 // Decoding: a payload in hexadecimal, and its fields as text.
 use super::allocation;
 use super::battery_info;
+use super::execute_opcode_request;
+use super::execute_opcode_response;
 use super::get_node_info_request;
 use super::get_node_info_response;
+use super::get_set_request;
+use super::get_set_response;
 use super::key_value;
 use super::log_message;
 use super::node_status;
@@ -13,16 +17,33 @@ use codec_text::put;
 ghost use Prim.Native.Nat.{_≤_};
 ghost use lib.ListN.{length};
 
-// The type by its name.
-fn typed(name: &[u8], payload: &[u8], out: &mut [u8], at: usize) -> usize {
-    if check::same(name, b"NodeStatus") {
-        return node_status::decode(payload, out, at);
-    }
+// A service by its name, and which half of it.
+fn service(name: &[u8], payload: &[u8], out: &mut [u8], at: usize) -> usize {
     if check::same(name, b"GetNodeInfo.Request") {
         return get_node_info_request::decode(payload, out, at);
     }
     if check::same(name, b"GetNodeInfo.Response") {
         return get_node_info_response::decode(payload, out, at);
+    }
+    if check::same(name, b"GetSet.Request") {
+        return get_set_request::decode(payload, out, at);
+    }
+    if check::same(name, b"GetSet.Response") {
+        return get_set_response::decode(payload, out, at);
+    }
+    if check::same(name, b"ExecuteOpcode.Request") {
+        return execute_opcode_request::decode(payload, out, at);
+    }
+    if check::same(name, b"ExecuteOpcode.Response") {
+        return execute_opcode_response::decode(payload, out, at);
+    }
+    put::ill_formed(out, at)
+}
+
+// The type by its name.
+fn typed(name: &[u8], payload: &[u8], out: &mut [u8], at: usize) -> usize {
+    if check::same(name, b"NodeStatus") {
+        return node_status::decode(payload, out, at);
     }
     if check::same(name, b"Allocation") {
         return allocation::decode(payload, out, at);
@@ -39,7 +60,7 @@ fn typed(name: &[u8], payload: &[u8], out: &mut [u8], at: usize) -> usize {
     if check::same(name, b"RawCommand") {
         return raw_command::decode(payload, out, at);
     }
-    put::ill_formed(out, at)
+    service(name, payload, out, at)
 }
 
 // By way of a buffer for the payload.

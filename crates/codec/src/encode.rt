@@ -1,8 +1,12 @@
 // Encoding: fields as text, and the message in hexadecimal.
 use super::allocation;
 use super::battery_info;
+use super::execute_opcode_request;
+use super::execute_opcode_response;
 use super::get_node_info_request;
 use super::get_node_info_response;
+use super::get_set_request;
+use super::get_set_response;
 use super::key_value;
 use super::log_message;
 use super::node_status;
@@ -14,18 +18,37 @@ use codec_text::put;
 ghost use Prim.Native.Nat.{_≤_};
 ghost use lib.ListN.{length};
 
+// A service by its name, and which half of it.
+fn service(name: &[u8], words: &[u8], bytes: &mut [u8], message: &mut [u8]) -> Encoded
+    requires { ⌜ length (now words) ≤ length (now bytes) ⌝ }
+{
+    if check::same(name, b"GetNodeInfo.Request") {
+        return get_node_info_request::encode(words, bytes, message);
+    }
+    if check::same(name, b"GetNodeInfo.Response") {
+        return get_node_info_response::encode(words, bytes, message);
+    }
+    if check::same(name, b"GetSet.Request") {
+        return get_set_request::encode(words, bytes, message);
+    }
+    if check::same(name, b"GetSet.Response") {
+        return get_set_response::encode(words, bytes, message);
+    }
+    if check::same(name, b"ExecuteOpcode.Request") {
+        return execute_opcode_request::encode(words, bytes, message);
+    }
+    if check::same(name, b"ExecuteOpcode.Response") {
+        return execute_opcode_response::encode(words, bytes, message);
+    }
+    Encoded::IllFormed
+}
+
 // The type by its name.
 fn typed(name: &[u8], words: &[u8], bytes: &mut [u8], message: &mut [u8]) -> Encoded
     requires { ⌜ length (now words) ≤ length (now bytes) ⌝ }
 {
     if check::same(name, b"NodeStatus") {
         return node_status::encode(words, bytes, message);
-    }
-    if check::same(name, b"GetNodeInfo.Request") {
-        return get_node_info_request::encode(words, bytes, message);
-    }
-    if check::same(name, b"GetNodeInfo.Response") {
-        return get_node_info_response::encode(words, bytes, message);
     }
     if check::same(name, b"Allocation") {
         return allocation::encode(words, bytes, message);
@@ -42,7 +65,7 @@ fn typed(name: &[u8], words: &[u8], bytes: &mut [u8], message: &mut [u8]) -> Enc
     if check::same(name, b"RawCommand") {
         return raw_command::encode(words, message);
     }
-    Encoded::IllFormed
+    service(name, words, bytes, message)
 }
 
 // By way of the buffers for the lists and for the message.

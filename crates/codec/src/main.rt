@@ -4,11 +4,16 @@ mod allocation;
 mod battery_info;
 mod decode;
 mod encode;
+mod execute_opcode_request;
+mod execute_opcode_response;
 mod get_node_info_request;
 mod get_node_info_response;
+mod get_set_request;
+mod get_set_response;
 mod key_value;
 mod log_message;
 mod node_status;
+mod param_value;
 mod raw_command;
 mod request;
 

@@ -61,17 +61,6 @@ all-mapped {A} {B} f xs z out i h l e =
 pub held : (z : ℤ) → mag z < 9223372036854775808 → toZ w64 (ofZ w64 z) ≡ z
 held z h = toZ-ofZ w64 z (record { sfits = h })
 
-mag-lt : (z : ℤ) → inRange 14 z ≡ true → mag z < 8192
-unfolding inRange
-mag-lt (pos n) e = ltb-true n 8192 e
-mag-lt (negsuc n) e = ltb-true n 8192 e
-
--- the number of 14 bits does
-pub signed-held : (z : ℤ) (n : ℕ) → n < 16384 → z ≡ signedOf 14 n → toZ w64 (ofZ w64 z) ≡ signedOf 14 n
-signed-held z n h e =
-    let l : mag (signedOf 14 n) < 8192 = mag-lt (signedOf 14 n) (low-value signed 14 n (lit≤ tt) h .1) in
-    ap (λ (y : ℤ). toZ w64 (ofZ w64 y)) e ∙ held (signedOf 14 n) (omega arith)
-
 pub below-at : (n : ℕ) (xs : List ℕ) (i : ℕ) → i < length xs → allBelow n xs ≡ true → getD xs i 0 < n
 unfolding allBelow
 below-at n [] i h e = absurd (omega arith)
@@ -164,7 +153,7 @@ module _ (x : RawCommand) (m : List ℕ) where
     size = ap bytesFor bits
 
     pub too-short : length m < bytesFor (x .count * 14) → (numbered (refused 8), m) ≡ wrote (commandEncoded x (length m)) m
-    too-short h = refuse-8-padded rawCommand (commandValues x) m values-fit (bytesFor (x .count * 14)) size h ∙ by-values
+    too-short h = refuse-8-padded rawCommand (commandValues x) m refl values-fit (bytesFor (x .count * 14)) size h ∙ by-values
 
     -- xs: the patterns and zeros
     pub stored : Octets m → bytesFor (x .count * 14) ≤ length m → (xs m' : List ℕ) → xs ≡ commandValues x ++ replicate (20 - x .count) 0
@@ -173,7 +162,7 @@ module _ (x : RawCommand) (m : List ℕ) where
     unfolding encode
     stored o h xs m' e g =
         let t : take (x .count) xs ≡ commandValues x = ap (λ (l : List ℕ). take (x .count) l) e ∙ take-at (commandValues x) (replicate (20 - x .count) 0) (x .count) as-many in
-        write-padded rawCommand (commandValues x) m values-fit (bytesFor (x .count * 14)) size o h m'
+        write-padded rawCommand (commandValues x) m refl values-fit (bytesFor (x .count * 14)) size o h m'
         (g ∙ ap (λ (l : List ℕ). store m 0 (itemBits 14 l ++ replicate (bytesFor (x .count * 14) * 8 - x .count * 14) false)) t
         ∙ ap (λ (n : ℕ). store m 0 (itemBits 14 (commandValues x) ++ replicate (bytesFor n * 8 - n) false)) (sym bits))
         ∙ by-values

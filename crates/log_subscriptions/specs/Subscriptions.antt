@@ -20,7 +20,11 @@ types =
     -- BatteryInfo
     (0, 1092) ∷
     -- RawCommand
-    (0, 1030) ∷ []
+    (0, 1030) ∷
+    -- GetSet
+    (1, 11) ∷
+    -- ExecuteOpcode
+    (1, 10) ∷ []
 
 -- RULES 3.3: a subscription as a setup takes it, kind (1), type ID (4), signature (8), low byte first
 unfoldable pub record13 : ℕ → ℕ → List ℕ

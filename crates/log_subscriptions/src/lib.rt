@@ -5,7 +5,7 @@ ghost use lib.ListN.{length};
 ghost use Rattle.bits.specs.Part.{splice};
 ghost use Rattle.log_subscriptions.specs.Subscriptions.{record13, subscriptions as subscriptionsOf};
 
-const COUNT: usize = 7;
+const COUNT: usize = 9;
 
 const SERVICE: u32 = 65536;
 
@@ -18,6 +18,8 @@ const TYPES: [u32; COUNT] = [
     16383, // LogMessage
     1092, // BatteryInfo
     1030, // RawCommand
+    SERVICE + 11, // GetSet
+    SERVICE + 10, // ExecuteOpcode
 ];
 
 // A type as a record for a receiver's setup (RULES 3.3): kind (1), type ID (4), signature (8), low byte first.
@@ -31,11 +33,11 @@ fn put(out: &mut [u8], j: usize, kind: u32, type_id: u32)
 }
 
 // Internal. The records of all of them.
-pub fn subscriptions() -> [u8; 91]
+pub fn subscriptions() -> [u8; 117]
     ensures { λ r. ⌜ r ≡ subscriptionsOf ⌝ }
 {
     let types = TYPES;
-    let mut out = [0u8; 91];
+    let mut out = [0u8; 117];
     let mut j = 0;
     while j < COUNT {
         put(&mut out, j, types[j] / SERVICE, types[j] % SERVICE);

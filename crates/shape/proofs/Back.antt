@@ -14,7 +14,7 @@ use Rattle.bits.proofs.Numbers.{length-toBits, fromBits-lt, toBits-fromBits}
 use Rattle.bits.specs.Width.{widthOf}
 use Rattle.shape.specs.Answer.{Answer, refused, got, refuseIf, mapAnswer}
 use Rattle.shape.specs.Cast.{Sign, Cast, valueOf, castBits}
-use Rattle.shape.specs.Shape.{Shape, end, num, raw, void, items, list, tail, Values, itemBits, itemsOf, allZero, allBelow, encode, decode, fits, clear}
+use Rattle.shape.specs.Shape.{Shape, end, num, raw, void, items, list, tail, choice, tagWidth, Values, itemBits, itemsOf, allZero, allBelow, encode, decode, tags, fits, clear}
 use Rattle.shape.proofs.CastFacts.{cast-back}
 use Rattle.shape.proofs.Fields.{and-both, length-itemsOf, items-back, items-below}
 
@@ -25,6 +25,7 @@ pub record Came (d : Shape) (bs : List Bool) (v : Values d) : Type 0 where
   pub long : length (clear d bs) ≡ length bs
   pub short : length pad < 8
   pub empty : allZero pad ≡ true
+  pub tagged : tags d v ≡ true
   pub fit : fits d v ≡ true
 
 abbrev pub Good : (d : Shape) → List Bool → Answer (Values d) → Type 0
@@ -42,7 +43,7 @@ good-end : (bs : List Bool) (b z : Bool) → leb 8 (length bs) ≡ b → allZero
 unfolding refuseIf encode fits clear
 good-end bs true z e k = tt
 good-end bs false false e k = tt
-good-end bs false true e k = record { pad = bs; whole = refl; long = refl; short = leb-false 8 (length bs) e; empty = k; fit = refl }
+good-end bs false true e k = record { pad = bs; whole = refl; long = refl; short = leb-false 8 (length bs) e; empty = k; tagged = refl; fit = refl }
 
 good-num : (s : Sign) (c : Cast) (w : ℕ) (d : Shape) (bs : List Bool) (b : Bool) → ltb (length bs) w ≡ b → (r : Answer (Values d)) → Good d (drop w bs) r
     → Good (num s c w d) bs (refuseIf b 15 (mapAnswer (λ (v : Values d). (valueOf s w (fromBits w bs), v)) r))
@@ -59,6 +60,7 @@ good-num s c w d bs false e (got v) g =
       long = as-long w bs (take w bs) (clear d (drop w bs)) l (length-take-le w bs l) (g .long);
       short = g .short;
       empty = g .empty;
+      tagged = g .tagged;
       fit = g .fit;
     }
 
@@ -75,6 +77,7 @@ good-raw w d bs false e (got v) g =
       long = as-long w bs (take w bs) (clear d (drop w bs)) l (length-take-le w bs l) (g .long);
       short = g .short;
       empty = g .empty;
+      tagged = g .tagged;
       fit = and-both (ltb (fromBits w bs) (2 ^ w)) (fits d v) (lt-ltb (fromBits w bs) (2 ^ w) (fromBits-lt w bs l)) (g .fit);
     }
 
@@ -90,6 +93,7 @@ good-void w d bs false e (got v) g =
       long = as-long w bs (toBits w 0) (clear d (drop w bs)) (ltb-false (length bs) w e) (length-toBits w 0) (g .long);
       short = g .short;
       empty = g .empty;
+      tagged = g .tagged;
       fit = g .fit;
     }
 
@@ -106,6 +110,7 @@ good-items w k d bs false e (got v) g =
       long = as-long (k * w) bs (take (k * w) bs) (clear d (drop (k * w) bs)) l (length-take-le (k * w) bs l) (g .long);
       short = g .short;
       empty = g .empty;
+      tagged = g .tagged;
       fit = and-both (eqb (length (itemsOf w k bs)) k) (allBelow (2 ^ w) (itemsOf w k bs) && fits d v) (eq-eqb (length (itemsOf w k bs)) k (length-itemsOf w k bs))
           (and-both (allBelow (2 ^ w) (itemsOf w k bs)) (fits d v) (items-below w k bs l) (g .fit));
     }
@@ -139,6 +144,7 @@ good-list w m d bs false false false e₁ e₂ e₃ (got v) g =
           (as-long (n * w) rest (take (n * w) rest) (clear d (drop (n * w) rest)) l₂ (length-take-le (n * w) rest l₂) (g .long));
       short = g .short;
       empty = g .empty;
+      tagged = g .tagged;
       fit = and-both (leb (length xs) m) (allBelow (2 ^ w) xs && fits d v) (le-leb (length xs) m (omega arith))
           (and-both (allBelow (2 ^ w) xs) (fits d v) (items-below w n rest l₂) (g .fit));
     }
@@ -163,8 +169,31 @@ good-tail w m ok bs false false true true e₁ e₂ e₃ e₄ =
       long = refl;
       short = rw length-drop (omega arith);
       empty = e₃;
+      tagged = refl;
       fit = and-both (leb (length xs) m) (allBelow (2 ^ w) xs && ok xs) (le-leb (length xs) m (omega (arith, length-itemsOf w n bs, ltb-false m n e₁)))
           (and-both (allBelow (2 ^ w) xs) (ok xs) (items-below w n bs l) e₄);
+    }
+
+good-choice : (n : ℕ) (f : ℕ → Shape) (bs : List Bool) (b₁ b₂ : Bool) → ltb (length bs) (tagWidth n) ≡ b₁ → leb n (fromBits (tagWidth n) bs) ≡ b₂
+    → (r : Answer (Values (f (fromBits (tagWidth n) bs)))) → Good (f (fromBits (tagWidth n) bs)) (drop (tagWidth n) bs) r
+    → Good (choice n f) bs
+    (refuseIf b₁ 15 (refuseIf b₂ 27 (mapAnswer (λ (v : Values (f (fromBits (tagWidth n) bs))). (fromBits (tagWidth n) bs, v)) r)))
+unfolding refuseIf mapAnswer encode fits clear
+good-choice n f bs true b₂ e₁ e₂ r g = tt
+good-choice n f bs false true e₁ e₂ r g = tt
+good-choice n f bs false false e₁ e₂ (refused k) g = tt
+good-choice n f bs false false e₁ e₂ (got v) g =
+    let w = tagWidth n in
+    let t = fromBits w bs in
+    let l : w ≤ length bs = ltb-false (length bs) w e₁ in
+    record {
+      pad = g .pad;
+      whole = joined (take w bs) (toBits w t) (clear (f t) (drop w bs)) (encode (f t) v) (g .pad) (toBits-fromBits w bs l) (g .whole);
+      long = as-long w bs (take w bs) (clear (f t) (drop w bs)) l (length-take-le w bs l) (g .long);
+      short = g .short;
+      empty = g .empty;
+      tagged = and-both (ltb t n) (tags (f t) v) (lt-ltb t n (leb-false n t e₂)) (g .tagged);
+      fit = g .fit;
     }
 
 pub back : (d : Shape) (bs : List Bool) → Good d bs (decode d bs)
@@ -181,3 +210,7 @@ back (list w m d) bs =
 back (tail w m ok) bs =
     let n = length bs / w in
     good-tail w m ok bs (ltb m n) (leb 8 (length bs % w)) (allZero (drop (n * w) bs)) (ok (itemsOf w n bs)) refl refl refl refl
+back (choice n f) bs =
+    let w = tagWidth n in
+    let t = fromBits w bs in
+    good-choice n f bs (ltb (length bs) w) (leb n t) refl refl (decode (f t) (drop w bs)) (back (f t) (drop w bs))

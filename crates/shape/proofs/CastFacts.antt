@@ -228,3 +228,31 @@ module _ (s : List ℕ) (at w : ℕ) (h : w ≤ 63) (l : at + w ≤ length s * 8
   pub number-read : toZ w64 (ofZ w64 z) ≡ pos (fromBits w (drop at (unpack s)))
   number-read =
       ap (λ (y : ℤ). toZ w64 (ofZ w64 y)) e ∙ is (pos (fromBits w (drop at (unpack s)))) (record { sfits = number-below })
+
+-- ── signed numbers ──
+
+mag-lt : (w : ℕ) (z : ℤ) → inRange w z ≡ true → mag z < 2 ^ (w - 1)
+unfolding inRange
+mag-lt w (pos n) e = ltb-true n (2 ^ (w - 1)) e
+mag-lt w (negsuc n) e = ltb-true n (2 ^ (w - 1)) e
+
+-- what w bits stand for is held by a signed local
+pub signed-held : (w n : ℕ) → 1 ≤ w → w ≤ 64 → n < 2 ^ w → (z : ℤ) → z ≡ signedOf w n → toZ w64 (ofZ w64 z) ≡ signedOf w n
+signed-held w n h k l z e =
+    let j : w - 1 ≤ 63 = omega arith in
+    let p : 2 ^ (w - 1) ≤ 2 ^ 63 = pow-mono j in
+    let q : mag (signedOf w n) < 2 ^ (w - 1) = mag-lt w (signedOf w n) (low-value signed w n h l .1) in
+    ap (λ (y : ℤ). toZ w64 (ofZ w64 y)) e ∙ is (signedOf w n) (record { sfits = omega arith })
+
+-- a number that `number::read_signed` gave
+module _ (s : List ℕ) (at w : ℕ) (h : 1 ≤ w) (k : w ≤ 64) (l : at + w ≤ length s * 8) where
+  pub bits-below : fromBits w (drop at (unpack s)) < 2 ^ w
+  bits-below = fromBits-lt w (drop at (unpack s)) (omega (arith, length-drop at (unpack s), length-unpack s))
+
+  pub signed-read : (z : ℤ) → z ≡ signedOf w (fromBits w (drop at (unpack s))) → toZ w64 (ofZ w64 z) ≡ signedOf w (fromBits w (drop at (unpack s)))
+  signed-read z e = signed-held w (fromBits w (drop at (unpack s))) h k bits-below z e
+
+-- a number that was given to `number::write_signed`
+pub signed-given : (m m' : List ℕ) (at w : ℕ) (z : ℤ) → SFits w64 z → m' ≡ store m at (toBits w (castBits signed saturated w (toZ w64 (ofZ w64 z))))
+    → m' ≡ store m at (toBits w (castBits signed saturated w z))
+signed-given m m' at w z f e = e ∙ ap (λ (y : ℤ). store m at (toBits w (castBits signed saturated w y))) (is z f)

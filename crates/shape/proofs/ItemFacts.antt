@@ -6,14 +6,14 @@ use Prim.Native.Nat.{ℕ, zero, suc, _+_, _*_, _/_, _%_, _≤_, _<_}
 use native.Mathlib.Nat.{zero-mul, suc-mul, mul-le-mul, mul-le-mul-right, div-add-mod', mod-lt, add-zero}
 use native.Mathlib.Numerals.{add-one}
 use native.Mathlib.Omega.{arith}
-use borrow.Author.Tests.{lt-ltb, le-ltb, le-leb, ltb-true, ltb-false, leb-false, eqb-true, eqb-false}
+use borrow.Author.Tests.{lt-ltb, le-ltb, le-leb, lt-leb, ltb-true, ltb-false, leb-false, eqb-true, eqb-false}
 use lib.Dec.{ltb, leb, eqb}
 use lib.ListN.{length, take, drop, getD, set, length-append, length-drop, take-append-drop, replicate, replicate-append-replicate}
 use lib.Seq.{drop-drop, take-all, take-suc, take-suc-set, length-take-le}
 use Rattle.bits.specs.Order.{Octets, digits, octets, valueFrom, value, unpack, number, toBits, fromBits, bytes, store}
 use Rattle.bits.proofs.Bytes.{length-unpack, bytes-unpack}
 use Rattle.shape.specs.Answer.{Answer, refused, got, refuseIf, mapAnswer}
-use Rattle.shape.specs.Shape.{tail, anything, itemBits, itemsOf, allZero, decode}
+use Rattle.shape.specs.Shape.{end, tail, anything, itemBits, itemsOf, allZero, decode}
 use Rattle.shape.specs.inside.Items.{refusalOf}
 use Rattle.shape.proofs.Fields.{length-itemBits, length-itemsOf}
 use Rattle.shape.proofs.Writing.{more-from}
@@ -90,7 +90,7 @@ zero-bits k h =
     let r : k % 8 ≡ k = omega arith in
     rw (q, r) (zero-digits k)
 
--- ── a list at the end ──
+-- ── the end ──
 
 -- fewer than 8 bits, as a number
 few : (r : ℕ) (bs : List Bool) → r < 8 → length bs ≡ r → fromBits r bs ≡ value bs
@@ -117,6 +117,16 @@ not-zero bs n = go (allZero bs) refl where
   go : (b : Bool) → allZero bs ≡ b → allZero bs ≡ false
   go true e = absurd (n (zero-value bs e))
   go false e = e
+
+-- the end without a list, fewer than 8 bits before that of the payload
+module _ (bs : List Bool) (r : ℕ) (h : r < 8) (e : length bs ≡ r) where
+  pub end-set : (fromBits r bs ≡ 0 → ⊥) → decode end bs ≡ refused 25
+  unfolding decode refuseIf
+  end-set n = rw (lt-leb 8 (length bs) (omega arith), not-zero bs (λ z. n (few r bs h e ∙ z)))
+
+  pub end-clear : fromBits r bs ≡ 0 → decode end bs ≡ got tt
+  unfolding decode refuseIf
+  end-clear z = rw (lt-leb 8 (length bs) (omega arith), value-zero 0 bs (sym (few r bs h e) ∙ z) .1)
 
 -- bs: the bits from the list's start on; k of them
 module _ (w m : ℕ) (hw : 8 ≤ w) (bs : List Bool) (k : ℕ) (e : length bs ≡ k) where

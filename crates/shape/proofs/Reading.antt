@@ -6,7 +6,7 @@ use Prim.Native.Nat.{ℕ, zero, suc, _+_, _*_, _/_, _%_, _≤_, _<_}
 use native.Mathlib.Nat.{add-zero}
 use native.Mathlib.Omega.{arith}
 use borrow.Author.Tests.{lt-ltb, le-ltb, le-leb, ltb-true, ltb-false}
-use lib.Dec.{ltb}
+use lib.Dec.{ltb, leb}
 use lib.IntN.{pos}
 use lib.ListN.{length, take, drop, length-drop, drop-of-length-le}
 use lib.Seq.{take-at, drop-at, drop-drop, take-length}
@@ -16,28 +16,32 @@ use Rattle.bits.proofs.Digits.{length-digits, value-digits}
 use Rattle.bits.proofs.Bytes.{length-unpack, drop-unpack}
 use Rattle.bits.proofs.Octets.{octets-drop}
 use Rattle.shape.specs.Answer.{Answer, refused, got, numbered, refuseIf, mapAnswer}
-use Rattle.shape.specs.Shape.{Shape, end, uint, raw, void, items, list, tail, Values, anything, itemsOf, decode}
+use Rattle.shape.specs.Cast.{Sign, signed, unsigned, saturated, valueOf}
+use Rattle.shape.specs.Shape.{Shape, end, num, raw, void, items, list, tail, choice, tagWidth, Values, anything, itemsOf, decode}
 
 -- ── a head: numbers and ignored bits ──
 
--- an unsigned number, saturated; bits kept as they are; ignored bits
+-- a saturated number, unsigned or signed; bits kept as they are; ignored bits
 pub data Slot : Type 0 where
   value : ℕ → Slot
+  integer : ℕ → Slot
   same : ℕ → Slot
   gap : ℕ → Slot
 
 abbrev pub slots : List Slot → Shape → Shape
 slots [] d = d
-slots (value w ∷ ss) d = uint w (slots ss d)
+slots (value w ∷ ss) d = num unsigned saturated w (slots ss d)
+slots (integer w ∷ ss) d = num signed saturated w (slots ss d)
 slots (same w ∷ ss) d = raw w (slots ss d)
 slots (gap w ∷ ss) d = void w (slots ss d)
 
-abbrev width : Slot → ℕ
+abbrev pub width : Slot → ℕ
 width (value w) = w
+width (integer w) = w
 width (same w) = w
 width (gap w) = w
 
-abbrev total : List Slot → ℕ
+abbrev pub total : List Slot → ℕ
 total [] = 0
 total (s ∷ ss) = width s + total ss
 
@@ -45,10 +49,11 @@ total (s ∷ ss) = width s + total ss
 abbrev pub withHead : (ss : List Slot) (d : Shape) → List Bool → ℕ → Values d → Values (slots ss d)
 withHead [] d bs at v = v
 withHead (value w ∷ ss) d bs at v = (pos (fromBits w (drop at bs)), withHead ss d bs (at + w) v)
+withHead (integer w ∷ ss) d bs at v = (valueOf signed w (fromBits w (drop at bs)), withHead ss d bs (at + w) v)
 withHead (same w ∷ ss) d bs at v = (fromBits w (drop at bs), withHead ss d bs (at + w) v)
 withHead (gap w ∷ ss) d bs at v = withHead ss d bs (at + w) v
 
-map-map : {A B C : Type 0} (f : B → C) (g : A → B) (r : Answer A) → mapAnswer f (mapAnswer g r) ≡ mapAnswer (λ (a : A). f (g a)) r
+pub map-map : {A B C : Type 0} (f : B → C) (g : A → B) (r : Answer A) → mapAnswer f (mapAnswer g r) ≡ mapAnswer (λ (a : A). f (g a)) r
 unfolding mapAnswer
 map-map f g (refused n) = refl
 map-map f g (got a) = refl
@@ -93,9 +98,9 @@ module _ (w : ℕ) (d : Shape) (bs : List Bool) (at : ℕ) (h : at + w ≤ lengt
   enough : ltb (length (drop at bs)) w ≡ false
   enough = le-ltb (length (drop at bs)) w (rw length-drop (omega arith))
 
-  num-at : decode (uint w d) (drop at bs) ≡ mapAnswer (λ (v : Values d). (pos (fromBits w (drop at bs)), v)) (decode d (drop (at + w) bs))
+  num-at : (s : Sign) → decode (num s saturated w d) (drop at bs) ≡ mapAnswer (λ (v : Values d). (valueOf s w (fromBits w (drop at bs)), v)) (decode d (drop (at + w) bs))
   unfolding decode refuseIf
-  num-at = rw (enough, drop-drop w at bs)
+  num-at s = rw (enough, drop-drop w at bs)
 
   raw-at : decode (raw w d) (drop at bs) ≡ mapAnswer (λ (v : Values d). (fromBits w (drop at bs), v)) (decode d (drop (at + w) bs))
   unfolding decode refuseIf
@@ -110,10 +115,17 @@ pub head-read : (ss : List Slot) (d : Shape) (bs : List Bool) (at : ℕ) → at 
 head-read [] d bs at h = rw add-zero (map-same (decode d (drop at bs)))
 head-read (value w ∷ ss) d bs at h =
     let e : at + w + total ss ≡ at + (w + total ss) = omega arith in
-    num-at w (slots ss d) bs at (omega arith)
+    num-at w (slots ss d) bs at (omega arith) unsigned
     ∙ ap (λ (r : Answer (Values (slots ss d))). mapAnswer (λ (v : Values (slots ss d)). (pos (fromBits w (drop at bs)), v)) r) (head-read ss d bs (at + w) (omega arith))
     ∙ map-map (λ (v : Values (slots ss d)). (pos (fromBits w (drop at bs)), v)) (withHead ss d bs (at + w)) (decode d (drop (at + w + total ss) bs))
     ∙ ap (λ (n : ℕ). mapAnswer (withHead (value w ∷ ss) d bs at) (decode d (drop n bs))) e
+head-read (integer w ∷ ss) d bs at h =
+    let e : at + w + total ss ≡ at + (w + total ss) = omega arith in
+    let z = valueOf signed w (fromBits w (drop at bs)) in
+    num-at w (slots ss d) bs at (omega arith) signed
+    ∙ ap (λ (r : Answer (Values (slots ss d))). mapAnswer (λ (v : Values (slots ss d)). (z, v)) r) (head-read ss d bs (at + w) (omega arith))
+    ∙ map-map (λ (v : Values (slots ss d)). (z, v)) (withHead ss d bs (at + w)) (decode d (drop (at + w + total ss) bs))
+    ∙ ap (λ (n : ℕ). mapAnswer (withHead (integer w ∷ ss) d bs at) (decode d (drop n bs))) e
 head-read (same w ∷ ss) d bs at h =
     let e : at + w + total ss ≡ at + (w + total ss) = omega arith in
     raw-at w (slots ss d) bs at (omega arith)
@@ -136,10 +148,10 @@ head-bytes ss d n e s h =
 
 -- a payload that ends in the head
 module _ (w : ℕ) (d : Shape) (bs : List Bool) (k : w ≤ length bs → decode d (drop w bs) ≡ refused 15) where
-  num-short : (b : Bool) → ltb (length bs) w ≡ b → decode (uint w d) bs ≡ refused 15
+  num-short : (s : Sign) (b : Bool) → ltb (length bs) w ≡ b → decode (num s saturated w d) bs ≡ refused 15
   unfolding decode refuseIf mapAnswer
-  num-short true e = rw e
-  num-short false e = rw (e, k (ltb-false (length bs) w e))
+  num-short s true e = rw e
+  num-short s false e = rw (e, k (ltb-false (length bs) w e))
 
   raw-short : (b : Bool) → ltb (length bs) w ≡ b → decode (raw w d) bs ≡ refused 15
   unfolding decode refuseIf mapAnswer
@@ -153,7 +165,10 @@ module _ (w : ℕ) (d : Shape) (bs : List Bool) (k : w ≤ length bs → decode 
 
 pub head-short : (ss : List Slot) (d : Shape) (bs : List Bool) → length bs < total ss → decode (slots ss d) bs ≡ refused 15
 head-short [] d bs h = absurd (omega arith)
-head-short (value w ∷ ss) d bs h = num-short w (slots ss d) bs (λ l. head-short ss d (drop w bs) (rw length-drop (omega arith))) (ltb (length bs) w) refl
+head-short (value w ∷ ss) d bs h =
+    num-short w (slots ss d) bs (λ l. head-short ss d (drop w bs) (rw length-drop (omega arith))) unsigned (ltb (length bs) w) refl
+head-short (integer w ∷ ss) d bs h =
+    num-short w (slots ss d) bs (λ l. head-short ss d (drop w bs) (rw length-drop (omega arith))) signed (ltb (length bs) w) refl
 head-short (same w ∷ ss) d bs h = raw-short w (slots ss d) bs (λ l. head-short ss d (drop w bs) (rw length-drop (omega arith))) (ltb (length bs) w) refl
 head-short (gap w ∷ ss) d bs h = void-short w (slots ss d) bs (λ l. head-short ss d (drop w bs) (rw length-drop (omega arith))) (ltb (length bs) w) refl
 
@@ -253,6 +268,25 @@ module _ (m : ℕ) (d : Shape) (bs : List Bool) where
     unfolding decode refuseIf
     list-short l = rw (there, e, ← en, lt-ltb (length (unpack s)) (n * 8) (omega (arith, length-unpack s)))
 
+    pub list-long : n ≤ length s → m < n → decode (list 8 m d) bs ≡ refused 16
+    unfolding decode refuseIf
+    list-long l k = rw (there, e, ← en, le-ltb (length (unpack s)) (n * 8) (omega (arith, length-unpack s)), lt-ltb m n k)
+
     pub list-read : n ≤ length s → n ≤ m → decode (list 8 m d) bs ≡ mapAnswer (λ (v : Values d). (take n s, v)) (decode d (unpack (drop n s)))
     unfolding decode refuseIf
     list-read l k = rw (there, e, ← en, le-ltb (length (unpack s)) (n * 8) (omega (arith, length-unpack s)), le-ltb m n k, byte-items n s os l, drop-unpack n s)
+
+-- ── a tag ──
+
+-- a tag at bit `at`
+module _ (n : ℕ) (f : ℕ → Shape) (bs : List Bool) (at : ℕ) where
+  pub choice-at : at + tagWidth n ≤ length bs
+      → decode (choice n f) (drop at bs) ≡ refuseIf (leb n (fromBits (tagWidth n) (drop at bs))) 27
+      (mapAnswer (λ (v : Values (f (fromBits (tagWidth n) (drop at bs)))). (fromBits (tagWidth n) (drop at bs), v))
+      (decode (f (fromBits (tagWidth n) (drop at bs))) (drop (at + tagWidth n) bs)))
+  unfolding decode refuseIf
+  choice-at h = rw (enough (tagWidth n) end bs at h, drop-drop (tagWidth n) at bs)
+
+  pub choice-short : length (drop at bs) < tagWidth n → decode (choice n f) (drop at bs) ≡ refused 15
+  unfolding decode refuseIf
+  choice-short h = rw (lt-ltb (length (drop at bs)) (tagWidth n) h)

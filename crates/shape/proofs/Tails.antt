@@ -12,7 +12,7 @@ use Rattle.bits.specs.Width.{widthOf}
 use Rattle.bits.proofs.Bytes.{length-unpack, drop-unpack}
 use Rattle.bits.proofs.Octets.{octets-drop}
 use Rattle.shape.specs.Answer.{Answer, refused, got, refuseIf, mapAnswer}
-use Rattle.shape.specs.Shape.{Shape, end, num, raw, uint, void, items, list, tail, itemsOf, allZero, decode}
+use Rattle.shape.specs.Shape.{Shape, end, num, raw, uint, void, items, list, tail, choice, tagWidth, itemsOf, allZero, decode}
 use Rattle.shape.specs.Laws.{Tails, OnBytes, Never25, ByteLists}
 use Rattle.shape.proofs.Reading.{byte-items, tail-long, tail-not, tail-got}
 use Rattle.shape.proofs.Writing.{item-bytes}
@@ -84,6 +84,13 @@ not-25 (tail w m ok) k h bs e =
     (λ f. refuse (leb 8 (length bs % w)) 16 _ (λ z. omega arith)
     (λ g. zeros (drop (n * w) bs) _ (length-drop (n * w) bs ∙ omega (arith, h .1))
     (refuse (not (ok (itemsOf w n bs))) 17 _ (λ z. omega arith) (λ i. tt))))
+not-25 (choice n f) k h bs e =
+    let w = tagWidth n in
+    let t = fromBits w bs in
+    refuse (ltb (length bs) w) 15 _ (λ q. omega arith)
+    (λ a. refuse (leb n t) 27 _ (λ q. omega arith)
+    (λ b. through _ (decode (f t) (drop w bs))
+    (not-25 (f t) (k + w) (h t (leb-false n t b)) (drop w bs) (omega (arith, length-drop w bs, ltb-false (length bs) w a)))))
 
 told : {A : Type 0} (r : Answer A) → Not25 r → r ≡ refused 25 → ⊥
 told (refused n) h e = h (let z : _≡_ {A = ℕ} n 25 = cc in z)

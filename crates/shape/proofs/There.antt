@@ -2,7 +2,7 @@
 use mathlib.Core.Path.{_≡_, refl, sym, ap, _∙_}
 use mathlib.Core.Bool.{Bool, true, false, _&&_}
 use mathlib.Core.List.{List, _++_, append-assoc}
-use Prim.Native.Nat.{ℕ, _+_, _*_, _/_, _%_, _^_, _≤_, _<_}
+use Prim.Native.Nat.{ℕ, _+_, _*_, _-_, _/_, _%_, _^_, _≤_, _<_}
 use native.Mathlib.Omega.{arith}
 use borrow.Author.Tests.{le-ltb, lt-leb, ltb-true, leb-true, eqb-true}
 use lib.Dec.{ltb, leb, eqb}
@@ -16,7 +16,7 @@ use Rattle.bits.specs.Width.{widthOf}
 use Rattle.bits.proofs.Widths.{width-law}
 use Rattle.shape.specs.Answer.{Answer, got, refuseIf, mapAnswer}
 use Rattle.shape.specs.Cast.{Sign, Cast, unsigned, signed, valueOf, holds, castBits, clip}
-use Rattle.shape.specs.Shape.{Shape, end, num, raw, void, items, list, tail, Values, itemBits, allZero, allBelow, encode, decode, fits, clipped, within}
+use Rattle.shape.specs.Shape.{Shape, end, num, raw, void, items, list, tail, choice, tagWidth, Values, itemBits, allZero, allBelow, encode, decode, tags, fits, clipped, within}
 use Rattle.shape.specs.Laws.{Sound}
 use Rattle.shape.proofs.CastFacts.{cast-lt, cast-keeps, keeps-unsigned}
 use Rattle.shape.proofs.Fields.{and-left, and-right, length-itemBits, items-there}
@@ -43,6 +43,10 @@ num-there s c w d n r h = rw (front w n r, fromBits-toBits w n r h, behind w n r
 raw-there : (w : ℕ) (d : Shape) (n : ℕ) (r : List Bool) → n < 2 ^ w → decode (raw w d) (toBits w n ++ r) ≡ mapAnswer (λ (v : Values d). (n, v)) (decode d r)
 unfolding decode refuseIf
 raw-there w d n r h = rw (front w n r, fromBits-toBits w n r h, behind w n r)
+
+-- a tag fits its bits
+pub tag-fits : (n t : ℕ) → t < n → t < 2 ^ tagWidth n
+tag-fits n t l = omega (arith, width-law (n - 1) .holds)
 
 -- what follows a number
 sound-rest : (s : Sign) (c : Cast) (w : ℕ) (d : Shape) → Sound (num s c w d) → Sound d
@@ -76,40 +80,54 @@ void-there : (w : ℕ) (d : Shape) (r : List Bool) → decode (void w d) (toBits
 unfolding decode refuseIf
 void-there w d r = rw (front w 0 r, behind w 0 r)
 
+choice-there : (n : ℕ) (f : ℕ → Shape) (t : ℕ) (r : List Bool) → t < n
+    → decode (choice n f) (toBits (tagWidth n) t ++ r) ≡ mapAnswer (λ (v : Values (f t)). (t, v)) (decode (f t) r)
+unfolding decode refuseIf
+choice-there n f t r l =
+    let w = tagWidth n in
+    rw (front w t r, fromBits-toBits w t r (tag-fits n t l), lt-leb n t l, behind w t r)
+
 module _ (pad : List Bool) (short : length pad < 8) (z : allZero pad ≡ true) where
-  pub there : (d : Shape) → Sound d → (v : Values d) → fits d v ≡ true → decode d (encode d v ++ pad) ≡ got (clipped d v)
+  pub there : (d : Shape) → Sound d → (v : Values d) → tags d v ≡ true → fits d v ≡ true → decode d (encode d v ++ pad) ≡ got (clipped d v)
   unfolding encode fits mapAnswer decode refuseIf clipped
-  there end s v h = rw (lt-leb 8 (length pad) short, z)
-  there (num sg c w d) s v h =
+  there end s v t h = rw (lt-leb 8 (length pad) short, z)
+  there (num sg c w d) s v t h =
       let n = castBits sg c w (v .0) in
       ap (λ (b : List Bool). decode (num sg c w d) b) (append-assoc (toBits w n) (encode d (v .1)) pad)
       ∙ num-there sg c w d n (encode d (v .1) ++ pad) (cast-lt sg c w (v .0))
-      ∙ ap (λ (r : Answer (Values d)). mapAnswer (λ (u : Values d). (valueOf sg w n, u)) r) (there d (sound-rest sg c w d s) (v .1) h)
-  there (raw w d) s v h =
+      ∙ ap (λ (r : Answer (Values d)). mapAnswer (λ (u : Values d). (valueOf sg w n, u)) r) (there d (sound-rest sg c w d s) (v .1) t h)
+  there (raw w d) s v t h =
       let l = and-left (ltb (v .0) (2 ^ w)) (fits d (v .1)) h in
       ap (λ (b : List Bool). decode (raw w d) b) (append-assoc (toBits w (v .0)) (encode d (v .1)) pad)
       ∙ raw-there w d (v .0) (encode d (v .1) ++ pad) (ltb-true (v .0) (2 ^ w) l)
-      ∙ ap (λ (r : Answer (Values d)). mapAnswer (λ (u : Values d). (v .0, u)) r) (there d s (v .1) (and-right (ltb (v .0) (2 ^ w)) (fits d (v .1)) h))
-  there (void w d) s v h =
-      ap (λ (b : List Bool). decode (void w d) b) (append-assoc (toBits w 0) (encode d v) pad) ∙ void-there w d (encode d v ++ pad) ∙ there d s v h
-  there (items w k d) s v h =
+      ∙ ap (λ (r : Answer (Values d)). mapAnswer (λ (u : Values d). (v .0, u)) r) (there d s (v .1) t (and-right (ltb (v .0) (2 ^ w)) (fits d (v .1)) h))
+  there (void w d) s v t h =
+      ap (λ (b : List Bool). decode (void w d) b) (append-assoc (toBits w 0) (encode d v) pad) ∙ void-there w d (encode d v ++ pad) ∙ there d s v t h
+  there (items w k d) s v t h =
       let c = and-right (eqb (length (v .0)) k) (allBelow (2 ^ w) (v .0) && fits d (v .1)) h in
       let e : length (v .0) ≡ k = eqb-true (length (v .0)) k (and-left (eqb (length (v .0)) k) (allBelow (2 ^ w) (v .0) && fits d (v .1)) h) in
       ap (λ (b : List Bool). decode (items w k d) b) (append-assoc (itemBits w (v .0)) (encode d (v .1)) pad)
       ∙ ap (λ (j : ℕ). decode (items w j d) (itemBits w (v .0) ++ (encode d (v .1) ++ pad))) (sym e)
       ∙ items-there' w d (v .0) (encode d (v .1) ++ pad) (and-left (allBelow (2 ^ w) (v .0)) (fits d (v .1)) c)
-      ∙ ap (λ (r : Answer (Values d)). mapAnswer (λ (u : Values d). (v .0, u)) r) (there d s (v .1) (and-right (allBelow (2 ^ w) (v .0)) (fits d (v .1)) c))
-  there (list w m d) s v h =
+      ∙ ap (λ (r : Answer (Values d)). mapAnswer (λ (u : Values d). (v .0, u)) r) (there d s (v .1) t (and-right (allBelow (2 ^ w) (v .0)) (fits d (v .1)) c))
+  there (list w m d) s v t h =
       let c = and-right (leb (length (v .0)) m) (allBelow (2 ^ w) (v .0) && fits d (v .1)) h in
       let l : length (v .0) ≤ m = leb-true (length (v .0)) m (and-left (leb (length (v .0)) m) (allBelow (2 ^ w) (v .0) && fits d (v .1)) h) in
       let e : encode (list w m d) v ++ pad ≡ toBits (widthOf m) (length (v .0)) ++ (itemBits w (v .0) ++ (encode d (v .1) ++ pad)) = simp append-assoc in
       ap (λ (b : List Bool). decode (list w m d) b) e
       ∙ list-there w m d (v .0) (encode d (v .1) ++ pad) l (and-left (allBelow (2 ^ w) (v .0)) (fits d (v .1)) c)
-      ∙ ap (λ (r : Answer (Values d)). mapAnswer (λ (u : Values d). (v .0, u)) r) (there d s (v .1) (and-right (allBelow (2 ^ w) (v .0)) (fits d (v .1)) c))
-  there (tail w m ok) s v h =
+      ∙ ap (λ (r : Answer (Values d)). mapAnswer (λ (u : Values d). (v .0, u)) r) (there d s (v .1) t (and-right (allBelow (2 ^ w) (v .0)) (fits d (v .1)) c))
+  there (tail w m ok) s v t h =
       let c = and-right (leb (length v) m) (allBelow (2 ^ w) v && ok v) h in
       let l : length v ≤ m = leb-true (length v) m (and-left (leb (length v) m) (allBelow (2 ^ w) v && ok v) h) in
       tail-there w m ok v pad s l (and-left (allBelow (2 ^ w) v) (ok v) c) (and-right (allBelow (2 ^ w) v) (ok v) c) short z
+  there (choice n f) s v t h =
+      let k = v .0 in
+      let l : k < n = ltb-true k n (and-left (ltb k n) (tags (f k) (v .1)) t) in
+      ap (λ (b : List Bool). decode (choice n f) b) (append-assoc (toBits (tagWidth n) k) (encode (f k) (v .1)) pad)
+      ∙ choice-there n f k (encode (f k) (v .1) ++ pad) l
+      ∙ ap (λ (r : Answer (Values (f k))). mapAnswer (λ (u : Values (f k)). (k, u)) r)
+      (there (f k) (s k l) (v .1) (and-right (ltb k n) (tags (f k) (v .1)) t) h)
 
 -- ── numbers that their fields hold ──
 
@@ -131,3 +149,7 @@ kept (void w d) s v h = kept d s v h
 kept (items w k d) s v h = pair refl (kept d s (v .1) h)
 kept (list w m d) s v h = pair refl (kept d s (v .1) h)
 kept (tail w m ok) s v h = refl
+kept (choice n f) s v h =
+    let k = v .0 in
+    let l : k < n = ltb-true k n (and-left (ltb k n) (within (f k) (v .1)) h) in
+    ap (λ (u : Values (f k)). (k, u)) (kept (f k) (s k l) (v .1) (and-right (ltb k n) (within (f k) (v .1)) h))

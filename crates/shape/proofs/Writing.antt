@@ -9,12 +9,17 @@ use lib.ListN.{length, drop, replicate, length-append, length-replicate}
 use Rattle.bits.specs.Order.{Octets, digits, unpack, bytes, bytesFor, padding, octets, toBits, store}
 use Rattle.bits.proofs.Bytes.{length-bytes, store-front, store-store}
 use Rattle.shape.specs.Answer.{refused, got, numbered, refuseIf}
-use Rattle.shape.specs.Shape.{Shape, Values, itemBits, allBelow, encode, message, fits, encoded, written}
+use Rattle.shape.specs.Shape.{Shape, Values, itemBits, allBelow, encode, message, tags, fits, encoded, written}
 
-module _ (d : Shape) (v : Values d) (m : List ℕ) where
+pub refuse-27 : (d : Shape) (v : Values d) (m : List ℕ) → tags d v ≡ false → (numbered (refused 27), m) ≡ written d v m
+unfolding encoded refuseIf
+refuse-27 d v m t = rw t
+
+-- of a type without unions t is refl
+module _ (d : Shape) (v : Values d) (m : List ℕ) (t : tags d v ≡ true) where
   pub refuse-17 : fits d v ≡ false → (numbered (refused 17), m) ≡ written d v m
   unfolding encoded refuseIf
-  refuse-17 f = rw f
+  refuse-17 f = rw (t, f)
 
   -- bits that take n bytes, the last one perhaps padded
   module _ (f : fits d v ≡ true) (n : ℕ) (for : bytesFor (length (encode d v)) ≡ n) where
@@ -23,7 +28,7 @@ module _ (d : Shape) (v : Values d) (m : List ℕ) where
 
     pub refuse-8-padded : length m < n → (numbered (refused 8), m) ≡ written d v m
     unfolding encoded refuseIf
-    refuse-8-padded h = rw (f, size, lt-ltb (length m) n h)
+    refuse-8-padded h = rw (t, f, size, lt-ltb (length m) n h)
 
     pub write-padded : Octets m → n ≤ length m → (m' : List ℕ) → m' ≡ store m 0 (encode d v ++ padding (encode d v)) → (numbered (got n), m') ≡ written d v m
     unfolding encoded refuseIf
@@ -32,7 +37,7 @@ module _ (d : Shape) (v : Values d) (m : List ℕ) where
         ∙ omega (arith, length-replicate (bytesFor (length (encode d v)) * 8 - length (encode d v)) false) in
         let b : m' ≡ message d v ++ drop n m = e ∙ store-front m n (encode d v ++ padding (encode d v)) o l h
         ∙ ap (λ (k : ℕ). bytes k (encode d v ++ padding (encode d v)) ++ drop n m) (sym for) in
-        rw (f, size, le-ltb (length m) n h, b, size)
+        rw (t, f, size, le-ltb (length m) n h, b, size)
 
   -- bits that fill n bytes
   module _ (f : fits d v ≡ true) (n : ℕ) (l : length (encode d v) ≡ n * 8) where

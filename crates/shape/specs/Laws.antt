@@ -1,17 +1,17 @@
 -- RULES 9.10: the return trip, over every description. `laws.rt` has a function for each law, whose contract it is.
 use mathlib.Core.Path.{_≡_}
-use mathlib.Core.Bool.{Bool, true, not}
+use mathlib.Core.Bool.{Bool, true, false, not}
 use mathlib.Core.List.{List}
 use Prim.Native.Nat.{ℕ, _+_, _*_, _%_, _^_, _≤_, _<_}
 use lib.Dec.{ltb}
 use lib.IntN.{ℤ}
 use lib.ListN.{length, drop}
-use Rattle.bits.specs.Order.{Octets, unpack}
+use Rattle.bits.specs.Order.{Octets, unpack, fromBits}
 use Rattle.bits.specs.Part.{span}
 use Rattle.bits.specs.Width.{widthOf}
 use Rattle.shape.specs.Answer.{refused, got, refuseIf, mapAnswer}
 use Rattle.shape.specs.Cast.{Sign, Cast, unsigned, signed, saturated, valueOf, holds, nearest, castBits, clip}
-use Rattle.shape.specs.Shape.{Shape, end, num, raw, uint, void, items, list, tail, Values, itemBits, itemsOf, decode, clipped, within, decoded, encoded, cleared}
+use Rattle.shape.specs.Shape.{Shape, end, num, raw, uint, void, items, list, tail, choice, tagWidth, Values, itemBits, itemsOf, decode, tags, clipped, within, decoded, encoded, cleared}
 
 -- RULES 9.4: items of a list without a length field have 8 bits or more, signed numbers at least one
 abbrev pub Sound : Shape → Type 0
@@ -23,6 +23,7 @@ Sound (void w d) = Sound d
 Sound (items w k d) = Sound d
 Sound (list w m d) = Sound d
 Sound (tail w m ok) = 8 ≤ w
+Sound (choice n f) = (t : ℕ) → t < n → Sound (f t)
 
 -- nothing in it is ignored (RULES 9.8)
 abbrev pub Whole : Shape → Type 0
@@ -33,6 +34,7 @@ Whole (void w d) = ⊥
 Whole (items w k d) = Whole d
 Whole (list w m d) = Whole d
 Whole (tail w m ok) = Unit {0}
+Whole (choice n f) = (t : ℕ) → Whole (f t)
 
 -- what was written is read: every field comes back, numbers as they were clipped
 abbrev pub There : Type 0
@@ -49,6 +51,16 @@ Back = (d : Shape) (p : List ℕ) (v : Values d) (room : ℕ) → decoded d p �
 -- where nothing is ignored, that is the payload itself
 abbrev pub Same : Type 0
 Same = (d : Shape) → Whole d → (p : List ℕ) → Octets p → cleared d p ≡ p
+
+-- RULES 9.15: over every number of cases, whatever they are
+pub record Unions : Type 0 where
+  -- the tag numbers all cases, and no fewer bits do
+  pub numbers : (n t : ℕ) → t < n → t < 2 ^ tagWidth n
+  pub least : (n w : ℕ) → ((t : ℕ) → t < n → t < 2 ^ w) → tagWidth n ≤ w
+  -- a tag that no case has is refused, before anything that follows it is looked at
+  pub read : (n : ℕ) (f : ℕ → Shape) (bs : List Bool) → tagWidth n ≤ length bs → n ≤ fromBits (tagWidth n) bs → decode (choice n f) bs ≡ refused 27
+  -- and in writing before anything else
+  pub write : (d : Shape) (v : Values d) (room : ℕ) → tags d v ≡ false → encoded d v room ≡ refused 27
 
 -- RULES 9.4, as instances: a list at the end, of items of 8 to 64 bits, that starts after h bits and so perhaps inside a byte
 pub record TailTrips (h w m : ℕ) (ok : List ℕ → Bool) : Type 0 where
@@ -69,6 +81,7 @@ OnBytes k (void w d) = OnBytes (k + w) d
 OnBytes k (items w n d) = OnBytes (k + n * w) d
 OnBytes k (list w m d) = (w ≡ 8) × OnBytes (k + widthOf m) d
 OnBytes k (tail w m ok) = (w ≡ 8) × (k % 8 ≡ 0)
+OnBytes k (choice n f) = (t : ℕ) → t < n → OnBytes (k + tagWidth n) (f t)
 
 -- no payload is refused for padding
 abbrev pub Never25 : Shape → Type 0

@@ -1,10 +1,11 @@
--- RULES 15.2: worked values of both cast modes (RULES 9.14), as facts of the definitions. `laws.rt` has a function whose contract they are.
+-- RULES 15.2: worked values of both cast modes (RULES 9.14), and widths of tags (RULES 9.15), as facts of the definitions. `laws.rt` has a
+-- function whose contract they are.
 use mathlib.Core.Path.{_≡_}
 use mathlib.Core.List.{[], _∷_}
 use lib.IntN.{pos, negsuc}
 use Rattle.shape.specs.Answer.{got}
 use Rattle.shape.specs.Cast.{Cast, unsigned, signed, saturated, truncated}
-use Rattle.shape.specs.Shape.{Shape, end, num, uint, decoded, encoded}
+use Rattle.shape.specs.Shape.{Shape, end, num, uint, tagWidth, decoded, encoded}
 
 -- GlobalTimeSync (message 4), no type of ours: one field, `truncated uint56`
 abbrev pub timeSync : Shape
@@ -28,3 +29,8 @@ pub record Samples : Type 0 where
   pub cut-high : encoded (signedByte truncated) (pos 200, tt) 1 ≡ got (200 ∷ [])
   pub cut-high-read : decoded (signedByte truncated) (200 ∷ []) ≡ got (negsuc 55, tt)
   pub cut-low : encoded (signedByte truncated) (negsuc 199, tt) 1 ≡ got (56 ∷ [])
+  -- two cases take one bit, three and four take two, five to eight take three
+  pub two : tagWidth 2 ≡ 1
+  pub three-four : (tagWidth 3 ≡ 2) × (tagWidth 4 ≡ 2)
+  pub five-eight : (tagWidth 5 ≡ 3) × (tagWidth 8 ≡ 3)
+  pub nine : tagWidth 9 ≡ 4

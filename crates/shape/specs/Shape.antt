@@ -1,7 +1,7 @@
--- RULES 9.1 to 9.11: a message described once, field by field. Its bits, its reading and its refusals follow from the description.
+-- RULES 9.1 to 9.11, 9.15: a message described once, field by field. Its bits, its reading and its refusals follow from the description.
 use mathlib.Core.Bool.{Bool, true, not, _&&_}
 use mathlib.Core.List.{List, [], _∷_, _++_}
-use Prim.Native.Nat.{ℕ, zero, suc, _*_, _/_, _%_, _^_}
+use Prim.Native.Nat.{ℕ, zero, suc, _*_, _-_, _/_, _%_, _^_}
 use lib.Dec.{ltb, leb, eqb}
 use lib.IntN.{ℤ}
 use lib.ListN.{length, take, drop}
@@ -26,10 +26,16 @@ pub data Shape : Type 0 where
   list : ℕ → ℕ → Shape → Shape
   -- at most m items of w bits, 8 or more, the last thing of all, with no length field (RULES 9.4): w, m, what the content must pass
   tail : ℕ → ℕ → (List ℕ → Bool) → Shape
+  -- a union of n cases (RULES 9.15): n, and from the tag on what follows it, the fields of its case and then those after the union
+  choice : ℕ → (ℕ → Shape) → Shape
 
 -- RULES 9.14: an unsigned number, of the cast mode that a definition has if it names none
 abbrev pub uint : ℕ → Shape → Shape
 uint w d = num unsigned saturated w d
+
+-- RULES 9.15: a tag has the fewest bits that number the cases
+abbrev pub tagWidth : ℕ → ℕ
+tagWidth n = widthOf (n - 1)
 
 -- what a message of this shape holds; numbers may be any, in the field's range or not
 abbrev pub Values : Shape → Type 0
@@ -40,6 +46,7 @@ Values (void w d) = Values d
 Values (items w k d) = List ℕ × Values d
 Values (list w m d) = List ℕ × Values d
 Values (tail w m ok) = List ℕ
+Values (choice n f) = (t : ℕ) × Values (f t)
 
 -- any content
 abbrev pub anything : List ℕ → Bool
@@ -74,8 +81,9 @@ encode (void w d) v = toBits w 0 ++ encode d v
 encode (items w k d) v = itemBits w (v .0) ++ encode d (v .1)
 encode (list w m d) v = toBits (widthOf m) (length (v .0)) ++ (itemBits w (v .0) ++ encode d (v .1))
 encode (tail w m ok) v = itemBits w v
+encode (choice n f) v = toBits (tagWidth n) (v .0) ++ encode (f (v .0)) (v .1)
 
--- ── reading, field by field (RULES 9.6): 15 the payload ends in a field, 16 too many, 25 padding not zero, 17 not allowed ──
+-- ── reading, field by field (RULES 9.6): 15 the payload ends in a field, 16 too many, 25 padding not zero, 27 no case, 17 not allowed ──
 -- A list at the end may start inside a byte: all is counted in bits. Where lists hold bytes and start at whole bytes none is left over (`ByteLists`).
 
 unfoldable pub decode : (d : Shape) → List Bool → Answer (Values d)
@@ -97,8 +105,22 @@ decode (tail w m ok) bs =
     (refuseIf (leb 8 (length bs % w)) 16
     (refuseIf (not (allZero (drop (n * w) bs))) 25
     (refuseIf (not (ok (itemsOf w n bs))) 17 (got (itemsOf w n bs)))))
+decode (choice n f) bs =
+    let t = fromBits (tagWidth n) bs in
+    refuseIf (ltb (length bs) (tagWidth n)) 15 (refuseIf (leb n t) 27 (mapAnswer (λ v. (t, v)) (decode (f t) (drop (tagWidth n) bs))))
 
--- ── writing (RULES 9.7): 17 over all lists, then 8 ──
+-- ── writing (RULES 9.7): 27 over all tags, 17 over all lists, then 8 ──
+
+-- every tag is that of a case
+abbrev pub tags : (d : Shape) → Values d → Bool
+tags end v = true
+tags (num s c w d) v = tags d (v .1)
+tags (raw w d) v = tags d (v .1)
+tags (void w d) v = tags d v
+tags (items w k d) v = tags d (v .1)
+tags (list w m d) v = tags d (v .1)
+tags (tail w m ok) v = true
+tags (choice n f) v = ltb (v .0) n && tags (f (v .0)) (v .1)
 
 unfoldable pub fits : (d : Shape) → Values d → Bool
 fits end v = true
@@ -108,6 +130,7 @@ fits (void w d) v = fits d v
 fits (items w k d) v = eqb (length (v .0)) k && (allBelow (2 ^ w) (v .0) && fits d (v .1))
 fits (list w m d) v = leb (length (v .0)) m && (allBelow (2 ^ w) (v .0) && fits d (v .1))
 fits (tail w m ok) v = leb (length v) m && (allBelow (2 ^ w) v && ok v)
+fits (choice n f) v = fits (f (v .0)) (v .1)
 
 -- ── what is read of a message that was written (RULES 9.14) ──
 
@@ -119,8 +142,9 @@ clipped (void w d) v = clipped d v
 clipped (items w k d) v = (v .0, clipped d (v .1))
 clipped (list w m d) v = (v .0, clipped d (v .1))
 clipped (tail w m ok) v = v
+clipped (choice n f) v = (v .0, clipped (f (v .0)) (v .1))
 
--- every number is one that its field holds
+-- every number is one that its field holds, and every tag that of a case
 unfoldable pub within : (d : Shape) → Values d → Bool
 within end v = true
 within (num s c w d) v = holds s w (v .0) && within d (v .1)
@@ -129,6 +153,7 @@ within (void w d) v = within d v
 within (items w k d) v = within d (v .1)
 within (list w m d) v = within d (v .1)
 within (tail w m ok) v = true
+within (choice n f) v = ltb (v .0) n && within (f (v .0)) (v .1)
 
 -- ── whole payloads ──
 
@@ -139,7 +164,8 @@ abbrev pub message : (d : Shape) → Values d → List ℕ
 message d v = pack (encode d v)
 
 unfoldable pub encoded : (d : Shape) → Values d → ℕ → Answer (List ℕ)
-encoded d v room = refuseIf (not (fits d v)) 17 (refuseIf (ltb room (length (message d v))) 8 (got (message d v)))
+encoded d v room =
+    refuseIf (not (tags d v)) 27 (refuseIf (not (fits d v)) 17 (refuseIf (ltb room (length (message d v))) 8 (got (message d v))))
 
 -- what a writer answers, and the buffer m after it
 abbrev pub written : (d : Shape) → Values d → List ℕ → Numbered ℕ × List ℕ
@@ -158,6 +184,7 @@ clear (list w m d) bs =
     let rest = drop (widthOf m) bs in
     take (widthOf m) bs ++ (take (n * w) rest ++ clear d (drop (n * w) rest))
 clear (tail w m ok) bs = bs
+clear (choice n f) bs = take (tagWidth n) bs ++ clear (f (fromBits (tagWidth n) bs)) (drop (tagWidth n) bs)
 
 abbrev pub cleared : Shape → List ℕ → List ℕ
 cleared d p = bytes (length p) (clear d (unpack p))

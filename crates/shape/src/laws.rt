@@ -1,5 +1,5 @@
 // The laws of specs/Laws.antt and the facts of specs/Samples.antt: a function with no body for each, whose contract they are.
-ghost use Rattle.shape.specs.Laws.{There, Kept, Back, Same, Tails, ByteLists, CastLaws};
+ghost use Rattle.shape.specs.Laws.{There, Kept, Back, Same, Unions, Tails, ByteLists, CastLaws};
 ghost use Rattle.shape.specs.Samples.{Samples};
 
 pub fn there()
@@ -16,6 +16,10 @@ pub fn back()
 
 pub fn same()
     ensures { λ _. ⌜ Same ⌝ }
+{}
+
+pub fn unions()
+    ensures { λ _. ⌜ Unions ⌝ }
 {}
 
 pub fn tails()

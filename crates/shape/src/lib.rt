@@ -2,6 +2,7 @@
 pub mod answer;
 pub mod cast;
 pub mod items;
+pub mod last;
 pub mod laws;
 pub mod number;
 pub mod part;

@@ -378,12 +378,17 @@ fn parameters() {
     g = empty(g, &mut source);
     g = execute_opcode(g, &mut source);
     let r = records_of(g, &source);
-    row(b"uavcan.protocol.param.GetSet", r, 0, 0xA7B622F939D1A4D5);
+    row(
+        b"uavcan.protocol.param.GetSet",
+        r,
+        0,
+        types::signature(1, 11),
+    );
     row(
         b"uavcan.protocol.param.ExecuteOpcode",
         r,
         4,
-        0x3B131AC5EB69D2CD,
+        types::signature(1, 10),
     );
 }
 

@@ -19,7 +19,11 @@ standard =
     -- BatteryInfo
     record { kind = 0; type = 1092; signature = 0x249C26548A711966 } ∷
     -- RawCommand
-    record { kind = 0; type = 1030; signature = 0x217F5C87D7EC951D } ∷ []
+    record { kind = 0; type = 1030; signature = 0x217F5C87D7EC951D } ∷
+    -- GetSet
+    record { kind = 1; type = 11; signature = 0xA7B622F939D1A4D5 } ∷
+    -- ExecuteOpcode
+    record { kind = 1; type = 10; signature = 0x3B131AC5EB69D2CD } ∷ []
 
 -- 0: no standard type
 unfoldable pub signatureOf : ℕ → ℕ → ℕ

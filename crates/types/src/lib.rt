@@ -18,9 +18,12 @@ pub fn signature(kind: u32, type_id: u32) -> u64
         };
     }
     if kind == 1 {
-        if type_id == 1 {
-            return 0xEE468A8121C46A9E;
-        }
+        return match type_id {
+            1 => 0xEE468A8121C46A9E,
+            11 => 0xA7B622F939D1A4D5,
+            10 => 0x3B131AC5EB69D2CD,
+            _ => 0,
+        };
     }
     0
 }

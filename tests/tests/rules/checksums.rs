@@ -62,4 +62,6 @@ fn signatures_of_the_public_set() {
     assert_eq!(definitions::log_message(), 0xD654_A48E_0C04_9D75);
     assert_eq!(definitions::battery_info(), 0x249C_2654_8A71_1966);
     assert_eq!(definitions::raw_command(), 0x217F_5C87_D7EC_951D);
+    assert_eq!(definitions::get_set(), 0xA7B6_22F9_39D1_A4D5);
+    assert_eq!(definitions::execute_opcode(), 0x3B13_1AC5_EB69_D2CD);
 }

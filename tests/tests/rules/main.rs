@@ -7,6 +7,7 @@ mod blocks;
 mod checksums;
 mod lent_state;
 mod log_program;
+mod parameters;
 mod reception;
 mod sending;
 mod serialization;

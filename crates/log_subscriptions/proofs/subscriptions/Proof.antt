@@ -16,22 +16,22 @@ use Rattle.log_subscriptions.proofs.subscriptions.Tie as tie
 
 -- the first j records
 filled : List ℕ → ℕ → List ℕ
-filled ts zero = replicate 91 0
+filled ts zero = replicate 117 0
 filled ts (suc j) = splice (filled ts j) (j * 13) (record13 (getD ts j 0 / 65536) (getD ts j 0 % 65536))
 
 more : (ts m m' : List ℕ) (j : ℕ) → m ≡ filled ts j → m' ≡ splice m (j * 13) (record13 (getD ts j 0 / 65536) (getD ts j 0 % 65536)) → m' ≡ filled ts (j + 1)
 unfolding filled
 more ts m m' j e f = rw (add-one j) (f ∙ ap (λ (x : List ℕ). splice x (j * 13) (record13 (getD ts j 0 / 65536) (getD ts j 0 % 65536))) e)
 
-all : (ts m : List ℕ) (j : ℕ) → ts ≡ 341 ∷ 65537 ∷ 1 ∷ 16370 ∷ 16383 ∷ 1092 ∷ 1030 ∷ [] → j ≡ 7 → m ≡ filled ts j → m ≡ subscriptions
+all : (ts m : List ℕ) (j : ℕ) → ts ≡ 341 ∷ 65537 ∷ 1 ∷ 16370 ∷ 16383 ∷ 1092 ∷ 1030 ∷ 65547 ∷ 65546 ∷ [] → j ≡ 9 → m ≡ filled ts j → m ≡ subscriptions
 unfolding filled record13 records signatureOf subscribed leBytes
-all ts m j t e f = f ∙ ap (filled ts) e ∙ ap (λ (x : List ℕ). filled x 7) t
+all ts m j t e f = f ∙ ap (filled ts) e ∙ ap (λ (x : List ℕ). filled x 9) t
 
 abbrev Inv-loop : tie.InvT-loop
-Inv-loop types out₀ j₀ out j = (j ≤ 7) × ((length out ≡ 91) × (out ≡ filled types j))
+Inv-loop types out₀ j₀ out j = (j ≤ 9) × ((length out ≡ 117) × (out ≡ filled types j))
 
 abbrev μ-loop : tie.MeasureT-loop
-μ-loop types out₀ j₀ out j = 7 - j
+μ-loop types out₀ j₀ out j = 9 - j
 
 loop-holds : tie.Need-loop-holds Inv-loop μ-loop
 unfolding filled

@@ -12,9 +12,9 @@ unfolding signatureOf subscribed
 other-message t a b d e f g =
     simp (ne-eqb 341 t (λ q. a (sym q)), ne-eqb 1 t (λ q. b (sym q)), ne-eqb 16370 t (λ q. d (sym q)), ne-eqb 16383 t (λ q. e (sym q)), ne-eqb 1092 t (λ q. f (sym q)), ne-eqb 1030 t (λ q. g (sym q)))
 
-other-service : (t : ℕ) → (t ≡ 1 → ⊥) → signatureOf 1 t ≡ 0
+other-service : (t : ℕ) → (t ≡ 1 → ⊥) → (t ≡ 11 → ⊥) → (t ≡ 10 → ⊥) → signatureOf 1 t ≡ 0
 unfolding signatureOf subscribed
-other-service t b = simp (ne-eqb 1 t (λ q. b (sym q)))
+other-service t a b d = simp (ne-eqb 1 t (λ q. a (sym q)), ne-eqb 11 t (λ q. b (sym q)), ne-eqb 10 t (λ q. d (sym q)))
 
 other-kind : (k t : ℕ) → (k ≡ 0 → ⊥) → (k ≡ 1 → ⊥) → signatureOf k t ≡ 0
 unfolding signatureOf subscribed
@@ -52,19 +52,28 @@ returns-7 c =
 
 returns-8 : tie.Need-returns-8
 unfolding signatureOf subscribed
-returns-8 c = ap₂ signatureOf (sym (c .before .if2 .taken)) (sym (c .if3 .taken))
+returns-8 c = ap₂ signatureOf (sym (c .before .if2 .taken)) (sym (c .match2 .keys1))
 
 returns-9 : tie.Need-returns-9
-returns-9 c =
-    let t = c .before .before .before .args .type-id in
-    sym (ap (λ (k : ℕ). signatureOf k t) (c .before .if2 .taken) ∙ other-service t (c .if3 .left))
+unfolding signatureOf subscribed
+returns-9 c = ap₂ signatureOf (sym (c .before .if2 .taken)) (sym (c .match2 .keys2))
 
 returns-10 : tie.Need-returns-10
-returns-10 c =
+unfolding signatureOf subscribed
+returns-10 c = ap₂ signatureOf (sym (c .before .if2 .taken)) (sym (c .match2 .keys3))
+
+returns-11 : tie.Need-returns-11
+returns-11 c =
+    let r = c .match2 .rest in
+    let t = c .before .before .before .args .type-id in
+    sym (ap (λ (k : ℕ). signatureOf k t) (c .before .if2 .taken) ∙ other-service t (r .0 .0 .1) (r .0 .1) (r .1))
+
+returns-12 : tie.Need-returns-12
+returns-12 c =
     let a = c .before .before .args in
     sym (other-kind (a .kind) (a .type-id) (c .before .if1 .left) (c .if2 .left))
 
 pub signature-spec : {M : Type 1} → statement M
 signature-spec =
     tie.close
-    (tie.spec returns returns-2 returns-3 returns-4 returns-5 returns-6 returns-7 returns-8 returns-9 returns-10)
+    (tie.spec returns returns-2 returns-3 returns-4 returns-5 returns-6 returns-7 returns-8 returns-9 returns-10 returns-11 returns-12)

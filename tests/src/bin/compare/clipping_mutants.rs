@@ -100,6 +100,7 @@ fn image_crc_signed(message: &Message, out: &mut [u8]) -> Result<usize, Refusal>
 
 /// Writes as much of a list as there may be.
 fn list_cut(message: &Message, out: &mut [u8]) -> Result<usize, Refusal> {
+    let most = |name: &str| most(message.message_type(), name);
     write_changed(message, out, |fields| {
         for (name, value) in fields {
             match value {

@@ -19,6 +19,8 @@ mod maps;
 mod mutants;
 mod options;
 mod outgoing;
+mod parameter_mutants;
+mod parameters;
 mod payloads;
 mod questions;
 mod random;

@@ -6,7 +6,7 @@ use crate::entry_points::{
     frames_in, receive, send, Allocate, Allocating, Arrival, Departure, EntryPoints, Receive,
     Reception, Send, Sending, Serialization, REFERENCE,
 };
-use crate::{block_mutants, clipping_mutants, interface_mutants, reason_mutants};
+use crate::{block_mutants, clipping_mutants, interface_mutants, parameter_mutants, reason_mutants};
 use reference::bits::Refusal;
 use reference::blocks::BLOCK;
 use reference::codec::{Decode, Encode};
@@ -76,6 +76,9 @@ pub fn all() -> Vec<Mutant> {
     ];
     let allocators = allocator_mutants::ALL.map(|(name, allocate)| allocating(name, allocate));
     let clipping = clipping_mutants::ALL.map(|(name, encode)| writing(name, encode));
+    let parameters_read =
+        parameter_mutants::READING.map(|(name, decode)| reading(name, Part::Requests, decode));
+    let parameters_written = parameter_mutants::WRITING.map(|(name, encode)| writing(name, encode));
     others
         .into_iter()
         .chain(interfaces)
@@ -83,6 +86,8 @@ pub fn all() -> Vec<Mutant> {
         .chain(blocks)
         .chain(allocators)
         .chain(clipping)
+        .chain(parameters_read)
+        .chain(parameters_written)
         .collect()
 }
 

@@ -47,7 +47,7 @@ impl Options {
             sends: 200_000,
             allocations: 100_000,
             messages: 100_000,
-            lines: 300_000,
+            lines: 600_000,
             minimum: 1000,
         };
         while let Some(word) = words.next() {

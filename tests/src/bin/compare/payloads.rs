@@ -1,16 +1,18 @@
 //! Messages compared: random ones written, and payloads whole, cut, lengthened and damaged read.
 
-use crate::clipping::{around, change_numbers, COMMAND};
+use crate::clipping::{around, change_numbers, ARGUMENT, COMMAND, HUGE, INTEGER};
 use crate::entry_points::Serialization;
 use crate::lent::Pair;
 use crate::random::Random;
 use crate::tally::{compare, Difference, Tally};
 use reference::binary16::{narrow, widen, LARGEST};
 use reference::bits::Refusal;
-use reference::codec::{fields, Fields, Value, FLOATS};
+use reference::codec::{counting, fields, Fields, Value, FLOATS};
 use reference::messages::{
-    decode, encode, Allocation, BatteryInfo, HardwareVersion, KeyValue, LogMessage, Message,
-    MessageType, NodeInfo, NodeStatus, RawCommand, SoftwareVersion, MOST_COMMANDS,
+    decode, encode, Allocation, BatteryInfo, GetSetRequest, GetSetResponse, HardwareVersion,
+    KeyValue, LogMessage, Message, MessageType, NodeInfo, NodeStatus, OpcodeRequest,
+    OpcodeResponse, Parameter, RawCommand, SoftwareVersion, MOST_COMMANDS, NUMERIC_CASES,
+    VALUE_CASES,
 };
 
 const MOST_ROOM: usize = 600;
@@ -101,6 +103,7 @@ impl Payloads {
             .map_or_else(|refusal| refusal.number(), |_| 0);
         self.tallies[index].0.number(number);
         let read = actual.as_ref().map(fields);
+        let read = read.map(counting);
         let back = !whole || read == Ok(coming_back(message));
         if expected == actual && back {
             return Ok(());
@@ -154,6 +157,22 @@ pub fn numbers(message_type: MessageType) -> (Expected, Expected) {
             ("decode RawCommand", &[0, 16, 25]),
             ("encode RawCommand", WRITING),
         ),
+        MessageType::GetSetRequest => (
+            ("decode GetSet request", &[0, 15, 16, 27]),
+            ("encode GetSet request", &[0, 8, 17, 27]),
+        ),
+        MessageType::GetSetResponse => (
+            ("decode GetSet response", &[0, 15, 16, 27]),
+            ("encode GetSet response", &[0, 8, 17, 27]),
+        ),
+        MessageType::OpcodeRequest => (
+            ("decode ExecuteOpcode request", READING),
+            ("encode ExecuteOpcode request", &[0, 8]),
+        ),
+        MessageType::OpcodeResponse => (
+            ("decode ExecuteOpcode response", &[0, 15, 16, 25]),
+            ("encode ExecuteOpcode response", &[0, 8]),
+        ),
     }
 }
 
@@ -199,6 +218,58 @@ pub fn message<'a>(
         MessageType::NodeInfoResponse => Message::NodeInfoResponse(info(random, lists)),
         MessageType::BatteryInfo => Message::BatteryInfo(battery(random, lists)),
         MessageType::RawCommand => Message::RawCommand(commands(random)),
+        MessageType::GetSetRequest => Message::GetSetRequest(GetSetRequest {
+            index: number(random, 13),
+            value: parameter(random, lists, 0, VALUE_CASES),
+            name: lists.at_most(random, 2, 92),
+        }),
+        MessageType::GetSetResponse => Message::GetSetResponse(GetSetResponse {
+            value: parameter(random, lists, 0, VALUE_CASES),
+            default: parameter(random, lists, 1, VALUE_CASES),
+            highest: parameter(random, lists, 0, NUMERIC_CASES),
+            lowest: parameter(random, lists, 1, NUMERIC_CASES),
+            name: lists.at_most(random, 2, 92),
+        }),
+        MessageType::OpcodeRequest => Message::OpcodeRequest(OpcodeRequest {
+            opcode: number(random, 8),
+            argument: around(random, ARGUMENT),
+        }),
+        MessageType::OpcodeResponse => Message::OpcodeResponse(OpcodeResponse {
+            argument: around(random, ARGUMENT),
+            ok: number(random, 1),
+        }),
+    }
+}
+
+/// Numbers that 32 bits do not make.
+pub const NO_PATTERNS: [i128; 6] = [-HUGE, i64::MIN as i128, -1, 1 << 32, 1 << 64, HUGE];
+
+/// A signalling NaN is all ones in the exponent, and below it a zero and then some one.
+pub const SIGNALLING: u32 = 0x7F80_0001;
+
+/// A value with something for every case, often what would be refused; rarely of no case.
+fn parameter<'a>(
+    random: &mut Random,
+    lists: &'a Lists,
+    list: usize,
+    cases: usize,
+) -> Parameter<'a> {
+    let tag = random.index(cases) as i128;
+    let unknown = random.pick(&[-HUGE, -1, cases as i128, 7, 8, 1 << 64]);
+    let bits = random.next() as u32;
+    let nan = SIGNALLING | bits & 0x803F_FFFF;
+    let pattern = i128::from(if random.once_in(8) { nan } else { bits });
+    let no_pattern = random.pick(&NO_PATTERNS);
+    Parameter {
+        tag: if random.once_in(30) { unknown } else { tag },
+        integer: around(random, INTEGER),
+        real: if random.once_in(6) {
+            no_pattern
+        } else {
+            pattern
+        },
+        boolean: number(random, 8),
+        text: lists.at_most(random, list, 128),
     }
 }
 
@@ -333,10 +404,10 @@ fn spoil(random: &mut Random, payload: &mut Vec<u8>) {
     }
 }
 
-/// The fields of a message as they come back: numbers clipped, sub-mode zero, floats as their
-/// binary16.
+/// The fields of a message as they come back: of unions only what the tag names, numbers clipped,
+/// sub-mode zero, floats as their binary16.
 fn coming_back(message: &Message) -> Fields {
-    let mut back = fields(message);
+    let mut back = counting(fields(message));
     change_numbers(&mut back, |number, (low, high)| number.clamp(low, high));
     for (name, value) in &mut back {
         match value {

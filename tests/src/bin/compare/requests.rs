@@ -1,14 +1,18 @@
 //! The codec program compared: requests as lines through a pipe, and its answers line by line.
 
-use crate::clipping::{self, causes, clips, edges, is_float, range, COMMAND, HUGE};
+use crate::clipping::{
+    self, chosen, chosen_cases, clips, edges, is_float, range, refused, COMMAND, HUGE,
+};
 use crate::entry_points::{Serialization, REFERENCE};
-use crate::payloads::{message, numbers, Lists};
+use crate::parameters::{self, Asking, Known};
+use crate::payloads::{message, numbers, Lists, NO_PATTERNS, SIGNALLING};
 use crate::random::Random;
 use crate::tally::{Difference, Tally};
 use reference::binary16::{narrow, widen};
 use reference::bits::Writer;
 use reference::codec::{
-    absent, answer, asked, fields, hex, type_name, Asked, Fields, Value, FLOATS, LONGEST_LINE,
+    absent, answer, asked, case_of, counting, fields, hex, type_name, Asked, Fields, Value, FLOATS,
+    LONGEST_LINE,
 };
 use reference::messages::{encode, Message, MessageType};
 use std::io::{Read, Write};
@@ -29,17 +33,21 @@ pub struct Requests {
     cases: Tally,
 }
 
-/// A line, and what it asks: the type's index, and whether it encodes.
+/// A line, and what it asks: the type's index, and whether it encodes. Of some lines the answer's
+/// number is known, with the case that they show.
 struct Request {
     line: Vec<u8>,
     index: usize,
     encodes: bool,
+    known: Option<(u32, &'static str)>,
 }
 
 /// The lines of one run of the program.
 const BLOCK: u64 = 20_000;
 /// The index of RawCommand.
 const COMMANDS_TYPE: usize = 7;
+/// The indexes of GetSet's request and response.
+const GET_SET_TYPES: [usize; 2] = [8, 9];
 const MODES: [&str; 8] = [
     "mode 0", "mode 1", "mode 2", "mode 3", "mode 4", "mode 5", "mode 6", "mode 7",
 ];
@@ -47,6 +55,7 @@ const LEVELS: [&str; 8] = [
     "level 0", "level 1", "level 2", "level 3", "level 4", "level 5", "level 6", "level 7",
 ];
 const NAN: &str = "signalling NaN";
+const REAL_NAN: &str = "signalling NaN as a parameter";
 const ANY_SUB_MODE: &str = "sub-mode outside of 64 bits";
 const FAR_BELOW: &str = "number of 30 digits below 0";
 const FAR_ABOVE: &str = "number of 30 digits above 0";
@@ -77,25 +86,22 @@ const COMMANDS: [(i128, &str); 4] = [
     (8191, "command 8191"),
     (8192, "command 8192"),
 ];
-/// Numbers that 32 bits do not make.
-const NO_PATTERNS: [i128; 6] = [-HUGE, i64::MIN as i128, -1, 1 << 32, 1 << 64, HUGE];
-/// A signalling NaN is all ones in the exponent, and below it a zero and then some one.
-const SIGNALLING: u32 = 0x7F80_0001;
 
 impl Requests {
     pub fn new(answerer: Answerer, seed: u64) -> Requests {
         let tallies = MessageType::ALL.into_iter().map(|message_type| {
             let ((read, reading), (written, writing)) = numbers(message_type);
             (
-                Tally::new(read, reading, &[]),
+                Tally::new(read, reading, &chosen_cases(message_type)),
                 Tally::new(written, writing, &clipping::cases(message_type)),
             )
         });
         let empty = EMPTY.map(|(_, case)| case);
         let floats = [KEPT, ROUNDED, CLIPPED, MINUS_ZERO, INFINITE, NO_NUMBER];
         let commands = COMMANDS.map(|(_, case)| case);
-        let others = [NAN, ANY_SUB_MODE, FAR_BELOW, FAR_ABOVE];
-        let cases = [&MODES[..], &LEVELS, &empty, &floats, &commands, &others].concat();
+        let others = [NAN, REAL_NAN, ANY_SUB_MODE, FAR_BELOW, FAR_ABOVE];
+        let mut cases = [&MODES[..], &LEVELS, &empty, &floats, &commands, &others].concat();
+        cases.extend(parameters::cases());
         Requests {
             answerer,
             random: Random::new(seed),
@@ -114,11 +120,16 @@ impl Requests {
     }
 
     /// Compares about so many lines, every cut of one message of each type, the edges of each
-    /// number, and commands of every count and length.
+    /// number, commands of every count and length, and the lines about parameters.
     pub fn run(&mut self, lines: u64) -> Result<(), Difference> {
         let mut block = self.every_cut();
         block.extend(every_edge());
         block.extend(self.every_command());
+        block.extend(parameters::lines(&mut self.random).iter().map(known_line));
+        for part in block.chunks(BLOCK as usize) {
+            self.compare(part)?;
+        }
+        block.clear();
         for line in 0..lines {
             let request = self.request();
             block.push(request);
@@ -159,7 +170,8 @@ impl Requests {
         )))
     }
 
-    /// Counts an answer. Of a message to be written, 17 must have a cause, and a cause give 17.
+    /// Counts an answer. It must be the known one; of a message to be written, 27 and 17 must have a
+    /// cause, and a cause give its number.
     fn count(&mut self, request: &Request, answer: &str) -> Result<(), Difference> {
         let number = answer.split(' ').next().and_then(|word| word.parse().ok());
         let (read, written) = &mut self.tallies[request.index];
@@ -167,8 +179,17 @@ impl Requests {
             self.ill_formed.case("?");
             return Ok(());
         };
+        if let Some((known, case)) = request.known {
+            if number != known {
+                let line = String::from_utf8_lossy(&request.line);
+                return Err(Difference(format!("line {line:?}: {number}, not {known}")));
+            }
+            self.cases.case(case);
+        }
         if !request.encodes {
             read.number(number);
+            let seen = chosen(answer.split(' ').filter_map(number_word));
+            seen.into_iter().for_each(|case| read.case(case));
             return Ok(());
         }
         written.number(number);
@@ -176,20 +197,23 @@ impl Requests {
             return Ok(());
         };
         let fields = given.fields(message_type);
-        let causes = causes(&fields);
-        if (number == 17) == causes.is_empty() {
+        let refused = refused(message_type, &fields);
+        let refusing = [17, 27].contains(&number).then_some(number);
+        if refusing != refused.as_ref().map(|(number, _)| *number) {
             let line = String::from_utf8_lossy(&request.line);
-            return Err(Difference(format!("line {line:?}: {number}, {causes:?}")));
+            return Err(Difference(format!("line {line:?}: {number}, {refused:?}")));
         }
-        causes.into_iter().for_each(|cause| written.case(cause));
+        let causes = refused.into_iter().flat_map(|(_, causes)| causes);
+        causes.for_each(|cause| written.case(cause));
         if number == 0 {
-            let clips = clips(&fields);
+            let clips = clips(message_type, &fields);
             clips.into_iter().for_each(|clip| written.case(clip));
         }
         Ok(())
     }
 
-    /// A message of each type with every list as long as it may be, cut at every length.
+    /// A message of each type before the parameters' with every list as long as it may be, cut at
+    /// every length.
     fn every_cut(&mut self) -> Vec<Request> {
         const LENGTHS: [(usize, [u8; 2]); 8] = [
             (7, [0, 0]),
@@ -245,8 +269,12 @@ impl Requests {
         requests
     }
 
+    /// Of any type, and more often of GetSet, which has the most cases.
     fn request(&mut self) -> Request {
-        let index = self.random.index(MessageType::ALL.len());
+        let index = match self.random.index(MessageType::ALL.len() + 4) {
+            index if index < MessageType::ALL.len() => index,
+            more => GET_SET_TYPES[more % 2],
+        };
         let mut request = if self.random.coin() {
             self.encoding(index)
         } else {
@@ -310,7 +338,7 @@ impl Requests {
     }
 
     fn count_cases(&mut self, message: &Message) {
-        for (name, value) in fields(message) {
+        for (name, value) in counting(fields(message)) {
             let name = name.rsplit("status.").next().unwrap_or("");
             match value {
                 Value::Number(mode @ 0..=7) if name == "mode" => {
@@ -323,6 +351,11 @@ impl Requests {
                     if name == "value" && bits & 0x7FC0_0001 == SIGNALLING.into() =>
                 {
                     self.cases.case(NAN);
+                }
+                Value::Number(bits)
+                    if name.ends_with("real_value") && bits & !0x803F_FFFE == SIGNALLING.into() =>
+                {
+                    self.cases.case(REAL_NAN);
                 }
                 Value::Number(bits) if FLOATS.contains(&name) => {
                     self.cases.case(float_case(bits as u32));
@@ -391,7 +424,31 @@ fn decode_line(index: usize, payload: &[u8]) -> Request {
         line: format!("decode {name} {}", hex(payload)).into_bytes(),
         index,
         encodes: false,
+        known: None,
     }
+}
+
+/// A line whose answer is known.
+fn known_line(known: &Known) -> Request {
+    let mut types = MessageType::ALL.into_iter();
+    let index = types.position(|one| one == known.message_type);
+    let index = index.expect("one of all");
+    let request = match &known.asking {
+        Asking::Reading(payload) => decode_line(index, payload),
+        Asking::Writing(fields, room) => {
+            fields_line(index, if *room { "512" } else { "0" }, fields)
+        }
+    };
+    Request {
+        known: Some((known.number, known.case)),
+        ..request
+    }
+}
+
+/// The name and the number of a word that is a field's.
+fn number_word(word: &str) -> Option<(&str, i128)> {
+    let (name, text) = word.split_once('=')?;
+    Some((name, text.parse().ok()?))
 }
 
 fn encode_line(index: usize, room: &str, words: &[String]) -> Request {
@@ -401,23 +458,24 @@ fn encode_line(index: usize, room: &str, words: &[String]) -> Request {
         line: format!("encode {name} {room}{words}").into_bytes(),
         index,
         encodes: true,
+        known: None,
     }
 }
 
 /// A line with all of these fields, in their order.
-fn fields_line(index: usize, fields: &Fields) -> Request {
+fn fields_line(index: usize, room: &str, fields: &Fields) -> Request {
     let word = |(name, value): &(String, Value)| format!("{name}={}", value.text());
     let words: Vec<String> = fields.iter().map(word).collect();
-    encode_line(index, "512", &words)
+    encode_line(index, room, &words)
 }
 
 /// A line that asks for these commands.
 fn command_line(numbers: &[i128]) -> Request {
     let cmd = ("cmd".to_string(), Value::Numbers(numbers.to_vec()));
-    fields_line(COMMANDS_TYPE, &vec![cmd])
+    fields_line(COMMANDS_TYPE, "512", &vec![cmd])
 }
 
-/// Each number of each type at its edges, in a message that is else allowed.
+/// Each number of each type at its edges, in a message that is else allowed and whose tag names it.
 fn every_edge() -> Vec<Request> {
     let mut requests = Vec::new();
     for (index, message_type) in MessageType::ALL.into_iter().enumerate() {
@@ -436,7 +494,12 @@ fn every_edge() -> Vec<Request> {
             for number in range(name).map_or(vec![], |range| edges(range).to_vec()) {
                 let mut given = plain.clone();
                 given[at].1 = Value::Number(number);
-                requests.push(fields_line(index, &given));
+                if let Some((union, tag)) = case_of(name) {
+                    let union = format!("{union}.tag");
+                    let field = given.iter_mut().find(|(name, _)| *name == union);
+                    field.expect("a tag").1 = Value::Number(tag as i128);
+                }
+                requests.push(fields_line(index, "512", &given));
             }
         }
     }

@@ -4,7 +4,8 @@ use crate::entry_points::Signature;
 use crate::random::Random;
 use crate::tally::{compare, Difference, Tally};
 use reference::definitions::{
-    signature, ALLOCATION, BATTERY_INFO, KEY_VALUE, LOG_MESSAGE, NODE_STATUS, RAW_COMMAND,
+    signature, ALLOCATION, BATTERY_INFO, EXECUTE_OPCODE, GET_SET, KEY_VALUE, LOG_MESSAGE,
+    NODE_STATUS, RAW_COMMAND,
 };
 
 const STANDARD: &str = "a standard type";
@@ -49,6 +50,8 @@ impl Signatures {
             LOG_MESSAGE,
             BATTERY_INFO,
             RAW_COMMAND,
+            GET_SET,
+            EXECUTE_OPCODE,
         ]);
         let type_id = match random.below(4) {
             0 => random.next() as u32,

@@ -115,7 +115,7 @@ fn wild(random: &mut Random) -> (u32, Vec<u8>) {
 /// A stream of a subscribed type, with the own node as the destination of services.
 fn talked(random: &mut Random) -> Stream {
     let source = random.between(1, 127) as u8;
-    let (transfer_type, type_id) = match random.below(8) {
+    let (transfer_type, type_id) = match random.below(12) {
         0 => (TransferType::Message, types::NODE_STATUS),
         1 => (TransferType::Message, types::ALLOCATION),
         2 => (TransferType::Message, types::KEY_VALUE),
@@ -123,7 +123,11 @@ fn talked(random: &mut Random) -> Stream {
         4 => (TransferType::Message, types::BATTERY_INFO),
         5 => (TransferType::Message, types::RAW_COMMAND),
         6 => (TransferType::Request, types::GET_NODE_INFO),
-        _ => (TransferType::Response, types::GET_NODE_INFO),
+        7 => (TransferType::Response, types::GET_NODE_INFO),
+        8 => (TransferType::Request, types::GET_SET),
+        9 => (TransferType::Response, types::GET_SET),
+        10 => (TransferType::Request, types::EXECUTE_OPCODE),
+        _ => (TransferType::Response, types::EXECUTE_OPCODE),
     };
     let destination = u8::from(transfer_type.is_service());
     Stream {
@@ -142,6 +146,8 @@ fn signature(stream: &Stream) -> u64 {
         (TransferType::Message, types::LOG_MESSAGE) => types::log_message(),
         (TransferType::Message, types::BATTERY_INFO) => types::battery_info(),
         (TransferType::Message, _) => types::raw_command(),
+        (_, types::GET_SET) => types::get_set(),
+        (_, types::EXECUTE_OPCODE) => types::execute_opcode(),
         _ => types::get_node_info(),
     }
 }

@@ -7,7 +7,8 @@ use lib.Dec.{lit≤}
 use lib.IntN.{ℤ, pos}
 use lib.ListN.{length, take, getD, replicate}
 use Rattle.shape.specs.Signed.{signedOf}
-use Rattle.equipment_esc.proofs.RawCommandFacts.{mapped, all-mapped, below-at, signed-held}
+use Rattle.shape.proofs.CastFacts.{signed-held}
+use Rattle.equipment_esc.proofs.RawCommandFacts.{mapped, all-mapped, below-at}
 use borrow.Author.Needs.{needs}
 use Rattle.equipment_esc.proofs.raw_command.numbers.Statement.{statement}
 use Rattle.equipment_esc.proofs.raw_command.numbers.Tie as tie
@@ -55,7 +56,7 @@ loop-again c =
     let a = l .before in
     let p = a .args .t1 in
     let i = l .loop .i in
-    (omega arith, mapped (signedOf 14) p 0 (pos 0) (l .loop .cmd) i _ (omega (arith, long a)) (omega arith) (l .loop .inv .1) (signed-held (c .value .result) (getD p i 0) (below-at 16384 p i (omega (arith, long a)) (a .pre)) (c .value .ensures)))
+    (omega arith, mapped (signedOf 14) p 0 (pos 0) (l .loop .cmd) i _ (omega (arith, long a)) (omega arith) (l .loop .inv .1) (signed-held 14 (getD p i 0) (lit≤ tt) (lit≤ tt) (below-at 16384 p i (omega (arith, long a)) (a .pre)) (c .value .result) (c .value .ensures)))
 
 returns : tie.Need-returns Inv-loop μ-loop
 returns c =

@@ -1,5 +1,5 @@
 -- `battery_info::encode_raw` meets its contract: 17, 8 or a whole message.
-use mathlib.Core.Path.{_≡_, sym, _∙_}
+use mathlib.Core.Path.{_≡_, refl, sym, _∙_}
 use Prim.Native.Nat.{_+_}
 use native.Mathlib.Omega.{arith}
 use borrow.Author.Tests.{le-leb, lt-leb}
@@ -29,7 +29,7 @@ returns c =
     let k = c .before .before in
     let a = k .before .args in
     let name = a .model-name .now in
-    refuse-17 batteryInfo (rawValues (a .m) nameOnly name) (a .out .now) (sym (fit k) ∙ lt-leb (length name) 31 (c .if1 .taken))
+    refuse-17 batteryInfo (rawValues (a .m) nameOnly name) (a .out .now) refl (sym (fit k) ∙ lt-leb (length name) 31 (c .if1 .taken))
 
 add-n : tie.Need-add-n
 add-n c = search needs
@@ -40,7 +40,7 @@ returns-2 c =
     let k = t .before .before in
     let a = k .before .args in
     let name = a .model-name .now in
-    refuse-8 batteryInfo (rawValues (a .m) nameOnly name) (a .out .now) (sym (fit k) ∙ le-leb (length name) 31 (t .if1 .left)) (23 + length name) (size (a .m) name) (c .if2 .taken)
+    refuse-8 batteryInfo (rawValues (a .m) nameOnly name) (a .out .now) refl (sym (fit k) ∙ le-leb (length name) 31 (t .if1 .left)) (23 + length name) (size (a .m) name) (c .if2 .taken)
 
 write-floats-requires : tie.Need-write-floats-requires
 write-floats-requires c κs = search needs
@@ -65,7 +65,7 @@ returns-3 c =
     let k = o .before in
     let a = k .before .args in
     let name = a .model-name .now in
-    write-all batteryInfo (rawValues (a .m) nameOnly name) (a .out .now) (sym (fit k) ∙ le-leb (length name) 31 (t .if1 .left)) (23 + length name) (size (a .m) name)
+    write-all batteryInfo (rawValues (a .m) nameOnly name) (a .out .now) refl (sym (fit k) ∙ le-leb (length name) 31 (t .if1 .left)) (23 + length name) (size (a .m) name)
     (octets-all (a .out .now) (λ i. omega (arith, o .slice-known .given i))) (g .if2 .left) (w₃ .write-bytes .last .0)
     (stored (a .m) name (a .out .now) (w₁ .write-floats .last .0) (w₂ .write-others .last .0) (w₃ .write-bytes .last .0) (omega (arith, g .if2 .left))
     (w₁ .write-floats .ensures) (w₂ .write-others .ensures) (w₃ .write-bytes .ensures))

@@ -1,5 +1,5 @@
 -- `get_node_info_response::encode` meets its contract: 17, 8 or a response.
-use mathlib.Core.Path.{sym, _∙_}
+use mathlib.Core.Path.{refl, sym, _∙_}
 use Prim.Native.Nat.{_+_}
 use native.Mathlib.Omega.{arith}
 use borrow.Author.Tests.{not-true, not-false}
@@ -22,7 +22,7 @@ returns c =
     let b = q .before .before .before .before .before in
     let a = b .args in
     let v : Values lists = (a .unique-id .now, (a .certificate-of-authenticity .now, a .name .now)) in
-    refuse-17 response (numberValues (a .m) lists v) (a .out .now)
+    refuse-17 response (numberValues (a .m) lists v) (a .out .now) refl
     (whole-fits (a .m) v (b .good .0 .1 .1 .1 .0 .1 .1 .1 .1 .1 .1 .0 .1) ∙ sym (q .lists-fit .ensures) ∙ not-true (q .lists-fit .result) (c .if1 .taken))
 
 add-n : tie.Need-add-n
@@ -45,7 +45,7 @@ returns-2 c =
     let n = a .name .now in
     let v : Values lists = (a .unique-id .now, (t, n)) in
     let e = sym (q .lists-fit .ensures) ∙ not-false (q .lists-fit .result) (g .if1 .left) in
-    refuse-8 response (numberValues (a .m) lists v) (a .out .now) (whole-fits (a .m) v (b .good .0 .1 .1 .1 .0 .1 .1 .1 .1 .1 .1 .0 .1) ∙ e)
+    refuse-8 response (numberValues (a .m) lists v) (a .out .now) refl (whole-fits (a .m) v (b .good .0 .1 .1 .1 .0 .1 .1 .1 .1 .1 .1 .0 .1) ∙ e)
     (41 + length t + length n) (size (a .m) (a .unique-id .now) t n (sizes (a .unique-id .now) t n e .id)) (c .if2 .taken)
 
 write-numbers-requires : tie.Need-write-numbers-requires
@@ -78,7 +78,7 @@ returns-3 c =
     let v : Values lists = (a .unique-id .now, (t, n)) in
     let e = sym (q .lists-fit .ensures) ∙ not-false (q .lists-fit .result) (g .if1 .left) in
     let z = sizes (a .unique-id .now) t n e in
-    write-all response (numberValues (a .m) lists v) (a .out .now) (whole-fits (a .m) v (b .good .0 .1 .1 .1 .0 .1 .1 .1 .1 .1 .1 .0 .1) ∙ e)
+    write-all response (numberValues (a .m) lists v) (a .out .now) refl (whole-fits (a .m) v (b .good .0 .1 .1 .1 .0 .1 .1 .1 .1 .1 .1 .0 .1) ∙ e)
     (41 + length t + length n) (size (a .m) (a .unique-id .now) t n (z .id)) (octets-all (a .out .now) (λ i. omega (arith, k .slice-known .given i))) (r .if2 .left)
     (w₂ .write-lists .last .0)
     (stored (a .m) (a .unique-id .now) t n (z .id) (a .out .now) (w₁ .write-numbers .last .0) (w₂ .write-lists .last .0) (omega (arith, r .if2 .left)) (w₁ .write-numbers .ensures) (w₂ .write-lists .ensures))

@@ -1,5 +1,5 @@
 -- `log_message::encode` meets its contract: 17, 8 or a message.
-use mathlib.Core.Path.{sym, _∙_}
+use mathlib.Core.Path.{refl, sym, _∙_}
 use Prim.Native.Nat.{_+_}
 use native.Mathlib.Omega.{arith}
 use borrow.Author.Tests.{not-true, not-false}
@@ -23,7 +23,7 @@ returns c =
     let ys = a .text .now in
     let o : Octets xs = octets-all xs (λ i. omega (arith, k .shared-slice-known .given i)) in
     let q : Octets ys = octets-all ys (λ i. omega (arith, t .shared-slice-known2 .given i)) in
-    refuse-17 logMessage (a .level, (xs, ys)) (a .out .now) (sym (fit (a .level) xs ys o q) ∙ not-true _ (c .if1 .taken))
+    refuse-17 logMessage (a .level, (xs, ys)) (a .out .now) refl (sym (fit (a .level) xs ys o q) ∙ not-true _ (c .if1 .taken))
 
 add-at : tie.Need-add-at
 add-at c = search needs
@@ -41,7 +41,7 @@ returns-2 c =
     let ys = a .text .now in
     let o : Octets xs = octets-all xs (λ i. omega (arith, k .shared-slice-known .given i)) in
     let q : Octets ys = octets-all ys (λ i. omega (arith, t .shared-slice-known2 .given i)) in
-    refuse-8 logMessage (a .level, (xs, ys)) (a .out .now) (sym (fit (a .level) xs ys o q) ∙ not-false _ (f .if1 .left)) (1 + length xs + length ys)
+    refuse-8 logMessage (a .level, (xs, ys)) (a .out .now) refl (sym (fit (a .level) xs ys o q) ∙ not-false _ (f .if1 .left)) (1 + length xs + length ys)
     (size (a .level) xs ys) (c .if2 .taken)
 
 write-requires : tie.Need-write-requires
@@ -82,7 +82,7 @@ returns-3 c =
     let ys = a .text .now in
     let o : Octets xs = octets-all xs (λ i. omega (arith, k .shared-slice-known .given i)) in
     let q : Octets ys = octets-all ys (λ i. omega (arith, t .shared-slice-known2 .given i)) in
-    write-all logMessage (a .level, (xs, ys)) (a .out .now) (sym (fit (a .level) xs ys o q) ∙ not-false _ (f .if1 .left)) (1 + length xs + length ys)
+    write-all logMessage (a .level, (xs, ys)) (a .out .now) refl (sym (fit (a .level) xs ys o q) ∙ not-false _ (f .if1 .left)) (1 + length xs + length ys)
     (size (a .level) xs ys)
     (octets-all (a .out .now) (λ i. omega (arith, m .slice-known .given i))) (g .if2 .left) (w₄ .write-bytes2 .last .0)
     (stored (a .level) xs ys (w .width .result) (w .width .ensures) (a .out .now) (w₁ .write .last .0) (w₂ .write2 .last .0) (w₃ .write-bytes .last .0) (w₄ .write-bytes2 .last .0) (omega (arith, g .if2 .left))

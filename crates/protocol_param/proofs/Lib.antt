@@ -1,0 +1,5 @@
+mod ValueFacts
+mod WriteFacts
+mod GetSetFacts
+mod OpcodeFacts
+mod Trips

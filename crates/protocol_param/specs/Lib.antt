@@ -1,0 +1,7 @@
+pub mod Value
+pub mod GetSetRequest
+pub mod GetSetResponse
+pub mod ExecuteOpcode
+pub mod Laws
+pub mod Samples
+pub mod inside
