@@ -58,10 +58,16 @@ uint32_t tecelume_version(void);
 #define TECELUME_UNIQUE_ID_SIZE 16     /* a node's unique ID */
 #define TECELUME_LENGTHS_SIZE 8        /* of a type definition: the lengths of name (4) and text (4), low bytes first */
 #define TECELUME_SIGNED_SIZE 12        /* a record from tecelume_signatures: length of the form (4), signature (8), low bytes first */
+#define TECELUME_STAMPED_SIZE 21       /* a record of a capture: time (8, low byte first), then a frame as from tecelume_send */
+#define TECELUME_TRAILER_SIZE 16       /* the trailer of a capture: distance (8), count (4), checksum (2), "CT" */
 
 /* The output buffer of tecelume_send for a payload of n bytes, at most TECELUME_PAYLOAD_MAX. It is a constant if n is one, and evaluates n
  * more than once. */
 #define TECELUME_SEND_SIZE(n) (TECELUME_RECORD_SIZE * ((size_t)(n) > 7 ? ((size_t)(n) + 8) / 7 : 1))
+
+/* The output buffer of tecelume_capture for a log of n lines, and one that does for tecelume_uncapture of a capture of n records. */
+#define TECELUME_CAPTURE_SIZE(n) (TECELUME_STAMPED_SIZE * (size_t)(n) + TECELUME_TRAILER_SIZE)
+#define TECELUME_LOG_SIZE(n) (47 * (size_t)(n))
 
 /* ---- limits ---- */
 
@@ -82,7 +88,7 @@ uint32_t tecelume_version(void);
 
 /*  no.  meaning                                                                  what to do
  *
- *   0   setup, send: success                                                     -
+ *   0   setup, send, capture, uncapture: success                                 -
  *       allocate: a reply is in out, or there is none, the message is ignored    send the reply, if it has a length
  *       receive: frame taken, its transfer is not finished                       go on with the next frame
  *   1   receive: a transfer is complete, its payload is in out                   use the payload before the next call
@@ -98,8 +104,10 @@ uint32_t tecelume_version(void);
  *       send: out has under TECELUME_SEND_SIZE(payload_len) bytes                the same
  *       allocate: the reply is longer than out                                   the same; TECELUME_REPLY_SIZE bytes always do
  *       signatures: the forms are longer than out, or too few records            the same
+ *       capture, uncapture: what is to be written is longer than out             the same; see TECELUME_CAPTURE_SIZE, TECELUME_LOG_SIZE
  *   9   receive: start of a new stream, 32 sessions in use and none is old       subscribe to less; a later start may be taken
  *       send: new topic, 32 entries in use, none unused for 2,000,000 or more    use fewer topics, or call again later
+ *       capture: 2^32 lines or more                                              cut the log in two
  *  11   receive: payload over 512 bytes; the transfer is dropped                 nothing: too long for this library
  *       send: payload over 512 bytes                                             send less
  *  12   receive: the checksum differs; the transfer is dropped                   nothing; after a 31 a frame was lost; if always
@@ -109,6 +117,7 @@ uint32_t tecelume_version(void);
  *  14   send: a value out of range, or an anonymous transfer that cannot be      correct the arguments
  *  15   allocate: the payload is empty, so no Allocation message                 nothing: a faulty node
  *  16   allocate: the payload is over 17 bytes, so no Allocation message         nothing: a faulty node
+ *  18   capture: a line of the log is not well formed                            correct the line; often a carriage return
  *  19   receive: interface number of 3 or more                                   number your interfaces from 0; with one, give 0
  *  20   setup: state or map too short                                            lend more
  *       receive, send: state or map too short, or it holds a value out of        set it up again, and look for what wrote over it
@@ -118,6 +127,9 @@ uint32_t tecelume_version(void);
  *       or node ID twice, or unique IDs out of order                             table, and with it whose the node IDs are
  *  21   allocate: a new node, and none of the IDs 1 to 125 is free               clear marks of nodes that are gone; known nodes still
  *                                                                                get their IDs
+ *  22   uncapture: the trailer is wrong                                          nothing: cut short, damaged, or no capture
+ *  23   uncapture: a record that no line of a log can carry                      nothing: the recorder wrote a time, length or bytes
+ *                                                                                that a log has no form for
  *  26   receive: no block is free for the frame's bytes; the transfer is         let fewer long transfers be sent at once, or
  *       dropped                                                                  subscribe to less: see blocks, below
  *  30   receive: passed over, no start and no transfer in hand. The start was    nothing, if it is rare or follows an 11; if often,
@@ -142,10 +154,10 @@ uint32_t tecelume_version(void);
  *  43   signatures: more than 8 definitions, a text over 4096 bytes, lengths     give fewer, cut comments, give each name once
  *       past the source, or a name twice
  *
- * Under 2 to 9, 13 to 16, 19, 20, 31 to 34 and 40 to 43 a call leaves state, map, records and out byte for byte as they were. Under 11, 12,
- * 26 and 30 tecelume_receive leaves out as it was. Of the sessions it changes the one of the frame's stream, under 30 only an old one; under
- * 12 it may have emptied old ones for a block, and under 26 a new session may have got an old one's place. A tecelume_send that answers 11
- * changes nothing. Under 21 tecelume_allocate leaves out as it was and drops the gathered bytes of the unique ID. 10 is no answer any more:
+ * Under 2 to 9, 13 to 16, 18 to 20, 22, 23, 31 to 34 and 40 to 43 a call leaves state, map, records and out byte for byte as they were. Under
+ * 11, 12, 26 and 30 tecelume_receive leaves out as it was. Of the sessions it changes the one of the frame's stream, under 30 only an old one;
+ * under 12 it may have emptied old ones for a block, and under 26 a new session may have got an old one's place. A tecelume_send that answers
+ * 11 changes nothing. Under 21 tecelume_allocate leaves out as it was and drops the gathered bytes of the unique ID. 10 is no answer any more:
  * version 0.1 gave it for 30 to 33. */
 enum tecelume_answer {
     TECELUME_SUCCESS = 0, /* of setup, sending and handing out node IDs */
@@ -165,9 +177,12 @@ enum tecelume_answer {
     TECELUME_NOT_SENDABLE = 14,
     TECELUME_PAYLOAD_ENDS = 15,
     TECELUME_TOO_MANY = 16,
+    TECELUME_LINE_NOT_WELL_FORMED = 18,
     TECELUME_NO_INTERFACE = 19,
     TECELUME_STATE_FAULT = 20,
     TECELUME_NONE_FREE = 21,
+    TECELUME_NO_CAPTURE = 22,
+    TECELUME_NOT_CARRIED = 23,
     TECELUME_NO_BLOCK = 26,
     TECELUME_NO_TRANSFER = 30, /* this and the next four: passed over */
     TECELUME_WRONG_TOGGLE = 31,
@@ -205,6 +220,8 @@ static inline const char *tecelume_text(uint32_t number)
     case 19: return "interface number of 3 or more";
     case 20: return "state or map too short or at fault";
     case 21: return "no node ID is free";
+    case 22: return "not a capture: its trailer is wrong";
+    case 23: return "a record that no log line can carry";
     case 25: return "padding not zero";
     case 26: return "no block is free for the transfer's bytes";
     case 30: return "passed over, no transfer in hand: its start was lost, or it is over already";
@@ -222,8 +239,8 @@ static inline const char *tecelume_text(uint32_t number)
 
 /* ---- results ---- */
 
-/* What tecelume_receive, tecelume_send, tecelume_allocate and tecelume_signatures give. It is a struct so that a comparison with a number
- * does not compile: the number answered is only a part of it. The functions below read it. */
+/* What tecelume_receive, tecelume_send, tecelume_allocate, tecelume_signatures, tecelume_capture and tecelume_uncapture give. It is a struct so
+ * that a comparison with a number does not compile: the number answered is only a part of it. The functions below read it. */
 typedef struct {
     uint64_t word;
 } tecelume_result;
@@ -665,6 +682,61 @@ static inline uint64_t tecelume_form_signature(const uint8_t *record)
     for (i = 11; i >= 4; i--)
         signature = signature << 8 | record[i];
     return signature;
+}
+
+/* ---- captures ---- */
+
+/* A capture is a log in binary (RULES 18): records of TECELUME_STAMPED_SIZE bytes, each a time and a frame, and a trailer of
+ * TECELUME_TRAILER_SIZE. What stands before the first record, a vendor's preface, is ignored. A log is lines as the log program reads them
+ * (RULES 12.2). A log goes to a capture and back byte for byte, and so does a capture without a preface that is not refused. */
+
+/* Turns a log into a capture, or a capture into a log, as a result word (RULES 13.3), for callers in other languages. C programs call
+ * tecelume_capture and tecelume_uncapture. */
+uint64_t tecelume_capture_word(const uint8_t *log, size_t log_len, uint8_t *out, size_t out_len);
+uint64_t tecelume_uncapture_word(const uint8_t *capture, size_t capture_len, uint8_t *out, size_t out_len);
+
+/* Turns a log into a capture.
+ *
+ * Takes    log  lines, each with its line feed; none is a log too
+ *          out  TECELUME_CAPTURE_SIZE of the number of lines
+ * Gives    a result: 0, with tecelume_output_length of it bytes at the front of out, the capture. Bytes after it stay.
+ * Refuses  first match of 18, 9 and 8 (RULES 18.3); out stays as it was.
+ * Costs    reads the log twice. */
+static inline tecelume_result tecelume_capture(const uint8_t *log, size_t log_len, uint8_t *out, size_t out_len)
+{
+    tecelume_result result;
+    result.word = tecelume_capture_word(log, log_len, out, out_len);
+    return result;
+}
+
+/* Turns a capture into a log.
+ *
+ * Takes    capture  with a preface or without
+ *          out      TECELUME_LOG_SIZE of the number of records, tecelume_capture_count, always does
+ * Gives    a result: 0, with tecelume_output_length of it bytes at the front of out, the log. Bytes after it stay.
+ * Refuses  first match of 22, 23 and 8 (RULES 18.4); out stays as it was.
+ * Costs    reads the records three times. */
+static inline tecelume_result tecelume_uncapture(const uint8_t *capture, size_t capture_len, uint8_t *out, size_t out_len)
+{
+    tecelume_result result;
+    result.word = tecelume_uncapture_word(capture, capture_len, out, out_len);
+    return result;
+}
+
+/* Bytes that tecelume_capture or tecelume_uncapture wrote to out; 0 with a number other than 0. */
+static inline uint64_t tecelume_output_length(tecelume_result result)
+{
+    return result.word >> 8;
+}
+
+/* The number of records that the trailer of a capture tells; 0 if there are not enough bytes for a trailer. Nothing is checked. */
+static inline uint32_t tecelume_capture_count(const uint8_t *capture, size_t capture_len)
+{
+    const uint8_t *count;
+    if (capture_len < TECELUME_TRAILER_SIZE)
+        return 0;
+    count = capture + capture_len - 8;
+    return (uint32_t)count[0] | (uint32_t)count[1] << 8 | (uint32_t)count[2] << 16 | (uint32_t)count[3] << 24;
 }
 
 #ifdef __cplusplus

@@ -1,13 +1,16 @@
 // A log program written by hand for speed, to time the proved one against: the same output, with none of the checks on the
 // receiver's own state. `baseline --make BYTES` prints a log of about that size instead: NodeStatus from twenty nodes, and
 // transfers of several frames from eight others, short enough that 26 never comes: each session here has room of its own.
+mod line;
+
+use line::parse;
 use std::io::{Read, Write};
 
 const OLD: u64 = 2_000_000;
 const SWITCH: u64 = 1_000_000;
 /// The signatures that the program `signatures` works out, in the order of its lines.
-const SIGNATURES: [u64; 7] = signatures(include_bytes!("../../crates/signatures/stdout"));
-const SUBSCRIPTIONS: [(bool, u16, u64); 7] = [
+const SIGNATURES: [u64; 9] = signatures(include_bytes!("../../crates/signatures/stdout"));
+const SUBSCRIPTIONS: [(bool, u16, u64); 9] = [
     (false, 341, SIGNATURES[0]),
     (true, 1, SIGNATURES[1]),
     (false, 1, SIGNATURES[2]),
@@ -15,11 +18,13 @@ const SUBSCRIPTIONS: [(bool, u16, u64); 7] = [
     (false, 16383, SIGNATURES[4]),
     (false, 1092, SIGNATURES[5]),
     (false, 1030, SIGNATURES[6]),
+    (true, 11, SIGNATURES[7]),
+    (true, 10, SIGNATURES[8]),
 ];
 
 /// Sixteen hexadecimal digits at the front of each line.
-const fn signatures(text: &[u8]) -> [u64; 7] {
-    let mut found = [0; 7];
+const fn signatures(text: &[u8]) -> [u64; 9] {
+    let mut found = [0; 9];
     let (mut line, mut column, mut i) = (0, 0, 0);
     while i < text.len() {
         let c = text[i];
@@ -199,64 +204,6 @@ impl Receiver {
         }
         Answer::Handed(&s.bytes[2..len])
     }
-}
-
-fn digit(c: u8) -> u32 {
-    match c {
-        b'0'..=b'9' => (c - b'0') as u32,
-        b'A'..=b'F' => (c - b'A') as u32 + 10,
-        _ => 16,
-    }
-}
-
-fn number(text: &[u8], base: u32) -> Option<u32> {
-    text.iter().try_fold(0u32, |value, &c| {
-        let d = digit(c);
-        (d < base).then(|| value.wrapping_mul(base).wrapping_add(d))
-    })
-}
-
-struct Line {
-    head: usize,
-    id: u32,
-    time: u64,
-    len: usize,
-    bytes: [u8; 8],
-}
-
-fn parse(line: &[u8]) -> Option<Line> {
-    let n = line.len();
-    if n > 47 || line.last() != Some(&b'\n') {
-        return None;
-    }
-    let s = line.iter().take(10).position(|&c| c == b'.')?;
-    if !(1..=9).contains(&s)
-        || n < s + 14
-        || (n - s - 14) % 3 != 0
-        || n > s + 38
-        || line[s + 4] != b' '
-        || s > 1 && line[0] == b'0'
-    {
-        return None;
-    }
-    let seconds = number(&line[..s], 10)? as u64;
-    let thousandths = number(&line[s + 1..s + 4], 10)? as u64;
-    let id = number(&line[s + 5..s + 13], 16)?;
-    let mut bytes = [0; 8];
-    let len = (n - s - 14) / 3;
-    for (byte, text) in bytes.iter_mut().zip(line[s + 13..n - 1].chunks_exact(3)) {
-        if text[0] != b' ' {
-            return None;
-        }
-        *byte = number(&text[1..], 16)? as u8;
-    }
-    Some(Line {
-        head: s + 4,
-        id,
-        time: seconds * 1_000_000 + thousandths * 1_000,
-        len,
-        bytes,
-    })
 }
 
 fn decimal(out: &mut Vec<u8>, mut value: u64) {

@@ -40,7 +40,8 @@ void fill(uint8_t *bytes, size_t n)
 
 /* ---- a call ---- */
 
-static const char *const entry_names[ENTRIES] = {"setup", "receive", "map setup", "send", "allocator setup", "allocate"};
+static const char *const entry_names[ENTRIES] = {"setup",           "receive",  "map setup", "send",
+                                                  "allocator setup", "allocate", "capture",   "uncapture"};
 
 static uint64_t calls, seen[ENTRIES][256];
 
@@ -70,6 +71,10 @@ static tecelume_result make(const struct call *c, const struct lent *state, cons
     case ALLOCATE:
         return tecelume_allocate(state->bytes, state->length, c->own, c->marks[0], c->marks[1], c->source, input->bytes, input->length,
                                  c->time, out->bytes, out->length);
+    case CAPTURE:
+        return tecelume_capture(input->bytes, input->length, out->bytes, out->length);
+    case UNCAPTURE:
+        return tecelume_uncapture(input->bytes, input->length, out->bytes, out->length);
     default:
         return tecelume_send(state->bytes, state->length, c->own, c->transfer_type, c->type_id, c->destination, c->priority, input->bytes,
                              input->length, c->signature, c->time, c->transfer_id, c->discriminator, out->bytes, out->length);
@@ -110,6 +115,8 @@ static size_t written(const struct call *c, tecelume_result result)
         return tecelume_length(result);
     if (c->entry == SEND && tecelume_number(result) == TECELUME_SUCCESS)
         return tecelume_frames(result) * TECELUME_RECORD_SIZE;
+    if (c->entry == CAPTURE || c->entry == UNCAPTURE)
+        return (size_t)tecelume_output_length(result);
     return c->entry == ALLOCATE && tecelume_number(result) == TECELUME_SUCCESS ? tecelume_reply_length(result) : 0;
 }
 
@@ -150,7 +157,7 @@ static bool may_change_state(enum entry entry, uint32_t number)
 enum { NUMBERS = 64 }; /* no answer is larger */
 #define BIT(number) ((uint64_t)1 << (number))
 
-/* Which numbers an entry answers, as bits. */
+/* Which numbers an entry answers, as bits; 9 of a capture takes 2^32 lines. */
 static const uint64_t answers[ENTRIES] = {
     BIT(0) | BIT(13) | BIT(20),
     (BIT(10) - 1) | BIT(11) | BIT(12) | BIT(19) | BIT(20) | BIT(26) | (BIT(35) - BIT(30)),
@@ -158,16 +165,19 @@ static const uint64_t answers[ENTRIES] = {
     BIT(0) | BIT(8) | BIT(9) | BIT(11) | BIT(14) | BIT(20),
     BIT(0) | BIT(20),
     BIT(0) | BIT(8) | BIT(13) | BIT(15) | BIT(16) | BIT(20) | BIT(21),
+    BIT(0) | BIT(8) | BIT(18),
+    BIT(0) | BIT(8) | BIT(22) | BIT(23),
 };
 
 static const size_t sizes[ENTRIES] = {TECELUME_RECEIVER_SIZE, TECELUME_RECEIVER_SIZE, TECELUME_MAP_SIZE,
-                                      TECELUME_MAP_SIZE,      TECELUME_ALLOCATOR_SIZE, TECELUME_ALLOCATOR_SIZE};
+                                      TECELUME_MAP_SIZE,      TECELUME_ALLOCATOR_SIZE, TECELUME_ALLOCATOR_SIZE,
+                                      0,                      0};
 
 static void judge(const struct call *c, const struct call *after, tecelume_result result)
 {
     uint32_t number = tecelume_number(result);
     bool detailed = (c->entry == RECEIVE && number == TECELUME_HANDED_OUT) ||
-                    ((c->entry == SEND || c->entry == ALLOCATE) && number == TECELUME_SUCCESS);
+                    (c->entry >= SEND && number == TECELUME_SUCCESS);
     size_t size = sizes[c->entry];
     if (number >= NUMBERS || (answers[c->entry] >> number & 1) == 0)
         fail(c, "a number that this call does not answer");

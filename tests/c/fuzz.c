@@ -7,7 +7,7 @@
  * arguments counts. Then what include/tecelume.h promises is checked (call.c): const inputs stay, a refusal leaves every buffer as it
  * was and all other bits of the word 0, success writes only where it may. A payload sent comes out as it went in, a frame that was
  * taken comes again, by its own interface or by another, and is passed over for the right reason, and a node that was told an ID is told
- * the same one again and shares it with no other. What the answers must be otherwise is the business of the comparison with the second
+ * the same one again and shares it with no other, and a log comes back from its capture. What the answers must be otherwise is the business of the comparison with the second
  * implementation.
  *
  * --selftest makes one call that says one byte too many of a buffer. Something must notice, or the runs without it show nothing. */
@@ -19,6 +19,7 @@
 #include <unistd.h>
 
 #include "call.h"
+#include "seal.h"
 
 enum { CALLS = 400000, SHORT = 100000 }; /* fewer calls than that need not show every answer, and sweep fewer lengths */
 enum { STATE_EXTRA = 40, INPUT_MAX = 1000, OUT_MAX = 1100, FRAME_LENGTH_MAX = 20, PAYLOAD_MAX = 600, SUBSCRIPTIONS = 8 };
@@ -27,6 +28,7 @@ enum { RECORDS_MAX = TECELUME_SEND_SIZE(TECELUME_PAYLOAD_MAX) };
 static uint64_t seed = 1;
 static uint64_t through; /* transfers sent, received and compared */
 static uint64_t told_again; /* nodes that got the ID that they had */
+static uint64_t returned;   /* logs that came back from their captures */
 
 /* ---- arguments ---- */
 
@@ -449,6 +451,73 @@ static void ask(void)
         asking = below(ALLOCATEES);
 }
 
+/* ---- captures ---- */
+
+enum { LINES_MAX = 12 };
+
+static struct call converter;
+
+static size_t put_line(uint8_t *to)
+{
+    char text[64];
+    int length = snprintf(text, sizeof text, "%" PRIu32 ".%03" PRIu32 " %08" PRIX32, below(once_in(2) ? 1000000000 : 100), below(1000),
+                          (uint32_t)next_random());
+    for (uint32_t n = below(9); n > 0; n--)
+        length += snprintf(text + length, sizeof text - (size_t)length, " %02" PRIX32, below(256));
+    text[length++] = '\n';
+    memcpy(to, text, (size_t)length);
+    return (size_t)length;
+}
+
+/* Lends room for so many bytes, or less. */
+static void lend_room(size_t needed)
+{
+    converter.out.length = once_in(6) && needed > 0 ? below((uint32_t)needed) : needed + below(30);
+    fill(converter.out.bytes, converter.out.length);
+}
+
+/* A record at fault, the checksum right or wrong; or damage anywhere. */
+static void damage_capture(void)
+{
+    if (converter.input.length > TECELUME_TRAILER_SIZE && once_in(2)) {
+        converter.input.bytes[once_in(2) ? 0 : 12] ^= (uint8_t)(once_in(2) ? 1 : 0x10);
+        if (!once_in(4))
+            seal(converter.input.bytes, converter.input.length);
+    } else {
+        damage(&converter.input);
+        converter.input.length -= once_in(4) ? below((uint32_t)converter.input.length) : 0;
+    }
+    run(&converter);
+}
+
+/* A log to a capture, perhaps damaged before; back again, and the same damaged. */
+static void convert(void)
+{
+    static struct buffer log;
+    size_t lines = below(LINES_MAX);
+    log.length = 0;
+    for (size_t i = 0; i < lines; i++)
+        log.length += put_line(log.bytes + log.length);
+    if (once_in(4))
+        damage(&log);
+    converter.entry = CAPTURE;
+    converter.input = log;
+    lend_room(TECELUME_CAPTURE_SIZE(lines));
+    tecelume_result captured = run(&converter);
+    if (tecelume_number(captured) != TECELUME_SUCCESS)
+        return;
+    converter.entry = UNCAPTURE;
+    converter.input.length = (size_t)tecelume_output_length(captured);
+    memcpy(converter.input.bytes, converter.out.bytes, converter.input.length);
+    lend_room(log.length);
+    if (tecelume_number(run(&converter)) == TECELUME_SUCCESS) {
+        if (memcmp(converter.out.bytes, log.bytes, log.length) != 0)
+            fail(&converter, "a log did not come back from its capture");
+        returned++;
+    }
+    damage_capture();
+}
+
 static void one_step(void)
 {
     now += once_in(500) ? below(3000000) : below(2000);
@@ -464,6 +533,8 @@ static void one_step(void)
         setup_allocator();
     if (once_in(5))
         ask();
+    if (once_in(20))
+        convert();
     struct lane *lane = &lanes[below(LANES)];
     if (once_in(20))
         receive_wild();
@@ -527,6 +598,24 @@ static void sweep_allocation(size_t state_steps)
     sweep(&allocator, &allocator.input.length, FRAME_LENGTH_MAX);
     sweep(&allocator, &allocator.out.length, FRAME_LENGTH_MAX);
     sweep(&allocator, &allocator.state.length, state_steps);
+}
+
+static void sweep_captures(void)
+{
+    converter.entry = CAPTURE;
+    converter.input.length = 0;
+    for (int i = 0; i < 3; i++)
+        converter.input.length += put_line(converter.input.bytes + converter.input.length);
+    size_t length = converter.input.length;
+    converter.out.length = TECELUME_CAPTURE_SIZE(3);
+    sweep(&converter, &converter.input.length, length);
+    sweep(&converter, &converter.out.length, TECELUME_CAPTURE_SIZE(4));
+    run(&converter);
+    converter.entry = UNCAPTURE;
+    converter.input = converter.out;
+    sweep(&converter, &converter.out.length, length + FRAME_LENGTH_MAX);
+    converter.out.length = TECELUME_LOG_SIZE(3);
+    sweep(&converter, &converter.input.length, TECELUME_CAPTURE_SIZE(3));
 }
 
 /* ---- memory that nobody wrote before: valgrind sees it if a call decides on such a byte ---- */
@@ -627,10 +716,12 @@ int main(int count, char **words)
     sweep_reception(most < SHORT ? 100 : TECELUME_RECEIVER_SIZE + STATE_EXTRA);
     sweep_sending();
     sweep_allocation(most < SHORT ? 100 : TECELUME_ALLOCATOR_SIZE + STATE_EXTRA);
+    sweep_captures();
     for (uint64_t swept = calls_made(); calls_made() - swept < most;)
         one_step();
-    printf("seed %" PRIu64 ": %" PRIu64 " calls, each made twice; %" PRIu64 " transfers went through, %" PRIu64 " nodes got their ID again\n",
-           seed, calls_made(), through, told_again);
+    printf("seed %" PRIu64 ": %" PRIu64 " calls, each made twice; %" PRIu64 " transfers went through, %" PRIu64
+           " nodes got their ID again, %" PRIu64 " logs came back\n",
+           seed, calls_made(), through, told_again, returned);
     if (show_answers() || most < SHORT)
         return 0;
     printf("an answer was never seen\n");

@@ -348,7 +348,7 @@ static void reasons_in_order(void)
 static void texts(void)
 {
     for (uint32_t number = 0; number < 40; number++) {
-        bool known = (number <= TECELUME_NONE_FREE && number != 10) || number == 25 || number == TECELUME_NO_BLOCK ||
+        bool known = (number <= TECELUME_NOT_CARRIED && number != 10) || number == 25 || number == TECELUME_NO_BLOCK ||
                      (number >= TECELUME_NO_TRANSFER && number <= TECELUME_OTHER_INTERFACE);
         CHECK(known == (strcmp(tecelume_text(number), "unknown number") != 0));
         CHECK((number >= TECELUME_NO_TRANSFER && known) == (strncmp(tecelume_text(number), "passed over", 11) == 0));
@@ -824,6 +824,14 @@ static const struct {
     {"room_of_forms", room_of_forms},
     {"limits_of_definitions", limits_of_definitions},
     {"lengths_that_are_too_large", lengths_that_are_too_large},
+    {"log_there_and_back", log_there_and_back},
+    {"room_for_captures", room_for_captures},
+    {"empty_log", empty_log},
+    {"preface_ignored", preface_ignored},
+    {"refused_logs", refused_logs},
+    {"wrong_trailers", wrong_trailers},
+    {"records_not_carried", records_not_carried},
+    {"count_of_a_capture", count_of_a_capture},
 };
 
 int main(int count, char **words)

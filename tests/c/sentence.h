@@ -1,4 +1,4 @@
-/* What the sentences of header.c, allocator.c and definitions.c share. */
+/* What the sentences of header.c, allocator.c, definitions.c and captures.c share. */
 #ifndef SENTENCE_H
 #define SENTENCE_H
 
@@ -34,5 +34,15 @@ void refused_definitions(void);
 void room_of_forms(void);
 void limits_of_definitions(void);
 void lengths_that_are_too_large(void);
+
+/* Those of captures.c. */
+void log_there_and_back(void);
+void room_for_captures(void);
+void empty_log(void);
+void preface_ignored(void);
+void refused_logs(void);
+void wrong_trailers(void);
+void records_not_carried(void);
+void count_of_a_capture(void);
 
 #endif

@@ -1,4 +1,4 @@
-/* Wrong libraries for header.c. The linker puts these functions in front of the true ones (--wrap); the environment's WRONG names the one
+/* Wrong libraries for header.c, allocator.c and captures.c. The linker puts these functions in front of the true ones (--wrap); the environment's WRONG names the one
  * thing that is wrong, or is the number of the one call whose answer is. tests/c/sentences says which sentence each must break. */
 #include <stdbool.h>
 #include <stdio.h>
@@ -567,4 +567,64 @@ uint64_t __wrap_tecelume_signatures_word(const uint8_t *source, size_t source_le
     if (is("large-length-accepted") && word == TECELUME_DEFINITIONS_TOO_LARGE && lengths_len == TECELUME_LENGTHS_SIZE)
         word = TECELUME_SUCCESS;
     return answer(word, OTHER);
+}
+
+/* ---- captures ---- */
+
+uint64_t __real_tecelume_capture_word(const uint8_t *log, size_t log_len, uint8_t *out, size_t out_len);
+uint64_t __wrap_tecelume_capture_word(const uint8_t *log, size_t log_len, uint8_t *out, size_t out_len)
+{
+    size_t room = out_len + is("less-room-for-a-capture") - (is("more-room-for-a-capture") && out_len > 0);
+    if (is("empty-log-refused") && log_len == 0)
+        return TECELUME_LINE_NOT_WELL_FORMED;
+    if (is("room-before-18") && out_len == 0)
+        return TECELUME_OUTPUT_TOO_SMALL;
+    while (is("unclosed-line-left-out") && log_len > 0 && log[log_len - 1] != '\n')
+        log_len--;
+    uint64_t word = __real_tecelume_capture_word(log, log_len, out, room);
+    if (is("refused-capture-touches-output") && word == TECELUME_LINE_NOT_WELL_FORMED)
+        out[0] ^= 1;
+    if (is("output-touched-after-capture") && (word & 255) == TECELUME_SUCCESS)
+        out[word >> 8] ^= 1;
+    return answer(word, OTHER);
+}
+
+uint64_t __real_tecelume_uncapture_word(const uint8_t *capture, size_t capture_len, uint8_t *out, size_t out_len);
+
+/* The number in place of the call; OTHER for none. */
+static uint32_t misjudged(const uint8_t *capture, size_t capture_len, size_t out_len)
+{
+    size_t count = tecelume_capture_count(capture, capture_len);
+    if (is("preface-refused") && capture_len > TECELUME_CAPTURE_SIZE(count))
+        return TECELUME_NO_CAPTURE;
+    if (is("fewer-bytes-before-the-trailer") && count > 0 && capture_len == TECELUME_CAPTURE_SIZE(count) - 1)
+        return TECELUME_SUCCESS;
+    if (is("room-before-22") && out_len == 0 && count > 0)
+        return TECELUME_OUTPUT_TOO_SMALL;
+    return OTHER;
+}
+
+/* The word in place of the right one, by the length in the second record. */
+static uint64_t reread(uint64_t word, const uint8_t *capture, size_t capture_len)
+{
+    bool above = capture_len > (size_t)2 * TECELUME_STAMPED_SIZE && capture[TECELUME_STAMPED_SIZE + 12] > 8;
+    if (is("23-before-22") && word == TECELUME_NO_CAPTURE && above)
+        return TECELUME_NOT_CARRIED;
+    if (is("length-above-8-cut") && word == TECELUME_NOT_CARRIED && above)
+        return TECELUME_SUCCESS;
+    return is("length-of-ten-bits") ? word & 0x3FFFF : word;
+}
+
+uint64_t __wrap_tecelume_uncapture_word(const uint8_t *capture, size_t capture_len, uint8_t *out, size_t out_len)
+{
+    size_t room = out_len + is("less-room-for-a-log") - (is("more-room-for-a-log") && out_len > 0);
+    uint32_t number = misjudged(capture, capture_len, out_len);
+    if (number != OTHER)
+        return number;
+    uint64_t word = __real_tecelume_uncapture_word(capture, capture_len, out, room);
+    if (is("refused-uncapture-touches-output") && word == TECELUME_NO_CAPTURE)
+        out[0] ^= 1;
+    if (is("output-touched-after-log") && (word & 255) == TECELUME_SUCCESS)
+        out[word >> 8] ^= 1;
+    return answer(reread(word, capture, capture_len), OTHER);
 }

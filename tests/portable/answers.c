@@ -8,13 +8,15 @@
 #include <stdio.h>
 #include <string.h>
 
+#include "../c/seal.h"
 #include "tecelume.h"
 
 enum { CALLS = 100000, FOLD = 1000, LANES = 6, NODES = 2, TYPES = 6, NUMBERS = TECELUME_DEFINITIONS_TOO_LARGE + 1, ALLOCATEES = 140 };
 enum { BLOCKS_AT = 1584, FIRST_ENTRIES = 60 }; /* where the blocks of a receiver start; of an allocator, counts and two entries */
-enum entry { SETUP, RECEIVE, MAP_SETUP, SEND, ALLOCATOR_SETUP, ALLOCATE, SIGNATURES, OTHERS, ENTRIES };
+enum entry { SETUP, RECEIVE, MAP_SETUP, SEND, ALLOCATOR_SETUP, ALLOCATE, SIGNATURES, CAPTURE, UNCAPTURE, OTHERS, ENTRIES };
 
-static const char *const names[ENTRIES] = {"setup", "receive", "map_setup", "send", "allocator_setup", "allocate", "signatures", "others"};
+static const char *const names[ENTRIES] = {"setup",    "receive",    "map_setup", "send",      "allocator_setup",
+                                           "allocate", "signatures", "capture",   "uncapture", "others"};
 #define BIT(number) ((uint64_t)1 << (number))
 static const uint64_t must[ENTRIES] = {
     BIT(0) | BIT(13) | BIT(20),
@@ -24,6 +26,8 @@ static const uint64_t must[ENTRIES] = {
     BIT(0) | BIT(20),
     BIT(0) | BIT(8) | BIT(13) | BIT(15) | BIT(16) | BIT(20) | BIT(21),
     BIT(0) | BIT(8) | (BIT(44) - BIT(40)),
+    BIT(0) | BIT(8) | BIT(18),
+    BIT(0) | BIT(8) | BIT(22) | BIT(23),
     BIT(0),
 };
 
@@ -234,6 +238,60 @@ static void define(void)
     answered(SIGNATURES, given.word, left);
 }
 
+enum { LINES_MAX = 12 };
+
+static size_t put_hex(uint8_t *to, uint32_t digits)
+{
+    for (uint32_t i = 0; i < digits; i++)
+        to[i] = (uint8_t)"0123456789ABCDEF"[below(16)];
+    return digits;
+}
+
+static size_t put_line(uint8_t *to)
+{
+    size_t n = 0;
+    for (uint32_t seconds = 1 + below(9); seconds > 0; seconds--)
+        to[n++] = (uint8_t)('1' + below(9));
+    to[n++] = '.';
+    for (int i = 0; i < 3; i++)
+        to[n++] = (uint8_t)('0' + below(10));
+    to[n++] = ' ';
+    n += put_hex(to + n, 8);
+    for (uint32_t bytes = below(9); bytes > 0; bytes--) {
+        to[n++] = ' ';
+        n += put_hex(to + n, 2);
+    }
+    to[n++] = '\n';
+    return n;
+}
+
+/* A log, now and then with a byte changed, to a capture; and that back, now and then with a byte changed or a record at fault. */
+static void convert(void)
+{
+    static uint8_t capture[TECELUME_CAPTURE_SIZE(LINES_MAX)];
+    size_t length = 0, lines = below(LINES_MAX);
+    for (size_t i = 0; i < lines; i++)
+        length += put_line(payload + length);
+    if (length > 0 && once_in(6))
+        payload[below((uint32_t)length)] = (uint8_t)below(128);
+    size_t out_len = once_in(8) ? below(200) : sizeof out;
+    tecelume_result result = tecelume_capture(payload, length, out, out_len);
+    size_t size = (size_t)tecelume_output_length(result);
+    answered(CAPTURE, result.word, size);
+    if (size == 0)
+        return;
+    memcpy(capture, out, size);
+    if (once_in(4))
+        capture[below((uint32_t)size)] ^= 1;
+    if (size > TECELUME_TRAILER_SIZE && once_in(4)) {
+        capture[once_in(2) ? 0 : 12] ^= 0x11;
+        seal(capture, size);
+    }
+    out_len = once_in(8) ? below(200) : sizeof out;
+    result = tecelume_uncapture(capture, size, out, out_len);
+    answered(UNCAPTURE, result.word, (size_t)tecelume_output_length(result));
+}
+
 /* Any frame, or a long transfer that never ends. */
 static void receive_any(void)
 {
@@ -303,7 +361,9 @@ static void step(void)
         allocate();
     else if (which < 150)
         define();
-    else if (which < 320)
+    else if (which < 190)
+        convert();
+    else if (which < 350)
         receive_any();
     else if (lane->next < lane->count)
         pass_on(lane);

@@ -2,9 +2,11 @@
 //!
 //! A result word holds the answer's number in bits 0 to 7 (RULES 13.3). After a transfer handed out
 //! come its length, stream, priority and transfer ID, after a send the number of its frames and
-//! their transfer ID, at the same place; after an allocator's reply comes its length.
+//! their transfer ID, at the same place; after an allocator's reply, a capture or a log comes its
+//! length.
 
 use crate::allocator::{self, Allocator, Request};
+use crate::captures::Written;
 use crate::map::{self, Map};
 use crate::receive::{Answer, Frame, Receiver, Subscription, Transfer};
 use crate::send::{self, Outgoing, RECORD};
@@ -130,4 +132,12 @@ pub fn allocate(bytes: &mut [u8], request: &Request, out: &mut [u8]) -> u64 {
         _ => 0,
     };
     u64::from(answer.number()) | (length as u64) << 8
+}
+
+/// The word of a capture or of a log that was written.
+pub fn written(answer: Written) -> u64 {
+    match answer {
+        Ok(length) => (length as u64) << 8,
+        Err(refusal) => u64::from(refusal.number()),
+    }
 }

@@ -5,6 +5,7 @@ pub mod allocator;
 pub mod binary16;
 pub mod bits;
 pub mod blocks;
+pub mod captures;
 pub mod codec;
 pub mod crc;
 pub mod definitions;

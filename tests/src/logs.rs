@@ -78,16 +78,17 @@ fn transfer_text(transfer: &Transfer) -> String {
 }
 
 /// A frame as a line holds it.
-struct Line {
-    id: u32,
-    data: Vec<u8>,
-    time: u64,
+#[derive(Clone, Debug, PartialEq)]
+pub struct Line {
+    pub id: u32,
+    pub data: Vec<u8>,
+    pub time: u64,
 }
 
 impl Line {
     /// The time as written, and the frame; none if the line, without its line feed, is not well
     /// formed.
-    fn parse(line: &[u8]) -> Option<(&str, Line)> {
+    pub fn parse(line: &[u8]) -> Option<(&str, Line)> {
         let mut words = std::str::from_utf8(line).ok()?.split(' ');
         let written = words.next()?;
         let time = parse_time(written)?;
@@ -96,6 +97,17 @@ impl Line {
             .map(|word| parse_hex(word, 2).map(|byte| byte as u8))
             .collect::<Option<_>>()?;
         (data.len() <= 8).then_some((written, Line { id, data, time }))
+    }
+
+    /// The line with its line feed (RULES 12.2).
+    pub fn text(&self) -> Vec<u8> {
+        let (seconds, thousandths) = (self.time / 1_000_000, self.time / 1_000 % 1_000);
+        let data: String = self
+            .data
+            .iter()
+            .map(|byte| format!(" {byte:02X}"))
+            .collect();
+        format!("{seconds}.{thousandths:03} {:08X}{data}\n", self.id).into_bytes()
     }
 
     fn as_frame(&self) -> Frame<'_> {

@@ -11,7 +11,7 @@ use Rattle.bits.specs.Part.{splice}
 use Rattle.bits.proofs.Splice.{splice-next}
 use Rattle.digits.specs.Digits.{glyph, digits, countOf, decimal, words, hexes}
 use Rattle.digits.specs.inside.Text.{Puts}
-use Rattle.digits.proofs.Digits.{length-digits}
+use Rattle.digits.proofs.Digits.{length-digits, digits-snoc}
 
 -- ── stores of one character ──
 
@@ -41,6 +41,31 @@ puts-next a b d at p q x y f g h =
       out = splice-next a b d at (length x) x y h refl (f .out) (g .out ∙ ap (λ (k : ℕ). splice b k y) (f .end));
       end = omega (arith, f .end, g .end, length-append x y);
     }
+
+-- a text of n characters, and a single character
+pub puts : (a b : List ℕ) (at n : ℕ) (x : List ℕ) → length x ≡ n → b ≡ splice a at x → Puts a b at (at + n) x
+puts a b at n x h e = record { out = e; end = omega arith }
+
+pub puts-one : (m : List ℕ) (k c : ℕ) → k < length m → Puts m (set m k c) k (k + 1) (c ∷ [])
+puts-one m k c h = puts m (set m k c) k 1 (c ∷ []) refl (set-splice m k c h)
+
+-- ── digits from the last one on ──
+
+-- a turn: with the digits before it, the digit stored is the last of them
+pub digit-turn : (b : ℕ) (m : List ℕ) (at i x c : ℕ) → 0 < i → at + i ≤ length m → c ≡ glyph (x % b)
+    → splice (set m (at + (i - 1)) c) at (digits b (i - 1) (x / b)) ≡ splice m at (digits b i x)
+digit-turn b m at i x c p h g =
+    let j = i - 1 in
+    let e : i ≡ suc j = omega arith in
+    ap (λ (k : ℕ). splice (set m (at + j) k) at (digits b j (x / b))) g
+    ∙ behind-set m (digits b j (x / b)) at j (glyph (x % b)) (length-digits b j (x / b)) (omega arith)
+    ∙ ap (λ (l : List ℕ). splice m at l) (sym (digits-snoc b j x) ∙ ap (λ (k : ℕ). digits b k x) (sym e))
+
+pub digits-done : (b : ℕ) (m m' : List ℕ) (at i x : ℕ) → i ≡ 0 → splice m at (digits b i x) ≡ m' → m ≡ m'
+unfolding digits
+digits-done b m m' at i x z e =
+    let q : splice m at (digits b 0 x) ≡ m' = rw z at e in
+    sym (splice-nil m at) ∙ q
 
 -- ── words ──
 

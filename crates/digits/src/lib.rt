@@ -128,6 +128,20 @@ fn hex_digit(d: u8) -> u8
     55 + d
 }
 
+// Internal. The w lowest hexadecimal digits of v, from the last one on.
+pub fn put_hex(out: &mut [u8], at: usize, w: usize, v: u64)
+    requires { ⌜ at + w ≤ length (now out) ⌝ }
+    ensures { λ _. ⌜ now (out .exit) ≡ splice (now (out .entry)) at (digits 16 w v) ⌝ }
+{
+    let mut x = v;
+    let mut i = w;
+    while 0 < i {
+        i -= 1;
+        out[at + i] = hex_digit((x % 16) as u8);
+        x = x / 16;
+    }
+}
+
 // Internal. Each byte as two digits.
 pub fn put_hexes(out: &mut [u8], at: usize, s: &[u8]) -> usize
     requires { ⌜ at + length (now s) * 2 ≤ length (now out) ⌝ }

@@ -2,11 +2,17 @@
 ghost use mathlib.Core.Path.{_≡_};
 ghost use mathlib.Core.List.{_∷_, _++_};
 ghost use Prim.Native.Nat.{_+_, _≤_};
-ghost use lib.ListN.{length, take};
+ghost use lib.ListN.{length, take, getD};
 ghost use Rattle.bits.specs.Little.{le, leBytes};
-ghost use Rattle.bits.specs.Part.{splice};
+ghost use Rattle.bits.specs.Part.{span, splice};
 ghost use Rattle.rules.specs.Limits.{frameRecord, frameData, framePayload};
 ghost use Rattle.rules.specs.Sent.{framed};
+
+// What a record says: the ID, and how many data bytes there are; these are the ones after its first five. Nothing is checked.
+pub struct Found {
+    pub id: u32,
+    pub len: usize,
+}
 
 // Internal. The first k bytes of p and the tail byte after them, as one number.
 pub fn word(p: &[u8], k: usize, tail: u8) -> u64
@@ -30,4 +36,16 @@ pub fn put(out: &mut [u8], at: usize, id: u32, n: usize, word: u64)
     bits::le::put_at(out, at, 4, id as u64);
     bits::le::put_at(out, at + 4, 1, n as u64);
     bits::le::put_at(out, at + 5, 8, word);
+}
+
+// Internal. The record from `at` on.
+pub fn get(s: &[u8], at: usize) -> Found
+    requires { ⌜ at + frameRecord ≤ length (now s) ⌝ }
+    ensures { λ r. ⌜ (r .id ≡ le (span (now (s .entry)) at 4)) × (r .len ≡ getD (now (s .entry)) (at + 4) 0) ⌝ }
+{
+    let j = at + 4;
+    Found {
+        id: bits::le::get_u32(s, at),
+        len: bits::le::wide(s[j]) as usize,
+    }
 }

@@ -14,10 +14,12 @@ use Rattle.log_line.specs.Reading.{said}
 use Rattle.log_line.proofs.Lines.{too-long}
 use Rattle.log_replay.specs.Replay.{counted, endText, reply}
 use Rattle.log_replay.specs.declared.Counts.{Counts}
-use Rattle.log_feed.specs.Log.{Cut, cut, lastLine, linesOf, Replay, behind, replay, closed, begun}
+use Rattle.log_line.specs.Lines.{Cut, cut, lastLine, linesOf}
+use Rattle.log_feed.specs.Log.{Replay, behind, replay, closed, begun}
 use Rattle.log_feed.specs.Log as log
 use Rattle.log_feed.specs.Feed.{Feed, feed, finish, feedAll, concat, BlockLaw}
-use Rattle.log_feed.proofs.Cutting.{cutOf, after, cut-append, Plain, plain-rest, plain-take, onto, cut-onto, cut-plain, replay-append}
+use Rattle.log_line.proofs.Cutting.{cutOf, after, cut-append, Plain, plain-rest, plain-take, onto, cut-onto, cut-plain}
+use Rattle.log_feed.proofs.Replays.{replay-append}
 
 -- ── 48 bytes of an unfinished line are enough ──
 

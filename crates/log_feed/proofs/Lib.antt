@@ -1,3 +1,3 @@
-mod Cutting
+mod Replays
 mod BlockLaw
 mod Running

@@ -16,8 +16,10 @@ use Rattle.log_replay.specs.Replay.{counted, reply}
 use Rattle.log_replay.specs.inside.Call.{result, replayed}
 use Rattle.log_replay.specs.declared.Counts.{Counts}
 use Rattle.log_replay.specs.declared.Said.{Said}
-use Rattle.log_feed.specs.Log.{cut, Replay, behind, replay}
-use Rattle.log_feed.proofs.Cutting.{cutOf, cut-none, cut-line, behind-behind}
+use Rattle.log_line.specs.Lines.{cut}
+use Rattle.log_line.proofs.Cutting.{cutOf, cut-none, cut-line}
+use Rattle.log_feed.specs.Log.{Replay, behind, replay}
+use Rattle.log_feed.proofs.Replays.{behind-behind}
 
 -- m₀ and c₀ are the state and the counts at the start, p the block, n the length of the output buffer
 pub record Going (m₀ : List ℕ) (c₀ : Counts) (p : List ℕ) (n : ℕ) (m out : List ℕ) (c : Counts) (from at end : ℕ) : Type 0 where

@@ -4,7 +4,8 @@ use mathlib.Core.List.{List, [], _∷_, _++_}
 use Prim.Native.Nat.{ℕ}
 use lib.ListN.{take}
 use Rattle.log_replay.specs.declared.Counts.{Counts}
-use Rattle.log_feed.specs.Log.{heading, cut, lastLine, replay, closed, begun, zero, logOf}
+use Rattle.log_line.specs.Lines.{cut, lastLine}
+use Rattle.log_feed.specs.Log.{heading, replay, closed, begun, zero, logOf}
 
 -- the text for the lines that are whole, the receiver's state and the counts after them, and what is kept of the unfinished line: 48 bytes are
 -- enough, since no line of that many is well formed

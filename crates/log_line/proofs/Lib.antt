@@ -1,2 +1,4 @@
 pub mod Lines
+pub mod Cutting
+pub mod Writing
 pub mod Steps

@@ -181,10 +181,33 @@ read l f e = go (shaped (before 46 l) l) refl e where
 
 -- ── the line of a frame ──
 
-data-length : (bs : List ℕ) → length (dataText bs) ≡ length bs * 3
+pub data-length : (bs : List ℕ) → length (dataText bs) ≡ length bs * 3
 unfolding dataText
 data-length [] = refl
 data-length (b ∷ bs) = omega (arith, length-append (digits 16 2 b) (dataText bs), length-digits 16 2 b, data-length bs)
+
+pub time-length : (t : ℕ) → length (timeText t) ≡ countOf (t / 1000000) + 4
+unfolding timeText decimal
+time-length t =
+    omega (
+      arith,
+      length-append (digits 10 (countOf (t / 1000000)) (t / 1000000)) (46 ∷ digits 10 3 (t / 1000 % 1000)),
+      length-digits 10 (countOf (t / 1000000)) (t / 1000000),
+      length-digits 10 3 (t / 1000 % 1000),
+    )
+
+pub line-length : (f : Frame) → length (lineOf f) ≡ countOf (f .time / 1000000) + 14 + length (f .bytes) * 3
+unfolding lineOf
+line-length f =
+    omega (
+      arith,
+      length-append (timeText (f .time)) (32 ∷ (digits 16 8 (f .id) ++ (dataText (f .bytes) ++ (10 ∷ [])))),
+      time-length (f .time),
+      length-append (digits 16 8 (f .id)) (dataText (f .bytes) ++ (10 ∷ [])),
+      length-digits 16 8 (f .id),
+      length-append (dataText (f .bytes)) (10 ∷ []),
+      data-length (f .bytes),
+    )
 
 -- bytes read back, whatever follows them
 data-back : (bs rest : List ℕ) → Octets bs → pairs (length bs) (dataText bs ++ rest) ≡ some bs
@@ -250,20 +273,8 @@ module _ (f : Frame) (fine : Carried f) where
       ∙ drop-at (digits 16 8 (f .id)) behind-id 8 (length-digits 16 8 (f .id))
 
   long : length (lineOf f) ≡ s + 14 + length (f .bytes) * 3
-  unfolding behind-ms
-  long =
-      ap length text
-      ∙ omega (
-        arith,
-        length-append (digits 10 s sec) (46 ∷ (digits 10 3 ms ++ behind-ms)),
-        length-digits 10 s sec,
-        length-append (digits 10 3 ms) behind-ms,
-        length-digits 10 3 ms,
-        length-append (digits 16 8 (f .id)) (dataText (f .bytes) ++ (10 ∷ [])),
-        length-digits 16 8 (f .id),
-        length-append (dataText (f .bytes)) (10 ∷ []),
-        data-length (f .bytes),
-      )
+  unfolding s
+  long = line-length f
 
   s-some : 0 < s
   unfolding s
@@ -349,20 +360,14 @@ pub record Timed (l : List ℕ) (f : Frame) : Type 0 where
   pub least : 15 ≤ length l
 
 pub timed : (l : List ℕ) (f : Frame) → said l ≡ some f → Timed l f
-unfolding lineOf timeText decimal s
+unfolding lineOf s
 timed l f e =
     let r = read l f e in
     let fine = r .carried in
     let w = countOf (f .time / 1000000) in
     let d : before 46 l ≡ w = ap (before 46) (sym (r .line)) ∙ dot-at f fine in
     let t = timeText (f .time) in
-    let n : length t ≡ w + 4 =
-    omega (
-      arith,
-      length-append (decimal (f .time / 1000000)) (46 ∷ digits 10 3 (f .time / 1000 % 1000)),
-      length-digits 10 w (f .time / 1000000),
-      length-digits 10 3 (f .time / 1000 % 1000),
-    ) in
+    let n : length t ≡ w + 4 = time-length (f .time) in
     record {
       text = ap (λ (k : ℕ). take (k + 4) l) d ∙ ap (λ (x : List ℕ). take (w + 4) x) (sym (r .line))
           ∙ take-at t (32 ∷ (digits 16 8 (f .id) ++ (dataText (f .bytes) ++ (10 ∷ [])))) (w + 4) n;

@@ -1,4 +1,5 @@
 pub mod Line
 pub mod Reading
+pub mod Lines
 pub mod Laws
 pub mod inside

@@ -2,10 +2,11 @@
 use mathlib.Core.List.{List}
 use Prim.Native.Nat.{ℕ, _+_, _*_, _^_}
 use Rattle.answers.specs.Setup.{numberOf}
-use Rattle.tecelume.specs.Word.{wordOf, sentWord, allocationWord, signaturesWord}
+use Rattle.tecelume.specs.Word.{wordOf, sentWord, allocationWord, signaturesWord, conversionWord}
 use Rattle.allocator.specs.Allocate as allocate
 use Rattle.allocator.specs.Setup as allocator
 use Rattle.dsdl_signature.specs.Call as signing
+use Rattle.capture_convert.specs.Convert as convert
 use Rattle.id_map.specs.Setup as map
 use Rattle.receiver.specs.Receive as receive
 use Rattle.sender.specs.Send as send
@@ -60,3 +61,11 @@ signed w out records = record { word = w; out = out; records = records }
 
 abbrev pub packedSignatures : signing.Result → Signed
 packedSignatures r = signed (signaturesWord (r .answer)) (r .out) (r .records)
+
+-- of a conversion, which has no state
+pub record Conversion : Type 0 where
+  pub word : ℕ
+  pub out : List ℕ
+
+abbrev pub packedConversion : convert.Result → Conversion
+packedConversion r = record { word = conversionWord (r .answer); out = r .out }

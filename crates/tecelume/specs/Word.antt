@@ -17,6 +17,8 @@ use Rattle.allocator.specs.Calls.{Call, resultOf}
 use Rattle.allocator.specs.declared.answer.Answer as allocator-answer
 use Rattle.dsdl_signature.specs.Call as signing
 use Rattle.dsdl_signature.specs.declared.answer.Answer as signing-answer
+use Rattle.capture_convert.specs.Answer as conversion
+use Rattle.capture_convert.specs.declared.answer.Converted.{Converted}
 use Rattle.rules.specs.Limits.{payloadMax}
 use Rattle.rules.specs.Range.{answered}
 
@@ -92,3 +94,13 @@ pub record SignaturesWordLaws : Type 0 where
   pub number : (source lengths out records : List ℕ) → let a = signing.signatures source lengths out records .answer in numberIn (signaturesWord a) ≡ signing.numberOf a
   pub definition : (source lengths out records : List ℕ) → let a = signing.signatures source lengths out records .answer in signaturesWord a / 2 ^ 8 % 2 ^ 4 ≡ signing.definitionIn a
   pub line : (source lengths out records : List ℕ) → let a = signing.signatures source lengths out records .answer in signaturesWord a / 2 ^ 16 % 2 ^ 16 ≡ signing.lineIn a
+
+-- ── the result word of a conversion: the number in bits 0 to 7, the length from bit 8 on ──
+
+abbrev pub conversionWord : Converted → ℕ
+conversionWord a = conversion.numberOf a + conversion.lengthIn a * 2 ^ 8
+
+-- C reads both
+pub record ConversionWordLaws : Type 0 where
+  pub number : (a : Converted) → numberIn (conversionWord a) ≡ conversion.numberOf a
+  pub len : (a : Converted) → conversionWord a / 2 ^ 8 ≡ conversion.lengthIn a

@@ -6,12 +6,13 @@ use allocator_table::free::Reserved;
 use transport::Outgoing;
 ghost use mathlib.Core.Path.{_≡_};
 ghost use Rattle.tecelume.specs.Condition3.{wordBytes};
-ghost use Rattle.tecelume.specs.Entry.{version, numbered, numberedMap, numberedAllocator, entry, packed, packedSend, packedAllocation, signed, packedSignatures};
-ghost use Rattle.tecelume.specs.Word.{WordLaws, AllocationWordLaws, SignaturesWordLaws};
+ghost use Rattle.tecelume.specs.Entry.{version, numbered, numberedMap, numberedAllocator, entry, packed, packedSend, packedAllocation, signed, packedSignatures, packedConversion};
+ghost use Rattle.tecelume.specs.Word.{WordLaws, AllocationWordLaws, SignaturesWordLaws, ConversionWordLaws};
 ghost use Rattle.allocator.specs.Allocate.{allocated};
 ghost use Rattle.allocator.specs.Setup as allocator;
 ghost use Rattle.allocator_table.specs.Layout as table;
 ghost use Rattle.dsdl_signature.specs.Call.{signatures};
+ghost use Rattle.capture_convert.specs.Convert.{captured, uncaptured};
 ghost use Rattle.id_map.specs.Layout as layout;
 ghost use Rattle.id_map.specs.Setup as setting;
 ghost use Rattle.receiver.specs.Receive.{arrivalOf, received};
@@ -173,6 +174,22 @@ pub extern "C" fn tecelume_signatures_word(
     word::of_signatures(dsdl_signature::call::signatures(source, lengths, out, records))
 }
 
+// A log as a capture: the number and, from bit 8 on, its length.
+#[no_mangle]
+pub extern "C" fn tecelume_capture_word(log: &[u8], out: &mut [u8]) -> u64
+    ensures { λ r. ⌜ record { word = r; out = now (out .exit) } ≡ packedConversion (captured (now (log .entry)) (now (out .entry))) ⌝ }
+{
+    word::of_converted(capture_convert::capture(log, out))
+}
+
+// A capture as a log: the number and, from bit 8 on, its length.
+#[no_mangle]
+pub extern "C" fn tecelume_uncapture_word(capture: &[u8], out: &mut [u8]) -> u64
+    ensures { λ r. ⌜ record { word = r; out = now (out .exit) } ≡ packedConversion (uncaptured (now (capture .entry)) (now (out .entry))) ⌝ }
+{
+    word::of_converted(capture_convert::uncapture(capture, out))
+}
+
 // What the result word of a reception holds: a number of RULES 4.10 or 20; and every value that is handed out fits its field and is read back from it.
 pub fn word_fields()
     ensures { λ _. ⌜ WordLaws ⌝ }
@@ -186,6 +203,11 @@ pub fn allocation_word_fields()
 // What the result word of signatures holds, the same way.
 pub fn signatures_word_fields()
     ensures { λ _. ⌜ SignaturesWordLaws ⌝ }
+{}
+
+// What the result word of a conversion holds, the same way.
+pub fn conversion_word_fields()
+    ensures { λ _. ⌜ ConversionWordLaws ⌝ }
 {}
 
 // RULES 14.14: condition 3, of what a C program reads.

@@ -1,13 +1,15 @@
 // Answers as numbers (RULES 13.3).
 use allocator::answer;
+use capture_convert::answer::Converted;
 use transport::Answer;
 use transport::Sent;
 use transport::Transfer;
 ghost use mathlib.Core.Path.{_≡_};
-ghost use Prim.Native.Nat.{_≤_, _<_};
+ghost use Prim.Native.Nat.{_^_, _≤_, _<_};
 ghost use Rattle.allocator.specs.Laws.{Range};
 ghost use Rattle.answers.specs.Sending.{dispatchIn};
-ghost use Rattle.tecelume.specs.Word.{transferWord, wordOf, sentWord, allocationWord, signaturesWord, TransferFits, Fits};
+ghost use Rattle.capture_convert.specs.Answer.{lengthIn};
+ghost use Rattle.tecelume.specs.Word.{transferWord, wordOf, sentWord, allocationWord, signaturesWord, conversionWord, TransferFits, Fits};
 
 fn of_transfer(t: Transfer) -> u64
     requires { ⌜ TransferFits t ⌝ }
@@ -48,4 +50,11 @@ pub fn of_signatures(a: dsdl_signature::answer::Answer) -> u64
     ensures { λ r. ⌜ r ≡ signaturesWord a ⌝ }
 {
     a.number() as u64 + (a.definition() as u64 * 0x100 + a.line() as u64 * 0x10000)
+}
+
+pub fn of_converted(a: Converted) -> u64
+    requires { ⌜ lengthIn a < 2 ^ 38 ⌝ }
+    ensures { λ r. ⌜ r ≡ conversionWord a ⌝ }
+{
+    a.number() + a.length() as u64 * 0x100
 }

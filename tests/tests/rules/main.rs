@@ -4,6 +4,7 @@
 mod allocation;
 mod allocation_log;
 mod blocks;
+mod captures;
 mod checksums;
 mod lent_state;
 mod log_program;

@@ -1,32 +1,14 @@
 -- `put_digits` meets its contract.
-use Rattle.digits.proofs.Puts.{behind-set, splice-nil}
-use Rattle.digits.proofs.Digits.{length-digits, digits-snoc, glyph-low}
-use Rattle.digits.specs.Digits.{glyph, digits}
+use Rattle.digits.proofs.Puts.{digit-turn, digits-done}
+use Rattle.digits.proofs.Digits.{glyph-low}
+use Rattle.digits.specs.Digits.{digits}
 use Rattle.bits.specs.Part.{splice}
-use lib.ListN.{length, set, length-set}
+use lib.ListN.{length, length-set}
 use native.Mathlib.Omega.{arith}
-use Prim.Native.Nat.{ℕ, suc, _+_, _-_, _/_, _%_, _≤_, _<_}
-use mathlib.Core.List.{List}
-use mathlib.Core.Path.{_≡_, refl, sym, ap, _∙_}
+use Prim.Native.Nat.{_%_, _≤_}
+use mathlib.Core.Path.{_≡_, refl, sym, _∙_}
 use Rattle.digits.proofs.put_digits.Statement.{statement}
 use Rattle.digits.proofs.put_digits.Tie as tie
-
--- a turn: with the digits before it, the digit stored is the last of them
-turn : (m : List ℕ) (at i x : ℕ) → 0 < i → at + i ≤ length m
-    → splice (set m (at + (i - 1)) (48 + x % 10)) at (digits 10 (i - 1) (x / 10)) ≡ splice m at (digits 10 i x)
-turn m at i x p h =
-    let j = i - 1 in
-    let e : i ≡ suc j = omega arith in
-    let g : 48 + x % 10 ≡ glyph (x % 10) = sym (glyph-low (x % 10) (omega arith)) in
-    ap (λ (k : ℕ). splice (set m (at + j) k) at (digits 10 j (x / 10))) g
-    ∙ behind-set m (digits 10 j (x / 10)) at j (glyph (x % 10)) (length-digits 10 j (x / 10)) (omega arith)
-    ∙ ap (λ (l : List ℕ). splice m at l) (sym (digits-snoc 10 j x) ∙ ap (λ (k : ℕ). digits 10 k x) (sym e))
-
-last : (m m' : List ℕ) (at i x : ℕ) → i ≡ 0 → splice m at (digits 10 i x) ≡ m' → m ≡ m'
-unfolding digits
-last m m' at i x z e =
-    let q : splice m at (digits 10 0 x) ≡ m' = rw z at e in
-    sym (splice-nil m at) ∙ q
 
 abbrev Inv-loop : tie.InvT-loop
 Inv-loop out₀ at w v x₀ i₀ out x i = (i ≤ w) × ((length out ≡ length out₀) × (splice out at (digits 10 i x) ≡ splice out₀ at (digits 10 w v)))
@@ -62,8 +44,8 @@ loop-again c =
       omega arith,
       (
         simp length-set (l .loop .inv .1 .0),
-        turn (l .loop .out) (a .at) (l .loop .i) (l .loop .x) (c .loop-test .taken)
-            (omega arith) ∙ l .loop .inv .1 .1,
+        digit-turn 10 (l .loop .out) (a .at) (l .loop .i) (l .loop .x) _ (c .loop-test .taken) (omega arith)
+            (sym (glyph-low (l .loop .x % 10) (omega arith))) ∙ l .loop .inv .1 .1,
       ),
     )
 
@@ -74,7 +56,7 @@ returns : tie.Need-returns Inv-loop μ-loop
 returns c =
     let l = c .before in
     let a = l .before .args in
-    last (l .loop .out) _ (a .at) (l .loop .i) (l .loop .x) (omega arith) (l .loop .inv .1 .1)
+    digits-done 10 (l .loop .out) _ (a .at) (l .loop .i) (l .loop .x) (omega arith) (l .loop .inv .1 .1)
 
 pub put-digits-spec : {M : Type 1} → statement M
 put-digits-spec =

@@ -10,7 +10,8 @@ use lib.ListN.{length, take, drop, length-take}
 use lib.Seq.{take-add, drop-at, length-take-le}
 use Rattle.bits.specs.Part.{span}
 use Rattle.log_replay.specs.declared.Counts.{Counts}
-use Rattle.log_feed.specs.Log.{Replay, cut}
+use Rattle.log_line.specs.Lines.{cut}
+use Rattle.log_feed.specs.Log.{Replay}
 use Rattle.log_feed.specs.Feed.{Feed, feed}
 use Rattle.log_feed.specs.inside.Seen.{seen}
 use Rattle.log_feed.specs.inside.Lines.{Lined}

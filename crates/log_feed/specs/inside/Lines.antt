@@ -6,7 +6,8 @@ use Prim.Native.Nat.{ℕ, _≤_}
 use lib.ListN.{length, take, drop}
 use Rattle.state.specs.Sound.{soundState}
 use Rattle.log_replay.specs.declared.Counts.{Counts}
-use Rattle.log_feed.specs.Log.{cut, replay}
+use Rattle.log_line.specs.Lines.{cut}
+use Rattle.log_feed.specs.Log.{replay}
 use Rattle.log_feed.specs.declared.Ran as ran
 
 -- of the state m, the counts c and the block p; n is the length of the output buffer

@@ -1,17 +1,14 @@
--- Cutting an input into lines, and replaying them.
-use mathlib.Core.Path.{_≡_, refl, ap, _∙_}
+-- Cutting an input into lines.
+use mathlib.Core.Path.{_≡_, refl}
 use mathlib.Core.Bool.{Bool, true, false}
-use mathlib.Core.List.{List, [], _∷_, _++_, append-assoc}
+use mathlib.Core.List.{List, [], _∷_, _++_}
 use Prim.Native.Nat.{ℕ, zero, suc, _+_, _<_}
 use native.Mathlib.Omega.{arith}
 use lib.Dec.{eqb}
 use lib.ListN.{length, take, drop}
 use Rattle.rules.specs.Tests.{pick}
 use Rattle.digits.specs.Find.{before}
-use Rattle.log_line.specs.Reading.{said}
-use Rattle.log_replay.specs.Replay.{counted, reply}
-use Rattle.log_replay.specs.declared.Counts.{Counts}
-use Rattle.log_feed.specs.Log.{Cut, ahead, cut, Replay, behind, replay}
+use Rattle.log_line.specs.Lines.{Cut, ahead, cut}
 
 abbrev pub cutOf : List (List ℕ) → List ℕ → Cut
 cutOf ls r = record { whole = ls; rest = r }
@@ -112,18 +109,3 @@ pub cut-plain : (u : List ℕ) → Plain u → cut u ≡ cutOf [] u
 unfolding cut ahead
 cut-plain [] h = refl
 cut-plain (b ∷ bs) h = rw (h .0, cut-plain bs (h .1))
-
--- ── replaying one list of lines after another ──
-
-pub behind-behind : (t u : List ℕ) (r : Replay) → behind t (behind u r) ≡ behind (t ++ u) r
-behind-behind t u r = rw (append-assoc t u (r .text))
-
-pub replay-append : (m : List ℕ) (c : Counts) (xs ys : List (List ℕ))
-    → replay m c (xs ++ ys) ≡ behind (replay m c xs .text) (replay (replay m c xs .state) (replay m c xs .counts) ys)
-unfolding replay
-replay-append m c [] ys = refl
-replay-append m c (l ∷ ls) ys =
-    let r = reply m (said l) in
-    let d = counted c (r .handed) in
-    ap (behind (r .text)) (replay-append (r .state) d ls ys)
-    ∙ behind-behind (r .text) (replay (r .state) d ls .text) (replay (replay (r .state) d ls .state) (replay (r .state) d ls .counts) ys)
