@@ -7,8 +7,8 @@
  * arguments counts. Then what include/tecelume.h promises is checked (call.c): const inputs stay, a refusal leaves every buffer as it
  * was and all other bits of the word 0, success writes only where it may. A payload sent comes out as it went in, a frame that was
  * taken comes again, by its own interface or by another, and is passed over for the right reason, and a node that was told an ID is told
- * the same one again and shares it with no other, and a log comes back from its capture. What the answers must be otherwise is the business of the comparison with the second
- * implementation.
+ * the same one again and shares it with no other. A checksum corrected forth and back is what it was, and a log comes back from its capture.
+ * What the answers must be otherwise is the business of the comparison with the second implementation.
  *
  * --selftest makes one call that says one byte too many of a buffer. Something must notice, or the runs without it show nothing. */
 #include <inttypes.h>
@@ -451,6 +451,21 @@ static void ask(void)
         asking = below(ALLOCATEES);
 }
 
+/* It is lent no buffer. */
+static void correct(void)
+{
+    uint32_t checksum = below(65536), old_byte = below(256), new_byte = below(256);
+    uint64_t bytes_after = once_in(8) ? next_random() >> below(64) : below(512);
+    tecelume_result forth = tecelume_patch(checksum, old_byte, new_byte, bytes_after);
+    tecelume_result back = tecelume_patch(tecelume_checksum(forth), new_byte, old_byte, bytes_after);
+    bool is_corrected = tecelume_number(forth) == TECELUME_SUCCESS && back.word == (uint64_t)checksum << 8;
+    if (bytes_after > 511 ? forth.word == TECELUME_PAYLOAD_TOO_LONG : is_corrected)
+        return;
+    printf("seed %" PRIu64 ": %08X, byte %02X to %02X, %" PRIu64 " after, is corrected wrongly\n", seed, (unsigned)checksum, (unsigned)old_byte,
+           (unsigned)new_byte, bytes_after);
+    exit(1);
+}
+
 /* ---- captures ---- */
 
 enum { LINES_MAX = 12 };
@@ -520,6 +535,7 @@ static void convert(void)
 
 static void one_step(void)
 {
+    correct();
     now += once_in(500) ? below(3000000) : below(2000);
     if (once_in(2000) || receiver.state.length < TECELUME_RECEIVER_SIZE)
         setup_receiver();

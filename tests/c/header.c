@@ -4,7 +4,8 @@
  *     header SENTENCE    the one of that name
  *     header --list      their names
  *
- * The first that does not hold is printed, with status 1. Those of handing out node IDs are in allocator.c. wrong.c makes libraries that
+ * The first that does not hold is printed, with status 1. Those of correcting a checksum are in patch.c, those of
+ * handing out node IDs in allocator.c. wrong.c makes libraries that
  * break them. */
 #include <stdbool.h>
 #include <stdio.h>
@@ -802,6 +803,10 @@ static const struct {
     {"faults", faults},
     {"new_setup", new_setup},
     {"order_of_subscriptions", order_of_subscriptions},
+    {"rewritten_in_passing", rewritten_in_passing},
+    {"rewritten_field", rewritten_field},
+    {"damage_before_a_correction", damage_before_a_correction},
+    {"numbers_of_a_correction", numbers_of_a_correction},
     {"allocator_and_library", allocator_and_library},
     {"dialog_of_an_allocatee", dialog_of_an_allocatee},
     {"same_node_id_again", same_node_id_again},

@@ -1,4 +1,4 @@
-/* What the sentences of header.c, allocator.c, definitions.c and captures.c share. */
+/* What the sentences of header.c, patch.c, allocator.c, definitions.c and captures.c share. */
 #ifndef SENTENCE_H
 #define SENTENCE_H
 
@@ -8,6 +8,12 @@
 void check(bool holds, const char *what, int line);
 
 #define CHECK(condition) check((condition), #condition, __LINE__)
+
+/* Those of patch.c. */
+void rewritten_in_passing(void);
+void rewritten_field(void);
+void damage_before_a_correction(void);
+void numbers_of_a_correction(void);
 
 /* Those of allocator.c. */
 void allocator_and_library(void);

@@ -321,6 +321,28 @@ uint64_t __wrap_tecelume_send_word(uint8_t *map, size_t map_len, uint32_t own, u
     return answer(dispatch(word, type_id, was_empty, map, out, out_len), OTHER);
 }
 
+/* ---- correcting a checksum ---- */
+
+uint64_t __real_tecelume_patch_word(uint32_t checksum, uint32_t old_byte, uint32_t new_byte, uint64_t bytes_after);
+uint64_t __wrap_tecelume_patch_word(uint32_t checksum, uint32_t old_byte, uint32_t new_byte, uint64_t bytes_after)
+{
+    uint64_t after = is("correction-cuts-the-count") ? (uint32_t)bytes_after : bytes_after;
+    if (is("correction-forgets-the-old-byte"))
+        old_byte = 0;
+    if (is("correction-knows-the-old-byte") && old_byte == (22 ^ 1)) /* in place 3 the sentence has 22 */
+        old_byte = 22;
+    if (is("correction-loses-the-checksum"))
+        checksum = 0;
+    if (is("correction-counts-one-less") && after > 0)
+        after--;
+    if ((is("correction-refuses-511") && after == 511) || (is("correction-takes-512") && after == 512))
+        after ^= 511 ^ 512;
+    uint64_t word = __real_tecelume_patch_word(checksum, old_byte, new_byte, after);
+    if (is("correction-keeps-high-bits"))
+        word |= (uint64_t)(checksum >> 16) << 24;
+    return answer(word, OTHER);
+}
+
 /* ---- handing out node IDs ---- */
 
 uint32_t __real_tecelume_allocator_setup(uint8_t *state, size_t state_len);

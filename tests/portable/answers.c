@@ -13,9 +13,9 @@
 
 enum { CALLS = 100000, FOLD = 1000, LANES = 6, NODES = 2, TYPES = 6, NUMBERS = TECELUME_DEFINITIONS_TOO_LARGE + 1, ALLOCATEES = 140 };
 enum { BLOCKS_AT = 1584, FIRST_ENTRIES = 60 }; /* where the blocks of a receiver start; of an allocator, counts and two entries */
-enum entry { SETUP, RECEIVE, MAP_SETUP, SEND, ALLOCATOR_SETUP, ALLOCATE, SIGNATURES, CAPTURE, UNCAPTURE, OTHERS, ENTRIES };
+enum entry { SETUP, RECEIVE, MAP_SETUP, SEND, PATCH, ALLOCATOR_SETUP, ALLOCATE, SIGNATURES, CAPTURE, UNCAPTURE, OTHERS, ENTRIES };
 
-static const char *const names[ENTRIES] = {"setup",    "receive",    "map_setup", "send",      "allocator_setup",
+static const char *const names[ENTRIES] = {"setup",    "receive",    "map_setup", "send",      "patch", "allocator_setup",
                                            "allocate", "signatures", "capture",   "uncapture", "others"};
 #define BIT(number) ((uint64_t)1 << (number))
 static const uint64_t must[ENTRIES] = {
@@ -23,6 +23,7 @@ static const uint64_t must[ENTRIES] = {
     (BIT(10) - 1) | BIT(11) | BIT(12) | BIT(19) | BIT(20) | BIT(26) | (BIT(35) - BIT(30)),
     BIT(0) | BIT(20),
     BIT(0) | BIT(8) | BIT(9) | BIT(11) | BIT(14) | BIT(20),
+    BIT(0) | BIT(11),
     BIT(0) | BIT(20),
     BIT(0) | BIT(8) | BIT(13) | BIT(15) | BIT(16) | BIT(20) | BIT(21),
     BIT(0) | BIT(8) | (BIT(44) - BIT(40)),
@@ -168,6 +169,17 @@ static void pass_on(struct lane *lane)
         receive(tecelume_record_id(record), tecelume_record_data(record), tecelume_record_length(record) % 9, interface_number);
     if (!once_in(60))
         lane->next++;
+}
+
+static void patch(void)
+{
+    uint32_t checksum = below(once_in(8) ? 0xFFFFFFFF : 65536);
+    uint32_t old_byte = below(once_in(8) ? 0xFFFFFFFF : 256);
+    uint32_t new_byte = below(once_in(8) ? 0xFFFFFFFF : 256);
+    uint64_t bytes_after = number_to(511);
+    if (once_in(100))
+        bytes_after <<= 32;
+    answered(PATCH, tecelume_patch(checksum, old_byte, new_byte, bytes_after).word, 0);
 }
 
 static void set_up_allocator(void)
@@ -365,6 +377,8 @@ static void step(void)
         convert();
     else if (which < 350)
         receive_any();
+    else if (which < 370)
+        patch();
     else if (lane->next < lane->count)
         pass_on(lane);
     else

@@ -12,7 +12,8 @@ pub fn transfer_checksum(signature: u64, payload: &[u8]) -> u16 {
     crc16_from(crc16(&signature.to_le_bytes()), payload)
 }
 
-fn crc16_from(start: u16, bytes: &[u8]) -> u16 {
+/// The register after the bytes, from any start.
+pub fn crc16_from(start: u16, bytes: &[u8]) -> u16 {
     bytes.iter().fold(start, |mut crc, &byte| {
         crc ^= u16::from(byte) << 8;
         for _ in 0..8 {

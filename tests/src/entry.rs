@@ -2,12 +2,13 @@
 //!
 //! A result word holds the answer's number in bits 0 to 7 (RULES 13.3). After a transfer handed out
 //! come its length, stream, priority and transfer ID, after a send the number of its frames and
-//! their transfer ID, at the same place; after an allocator's reply, a capture or a log comes its
-//! length.
+//! their transfer ID, at the same place; after a correction comes the checksum, after an allocator's
+//! reply, a capture or a log its length.
 
 use crate::allocator::{self, Allocator, Request};
 use crate::captures::Written;
 use crate::map::{self, Map};
+use crate::patch;
 use crate::receive::{Answer, Frame, Receiver, Subscription, Transfer};
 use crate::send::{self, Outgoing, RECORD};
 use crate::state;
@@ -107,6 +108,14 @@ pub fn send(bytes: &mut [u8], outgoing: &Outgoing, out: &mut [u8]) -> u64 {
             (sent.frames.len() as u64) << 8 | transfer_id_bits(sent.transfer_id)
         }
         Err(refusal) => u64::from(refusal.number()),
+    }
+}
+
+/// Of numbers that are larger than a checksum or a byte, the low bits count.
+pub fn patch(checksum: u32, old: u32, new: u32, after: u64) -> u64 {
+    match patch::patch(checksum as u16, old as u8, new as u8, after) {
+        Ok(corrected) => u64::from(corrected) << 8,
+        Err(number) => u64::from(number),
     }
 }
 

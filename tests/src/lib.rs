@@ -15,6 +15,7 @@ pub mod frame;
 pub mod logs;
 pub mod map;
 pub mod messages;
+pub mod patch;
 pub mod receive;
 pub mod send;
 pub mod session;

@@ -1,7 +1,7 @@
-mod Xor
+pub mod Xor
 pub mod Linear
-mod Below
-mod Tables
-mod Window
+pub mod Below
+pub mod Tables
+pub mod Window
 mod Parity
 pub mod Damage

@@ -70,14 +70,18 @@ module _ (k : Crc) where
   unfolding crcOver
   over-done r i p e = rw (e, drop-length)
 
--- ── the transfer checksum fits 16 bits ──
+-- ── the transfer checksum ──
+
+difference : (signature : ℕ) (p q : List ℕ) → length p ≡ length q → bitXor (checksum signature p) (checksum signature q) ≡ crcOver ccitt 0 (xors p q)
+unfolding checksum
+difference signature p q e =
+    let r = crcOver ccitt 0xFFFF (leBytes 8 signature) in
+    ap₂ bitXor (over-append ccitt 0xFFFF (leBytes 8 signature) p) (over-append ccitt 0xFFFF (leBytes 8 signature) q)
+    ∙ sym (over-xor ccitt r r p q e) ∙ ap (λ (z : ℕ). crcOver ccitt z (xors p q)) (xor-self r)
 
 pub linear-laws : LinearLaws
-unfolding checksum
 linear-laws = record {
   linear = over-xor;
-  difference = λ signature p q e.
-      let r = crcOver ccitt 0xFFFF (leBytes 8 signature) in
-      ap₂ bitXor (over-append ccitt 0xFFFF (leBytes 8 signature) p) (over-append ccitt 0xFFFF (leBytes 8 signature) q)
-      ∙ sym (over-xor ccitt r r p q e) ∙ ap (λ (z : ℕ). crcOver ccitt z (xors p q)) (xor-self r);
+  difference = difference;
+  depends = λ s t p q u v e f d. difference s p q e ∙ ap (crcOver ccitt 0) d ∙ sym (difference t u v f);
 }

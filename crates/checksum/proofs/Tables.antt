@@ -28,7 +28,7 @@ module _ (k : Crc) where
       ap₂ bitXor m z ∙ xor-zero-r (c * 2)
 
   -- n places up, as long as nothing leaves at the top
-  shifts-low : (n j c : ℕ) → n + j ≡ k .width → c < 2 ^ j → shifts k n c ≡ c * 2 ^ n
+  pub shifts-low : (n j c : ℕ) → n + j ≡ k .width → c < 2 ^ j → shifts k n c ≡ c * 2 ^ n
   unfolding shifts
   shifts-low zero j c e h = sym (mul-one c)
   shifts-low (suc n) j c e h =

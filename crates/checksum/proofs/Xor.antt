@@ -48,7 +48,7 @@ xor-swap a b c d =
     ∙ sym (xor-assoc a c (bitXor b d))
 
 -- twice the same is nothing
-xor-back : (a b : ℕ) → bitXor (bitXor a b) b ≡ a
+pub xor-back : (a b : ℕ) → bitXor (bitXor a b) b ≡ a
 xor-back a b = xor-assoc a b b ∙ ap (bitXor a) (xor-self b) ∙ xor-zero-r a
 
 pub xor-none : (a b : ℕ) → bitXor a b ≡ 0 → a ≡ b

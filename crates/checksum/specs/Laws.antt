@@ -13,8 +13,11 @@ xors [] q = []
 xors (x ∷ p) [] = []
 xors (x ∷ p) (y ∷ q) = bitXor x y ∷ xors p q
 
--- every such check is linear under exclusive or; so the difference of two checksums depends on the payloads' difference alone, and on no signature
+-- every such check is linear under exclusive or; so the difference of two checksums is that of the payloads' difference, from 0
 pub record LinearLaws : Type 0 where
   pub linear :
       (k : Crc) (c d : ℕ) (p q : List ℕ) → length p ≡ length q → crcOver k (bitXor c d) (xors p q) ≡ bitXor (crcOver k c p) (crcOver k d q)
   pub difference : (signature : ℕ) (p q : List ℕ) → length p ≡ length q → bitXor (checksum signature p) (checksum signature q) ≡ crcOver ccitt 0 (xors p q)
+  -- under one signature, then, it depends on the payloads' difference alone, and not on which signature that is
+  pub depends : (s t : ℕ) (p q u v : List ℕ) → length p ≡ length q → length u ≡ length v → xors p q ≡ xors u v
+      → bitXor (checksum s p) (checksum s q) ≡ bitXor (checksum t u) (checksum t v)

@@ -15,6 +15,9 @@ use Rattle.answers.specs.Sending as sending
 use Rattle.allocator.specs.Answer as allocator
 use Rattle.allocator.specs.Calls.{Call, resultOf}
 use Rattle.allocator.specs.declared.answer.Answer as allocator-answer
+use Rattle.patch.specs.Answer as patch
+use Rattle.patch.specs.Patch.{patches}
+use Rattle.patch.specs.declared.Patched.{Patched}
 use Rattle.dsdl_signature.specs.Call as signing
 use Rattle.dsdl_signature.specs.declared.answer.Answer as signing-answer
 use Rattle.capture_convert.specs.Answer as conversion
@@ -73,6 +76,16 @@ pub record WordLaws : Type 0 where
 
 abbrev pub sentWord : Sent → ℕ
 sentWord a = sending.numberOf a + (sending.dispatchIn a .frames * 2 ^ 8 + sending.dispatchIn a .transfer * 2 ^ 55)
+
+-- ── the result word of a correction: the number in bits 0 to 7, the checksum in 8 to 23 ──
+
+abbrev pub patchWord : Patched → ℕ
+patchWord a = patch.numberOf a + patch.checksumIn a * 2 ^ 8
+
+-- C reads both
+pub record PatchWordLaws : Type 0 where
+  pub number : (c old new n : ℕ) → numberIn (patchWord (patches c old new n)) ≡ patch.numberOf (patches c old new n)
+  pub checksum : (c old new n : ℕ) → c < 2 ^ 16 → patchWord (patches c old new n) / 2 ^ 8 % 2 ^ 16 ≡ patch.checksumIn (patches c old new n)
 
 -- ── the result word of an allocator: the number in bits 0 to 7, the length of the reply in 8 to 12, where a reception has its length too ──
 

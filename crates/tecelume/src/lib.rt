@@ -5,9 +5,10 @@ use allocator::Request;
 use allocator_table::free::Reserved;
 use transport::Outgoing;
 ghost use mathlib.Core.Path.{_≡_};
+ghost use Prim.Native.Nat.{_%_};
 ghost use Rattle.tecelume.specs.Condition3.{wordBytes};
 ghost use Rattle.tecelume.specs.Entry.{version, numbered, numberedMap, numberedAllocator, entry, packed, packedSend, packedAllocation, signed, packedSignatures, packedConversion};
-ghost use Rattle.tecelume.specs.Word.{WordLaws, AllocationWordLaws, SignaturesWordLaws, ConversionWordLaws};
+ghost use Rattle.tecelume.specs.Word.{patchWord, WordLaws, PatchWordLaws, AllocationWordLaws, SignaturesWordLaws, ConversionWordLaws};
 ghost use Rattle.allocator.specs.Allocate.{allocated};
 ghost use Rattle.allocator.specs.Setup as allocator;
 ghost use Rattle.allocator_table.specs.Layout as table;
@@ -15,6 +16,7 @@ ghost use Rattle.dsdl_signature.specs.Call.{signatures};
 ghost use Rattle.capture_convert.specs.Convert.{captured, uncaptured};
 ghost use Rattle.id_map.specs.Layout as layout;
 ghost use Rattle.id_map.specs.Setup as setting;
+ghost use Rattle.patch.specs.Patch.{patches};
 ghost use Rattle.receiver.specs.Receive.{arrivalOf, received};
 ghost use Rattle.rules.specs.Condition3.{Condition3};
 ghost use Rattle.rules.specs.Damage.{BurstIsCaught};
@@ -110,6 +112,20 @@ pub extern "C" fn tecelume_send_word(
     word::of_sent(transport::send(map, c, payload, out))
 }
 
+// A transfer's checksum after a byte of its payload was rewritten: the number and, from bit 8 on, the corrected checksum. No number refuses a
+// checksum of more than 16 bits or a byte of more than 8: their low bits count.
+#[no_mangle]
+pub extern "C" fn tecelume_patch_word(checksum: u32, old: u32, new: u32, after: u64) -> u64
+    ensures { λ r. ⌜ r ≡ patchWord (patches (checksum % 65536) (old % 256) (new % 256) after) ⌝ }
+{
+    word::of_patched(transport::patch(
+        (checksum % 65536) as u16,
+        (old % 256) as u8,
+        (new % 256) as u8,
+        after as usize,
+    ))
+}
+
 // The signature of a standard type, of kind 0 (message) or 1 (service); 0 of any other.
 #[no_mangle]
 pub extern "C" fn tecelume_signature(kind: u32, type_id: u32) -> u64
@@ -193,6 +209,11 @@ pub extern "C" fn tecelume_uncapture_word(capture: &[u8], out: &mut [u8]) -> u64
 // What the result word of a reception holds: a number of RULES 4.10 or 20; and every value that is handed out fits its field and is read back from it.
 pub fn word_fields()
     ensures { λ _. ⌜ WordLaws ⌝ }
+{}
+
+// What the result word of a correction holds, the same way.
+pub fn patch_word_fields()
+    ensures { λ _. ⌜ PatchWordLaws ⌝ }
 {}
 
 // What the result word of an allocator holds, the same way.

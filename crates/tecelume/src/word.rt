@@ -2,6 +2,7 @@
 use allocator::answer;
 use capture_convert::answer::Converted;
 use transport::Answer;
+use transport::Patched;
 use transport::Sent;
 use transport::Transfer;
 ghost use mathlib.Core.Path.{_≡_};
@@ -9,7 +10,7 @@ ghost use Prim.Native.Nat.{_^_, _≤_, _<_};
 ghost use Rattle.allocator.specs.Laws.{Range};
 ghost use Rattle.answers.specs.Sending.{dispatchIn};
 ghost use Rattle.capture_convert.specs.Answer.{lengthIn};
-ghost use Rattle.tecelume.specs.Word.{transferWord, wordOf, sentWord, allocationWord, signaturesWord, conversionWord, TransferFits, Fits};
+ghost use Rattle.tecelume.specs.Word.{transferWord, wordOf, sentWord, patchWord, allocationWord, signaturesWord, conversionWord, TransferFits, Fits};
 
 fn of_transfer(t: Transfer) -> u64
     requires { ⌜ TransferFits t ⌝ }
@@ -37,6 +38,12 @@ pub fn of_sent(a: Sent) -> u64
 {
     let d = a.dispatch();
     a.number() + (d.frames as u64 * 0x100 + d.transfer as u64 * 0x80000000000000)
+}
+
+pub fn of_patched(a: Patched) -> u64
+    ensures { λ r. ⌜ r ≡ patchWord a ⌝ }
+{
+    a.number() as u64 + a.checksum() as u64 * 0x100
 }
 
 pub fn of_allocation(a: answer::Answer) -> u64

@@ -5,6 +5,8 @@ pub use answers::Sent;
 pub use answers::Transfer;
 pub use id_map::setup as map_setup;
 pub use id_map::size as map_size;
+pub use patch::Patched;
+pub use patch::patch;
 pub use receiver::receive;
 pub use sender::Outgoing;
 pub use sender::send;

@@ -1,8 +1,9 @@
-//! Checksums and signatures against the published numbers (RULES 11 and 15.1), and what a checksum
-//! catches (RULES 6.6).
+//! Checksums and signatures against the published numbers (RULES 11 and 15.1), what a checksum
+//! catches (RULES 6.6), and its correction for a byte that is rewritten (RULES 6.7).
 
 use reference::crc::{crc16, extend, hash, transfer_checksum};
 use reference::definitions;
+use reference::patch::patch;
 
 #[test]
 fn check_value_of_the_transfer_checksum() {
@@ -37,6 +38,28 @@ fn bursts_of_16_bits_are_caught_and_the_polynomial_is_not() {
         }
         assert_eq!(transfer_checksum(signature, &[0x01, 0x10, 0x21]), whole);
     }
+}
+
+/// Every byte of the allocation log's third reply, made every other: its checksum is 0xBA29.
+#[test]
+fn a_corrected_checksum_is_the_one_worked_out_afresh() {
+    let reply = b"\xFA\x44\xC0\x8B\x63\x5E\x05\xF4\xBC\x10\x96\xDF\x11\xA8\xBA\x54\x47";
+    for at in 0..reply.len() {
+        for new in 0..=255 {
+            let mut rewritten = *reply;
+            rewritten[at] = new;
+            let after = (reply.len() - 1 - at) as u64;
+            let afresh = transfer_checksum(definitions::allocation(), &rewritten);
+            assert_eq!(patch(0xBA29, reply[at], new, after), Ok(afresh));
+        }
+    }
+}
+
+#[test]
+fn at_most_511_bytes_come_after_a_byte() {
+    assert_eq!(patch(0x1234, 7, 7, 511), Ok(0x1234));
+    assert_eq!(patch(0x1234, 7, 7, 512), Err(11));
+    assert_eq!(patch(0x1234, 7, 7, u64::MAX), Err(11));
 }
 
 #[test]

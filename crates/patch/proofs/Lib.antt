@@ -1,0 +1,3 @@
+mod Powers
+mod Corrections
+pub mod Ranges

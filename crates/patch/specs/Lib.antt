@@ -1,0 +1,4 @@
+pub mod Answer
+pub mod Patch
+pub mod Laws
+pub mod inside
