@@ -83,6 +83,7 @@ uint32_t tecelume_version(void);
 #define TECELUME_DEFINITIONS_MAX 8   /* type definitions in one call */
 #define TECELUME_TEXT_MAX 4096       /* bytes of a definition's text */
 #define TECELUME_NAME_MAX 80         /* characters of a type's full name */
+#define TECELUME_STREAMS_MAX 64      /* streams with a named source in a capture that is judged */
 
 /* ---- the numbers answered ---- */
 
@@ -90,6 +91,7 @@ uint32_t tecelume_version(void);
  *
  *   0   setup, send, patch, capture, uncapture: success                          -
  *       allocate: a reply is in out, or there is none, the message is ignored    send the reply, if it has a length
+ *       judge: the capture passes                                                -
  *       receive: frame taken, its transfer is not finished                       go on with the next frame
  *   1   receive: a transfer is complete, its payload is in out                   use the payload before the next call
  *   2   receive: CAN ID of 2^29 or more                                          mask the driver's flags off: id & 0x1FFFFFFF
@@ -108,12 +110,15 @@ uint32_t tecelume_version(void);
  *   9   receive: start of a new stream, 32 sessions in use and none is old       subscribe to less; a later start may be taken
  *       send: new topic, 32 entries in use, none unused for 2,000,000 or more    use fewer topics, or call again later
  *       capture: 2^32 lines or more                                              cut the log in two
+ *       judge: the first frame of a 65th stream                                  capture less at once
  *  11   receive: payload over 512 bytes; the transfer is dropped                 nothing: too long for this library
  *       send: payload over 512 bytes                                             send less
  *       patch: more than 511 bytes after the one that is rewritten               nothing: no payload is so long
+ *       judge: a transfer of more than 512 bytes                                 correct the sender
  *  12   receive: the checksum differs; the transfer is dropped                   nothing; after a 31 a frame was lost; if always
  *                                                                                for one type, correct its signature
- *  13   setup: own ID or subscriptions not allowed                               correct the arguments
+ *       judge: the checksum of a transfer differs                                correct the sender, or its type's signature
+ *  13   setup, judge: own ID or subscriptions not allowed                        correct the arguments
  *       allocate: own ID 0 or over 127                                           give the allocator's node an ID by hand
  *  14   send: a value out of range, or an anonymous transfer that cannot be      correct the arguments
  *  15   allocate: the payload is empty, so no Allocation message                 nothing: a faulty node
@@ -128,9 +133,11 @@ uint32_t tecelume_version(void);
  *       or node ID twice, or unique IDs out of order                             table, and with it whose the node IDs are
  *  21   allocate: a new node, and none of the IDs 1 to 125 is free               clear marks of nodes that are gone; known nodes still
  *                                                                                get their IDs
- *  22   uncapture: the trailer is wrong                                          nothing: cut short, damaged, or no capture
+ *  22   uncapture, judge: the trailer is wrong                                   nothing: cut short, damaged, or no capture
  *  23   uncapture: a record that no line of a log can carry                      nothing: the recorder wrote a time, length or bytes
  *                                                                                that a log has no form for
+ *  24   judge: the frame is not one that may come next on its stream             correct the sender; or a frame before this one is
+ *                                                                                not in the capture, or it is there twice
  *  26   receive: no block is free for the frame's bytes; the transfer is         let fewer long transfers be sent at once, or
  *       dropped                                                                  subscribe to less: see blocks, below
  *  30   receive: passed over, no start and no transfer in hand. The start was    nothing, if it is rare or follows an 11; if often,
@@ -155,11 +162,13 @@ uint32_t tecelume_version(void);
  *  43   signatures: more than 8 definitions, a text over 4096 bytes, lengths     give fewer, cut comments, give each name once
  *       past the source, or a name twice
  *
+ * tecelume_judge also gives 2 to 5 and 7 as tecelume_receive does, for the frame that it names.
+ *
  * Under 2 to 9, 13 to 16, 18 to 20, 22, 23, 31 to 34 and 40 to 43 a call leaves state, map, records and out byte for byte as they were. Under
  * 11, 12, 26 and 30 tecelume_receive leaves out as it was. Of the sessions it changes the one of the frame's stream, under 30 only an old one;
  * under 12 it may have emptied old ones for a block, and under 26 a new session may have got an old one's place. A tecelume_send that answers
- * 11 changes nothing, and tecelume_patch is lent nothing. Under 21 tecelume_allocate leaves out as it was and drops the gathered bytes of the
- * unique ID. 10 is no answer any more: version 0.1 gave it for 30 to 33. */
+ * 11 changes nothing; tecelume_patch and tecelume_judge are lent nothing to write to. Under 21 tecelume_allocate leaves out as it was and drops
+ * the gathered bytes of the unique ID. 10 is no answer any more: version 0.1 gave it for 30 to 33. */
 enum tecelume_answer {
     TECELUME_SUCCESS = 0, /* of every call but tecelume_receive */
     TECELUME_TAKEN = 0,   /* of tecelume_receive */
@@ -184,6 +193,7 @@ enum tecelume_answer {
     TECELUME_NONE_FREE = 21,
     TECELUME_NO_CAPTURE = 22,
     TECELUME_NOT_CARRIED = 23,
+    TECELUME_RULE_BROKEN = 24,
     TECELUME_NO_BLOCK = 26,
     TECELUME_NO_TRANSFER = 30, /* this and the next four: passed over */
     TECELUME_WRONG_TOGGLE = 31,
@@ -223,6 +233,7 @@ static inline const char *tecelume_text(uint32_t number)
     case 21: return "no node ID is free";
     case 22: return "not a capture: its trailer is wrong";
     case 23: return "a record that no log line can carry";
+    case 24: return "not a frame that may come next on its stream";
     case 25: return "padding not zero";
     case 26: return "no block is free for the transfer's bytes";
     case 30: return "passed over, no transfer in hand: its start was lost, or it is over already";
@@ -240,8 +251,9 @@ static inline const char *tecelume_text(uint32_t number)
 
 /* ---- results ---- */
 
-/* What tecelume_receive, tecelume_send, tecelume_patch, tecelume_allocate, tecelume_signatures, tecelume_capture and tecelume_uncapture give. It
- * is a struct so that a comparison with a number does not compile: the number answered is only a part of it. The functions below read it. */
+/* What tecelume_receive, tecelume_send, tecelume_patch, tecelume_allocate, tecelume_signatures, tecelume_capture, tecelume_uncapture and
+ * tecelume_judge give. It is a struct so that a comparison with a number does not compile: the number answered is only a part of it. The
+ * functions below read it. */
 typedef struct {
     uint64_t word;
 } tecelume_result;
@@ -778,6 +790,41 @@ static inline uint32_t tecelume_capture_count(const uint8_t *capture, size_t cap
         return 0;
     count = capture + capture_len - 8;
     return (uint32_t)count[0] | (uint32_t)count[1] << 8 | (uint32_t)count[2] << 16 | (uint32_t)count[3] << 24;
+}
+
+/* ---- checking a sender ---- */
+
+/* tecelume_judge tells from a capture of what a device sent whether it sends as it should (RULES 19). The capture passes if every frame passes
+ * the checks of 2 to 5 and 7; if at most TECELUME_STREAMS_MAX streams with a named source are in it; and if the frames of each of these are
+ * transfers as tecelume_send makes them, whole and one after another. Only the last may be cut short. The first transfer ID is any, and each
+ * later one is one more, 0 after 31; it may be 0 if the start is 2,000,000 or more after the start before; in responses it is any. Of
+ * anonymous frames nothing more is asked than the checks. A capture that has each frame twice, by two buses, fails.
+ *
+ * A failure names the first frame after which no continuation of the capture could pass. */
+
+/* Judges a capture as a result word (RULES 13.3), for callers in other languages. C programs call tecelume_judge. */
+uint64_t tecelume_judge_word(const uint8_t *subscriptions, size_t subscriptions_len, const uint8_t *capture, size_t capture_len);
+
+/* Judges a capture.
+ *
+ * Takes    subscriptions  records as for tecelume_setup: the types that may be sent, with their signatures. Services for every node are judged
+ *          capture        with a preface or without; the bytes of a record past its data do not count
+ * Gives    0: the capture passes. Any beginning of it, cut after a record and with a trailer of its own, passes too.
+ * Refuses  13, subscriptions that tecelume_setup would refuse; then 22; then, at the first frame after which no continuation could pass, the
+ *          first match of 2 to 5, 7, 9, 11, 12 and 24 (RULES 19.7). The result tells that frame. Nothing is written.
+ * Costs    reads the records twice, for the checksum and for the verdict; looks for the subscription and the stream of each frame. In
+ *          libtecelume.a at most 8192 bytes of stack. */
+static inline tecelume_result tecelume_judge(const uint8_t *subscriptions, size_t subscriptions_len, const uint8_t *capture, size_t capture_len)
+{
+    tecelume_result result;
+    result.word = tecelume_judge_word(subscriptions, subscriptions_len, capture, capture_len);
+    return result;
+}
+
+/* The frame that the number of tecelume_judge is for, counted from 0; 0 under 0, 13 and 22. */
+static inline uint32_t tecelume_frame_at_fault(tecelume_result result)
+{
+    return (uint32_t)(result.word >> 8);
 }
 
 #ifdef __cplusplus

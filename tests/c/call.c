@@ -41,7 +41,8 @@ void fill(uint8_t *bytes, size_t n)
 /* ---- a call ---- */
 
 static const char *const entry_names[ENTRIES] = {"setup",           "receive",  "map setup", "send",
-                                                  "allocator setup", "allocate", "capture",   "uncapture"};
+                                                  "allocator setup", "allocate", "capture",   "uncapture",
+                                                  "judge"};
 
 static uint64_t calls, seen[ENTRIES][256];
 
@@ -75,6 +76,9 @@ static tecelume_result make(const struct call *c, const struct lent *state, cons
         return tecelume_capture(input->bytes, input->length, out->bytes, out->length);
     case UNCAPTURE:
         return tecelume_uncapture(input->bytes, input->length, out->bytes, out->length);
+    case JUDGE:
+        number.word = tecelume_judge_word(state->bytes, state->length, input->bytes, input->length);
+        return number;
     default:
         return tecelume_send(state->bytes, state->length, c->own, c->transfer_type, c->type_id, c->destination, c->priority, input->bytes,
                              input->length, c->signature, c->time, c->transfer_id, c->discriminator, out->bytes, out->length);
@@ -148,6 +152,8 @@ static bool may_change_state(enum entry entry, uint32_t number)
 {
     if (entry == ALLOCATE && number == TECELUME_NONE_FREE)
         return true;
+    if (entry == JUDGE)
+        return false;
     if (entry != RECEIVE)
         return number == TECELUME_SUCCESS;
     return number <= TECELUME_HANDED_OUT || number == TECELUME_PAYLOAD_TOO_LONG || number == TECELUME_CHECKSUM_DIFFERS ||
@@ -167,17 +173,25 @@ static const uint64_t answers[ENTRIES] = {
     BIT(0) | BIT(8) | BIT(13) | BIT(15) | BIT(16) | BIT(20) | BIT(21),
     BIT(0) | BIT(8) | BIT(18),
     BIT(0) | BIT(8) | BIT(22) | BIT(23),
+    BIT(0) | BIT(2) | BIT(3) | BIT(4) | BIT(5) | BIT(7) | BIT(9) | BIT(11) | BIT(12) | BIT(13) | BIT(22) | BIT(24),
 };
 
 static const size_t sizes[ENTRIES] = {TECELUME_RECEIVER_SIZE, TECELUME_RECEIVER_SIZE, TECELUME_MAP_SIZE,
                                       TECELUME_MAP_SIZE,      TECELUME_ALLOCATOR_SIZE, TECELUME_ALLOCATOR_SIZE,
-                                      0,                      0};
+                                      0,                      0,                       0};
+
+/* Whether there is more in the word than the number. */
+static bool tells_more(enum entry entry, uint32_t number)
+{
+    if (entry == JUDGE)
+        return number != TECELUME_SUCCESS && number != TECELUME_SETUP_REFUSED && number != TECELUME_NO_CAPTURE;
+    return (entry == RECEIVE && number == TECELUME_HANDED_OUT) || (entry >= SEND && number == TECELUME_SUCCESS);
+}
 
 static void judge(const struct call *c, const struct call *after, tecelume_result result)
 {
     uint32_t number = tecelume_number(result);
-    bool detailed = (c->entry == RECEIVE && number == TECELUME_HANDED_OUT) ||
-                    (c->entry >= SEND && number == TECELUME_SUCCESS);
+    bool detailed = tells_more(c->entry, number);
     size_t size = sizes[c->entry];
     if (number >= NUMBERS || (answers[c->entry] >> number & 1) == 0)
         fail(c, "a number that this call does not answer");
@@ -194,6 +208,8 @@ static void judge(const struct call *c, const struct call *after, tecelume_resul
         fail(c, "a result that does not tell the frames");
     if (c->entry == ALLOCATE && detailed && !tells_reply(after, result))
         fail(c, "a result that does not tell the reply");
+    if (c->entry == JUDGE && detailed && result.word >> 8 >= tecelume_capture_count(c->input.bytes, c->input.length))
+        fail(c, "a frame that is not in the capture");
     if (!stays(&c->state, &after->state, may_change_state(c->entry, number) ? size : 0))
         fail(c, "bytes of the state that must stay were written");
     if (!stays(&c->out, &after->out, written(c, result)))

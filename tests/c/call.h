@@ -16,14 +16,15 @@ void fill(uint8_t *bytes, size_t n);
 
 /* ---- a call ---- */
 
-enum entry { SETUP, RECEIVE, MAP_SETUP, SEND, ALLOCATOR_SETUP, ALLOCATE, CAPTURE, UNCAPTURE, ENTRIES };
+enum entry { SETUP, RECEIVE, MAP_SETUP, SEND, ALLOCATOR_SETUP, ALLOCATE, CAPTURE, UNCAPTURE, JUDGE, ENTRIES };
 
 struct buffer {
     uint8_t bytes[LENT_MAX];
     size_t length;
 };
 
-/* `state` is a receiver's, a map, an allocator's or nothing, `input` the subscriptions, the frame, the payload, the log or the capture. */
+/* `state` is a receiver's, a map, an allocator's, a judge's subscriptions or nothing, `input` the subscriptions, the frame, the payload, the log
+ * or the capture. */
 struct call {
     enum entry entry;
     uint32_t own, id, interface_number, transfer_type, type_id, destination, priority, transfer_id, discriminator, source;

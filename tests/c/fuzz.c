@@ -8,6 +8,7 @@
  * was and all other bits of the word 0, success writes only where it may. A payload sent comes out as it went in, a frame that was
  * taken comes again, by its own interface or by another, and is passed over for the right reason, and a node that was told an ID is told
  * the same one again and shares it with no other. A checksum corrected forth and back is what it was, and a log comes back from its capture.
+ * The frame that a verdict names is the first: up to it a capture passes, and with it as last it gets the same verdict.
  * What the answers must be otherwise is the business of the comparison with the second implementation.
  *
  * --selftest makes one call that says one byte too many of a buffer. Something must notice, or the runs without it show nothing. */
@@ -29,6 +30,7 @@ static uint64_t seed = 1;
 static uint64_t through; /* transfers sent, received and compared */
 static uint64_t told_again; /* nodes that got the ID that they had */
 static uint64_t returned;   /* logs that came back from their captures */
+static uint64_t cut;        /* captures that were judged again, cut at the frame that was named or anywhere */
 
 /* ---- arguments ---- */
 
@@ -533,6 +535,144 @@ static void convert(void)
     damage_capture();
 }
 
+/* ---- checking a sender ---- */
+
+enum { JUDGED_MAX = 300, JUDGED_SENDS = 6, JUDGED_NODES = 3, RECORD_AT = 8, LENGTH_AT = 12, DATA_AT = 13 };
+
+static struct call judging; /* its `state` is the list of subscriptions */
+static size_t recorded;
+
+static uint8_t *stamped(size_t at)
+{
+    return judging.input.bytes + TECELUME_STAMPED_SIZE * at;
+}
+
+static void stamp(uint64_t time, const uint8_t *record)
+{
+    uint8_t *to = stamped(recorded++);
+    for (size_t i = 0; i < RECORD_AT; i++)
+        to[i] = (uint8_t)(time >> 8 * i);
+    memcpy(to + RECORD_AT, record, TECELUME_RECORD_SIZE);
+}
+
+static void subscribe_judge(void)
+{
+    uint8_t *next = judging.state.bytes;
+    for (uint32_t i = 0; i < SUBSCRIPTIONS; i++)
+        for (uint32_t kind = 0; kind < 2; kind++)
+            next = tecelume_subscription(next, kind, i, signature_of(kind, i));
+    judging.state.length = (size_t)(next - judging.state.bytes);
+    if (once_in(16))
+        damage(&judging.state);
+    if (once_in(16))
+        judging.state.length = once_in(2) ? below(200) : 0;
+}
+
+/* What one node sends, on its own map, at times that never run back. */
+static void record_node(uint32_t own)
+{
+    static uint8_t records[RECORDS_MAX], payload[TECELUME_PAYLOAD_MAX];
+    uint8_t map[TECELUME_MAP_SIZE];
+    uint64_t time = below(1000000);
+    tecelume_map_setup(map, sizeof map);
+    for (uint32_t n = below(JUDGED_SENDS); n > 0; n--) {
+        uint32_t type = below(3), kind = type > 0, type_id = below(SUBSCRIPTIONS);
+        size_t length = once_in(20) ? TECELUME_PAYLOAD_MAX - below(4) : below(30);
+        fill(payload, length);
+        time += once_in(4) ? 1999999 + below(3) : below(1000);
+        tecelume_result sent = tecelume_send(map, sizeof map, own, type, type_id, kind * (1 + below(2)), below(32), payload, length,
+                                             signature_of(kind, type_id), time, below(32), 0, records, sizeof records);
+        if (tecelume_number(sent) == TECELUME_SUCCESS && recorded + tecelume_frames(sent) < JUDGED_MAX)
+            for (size_t i = 0; i < tecelume_frames(sent); i++)
+                stamp(time, records + i * TECELUME_RECORD_SIZE);
+    }
+}
+
+/* A frame from each of so many nodes. */
+static void record_nodes(uint32_t nodes)
+{
+    uint8_t record[TECELUME_RECORD_SIZE] = {0, 1, 0, 16, 1, 0xC5};
+    for (uint32_t node = 1; node <= nodes; node++) {
+        record[0] = (uint8_t)node;
+        stamp(0, record);
+    }
+}
+
+/* The longest payload, whose last frame is full and no end, or is it. */
+static void record_longest(void)
+{
+    static uint8_t records[RECORDS_MAX];
+    static const uint8_t payload[TECELUME_PAYLOAD_MAX];
+    uint8_t map[TECELUME_MAP_SIZE];
+    tecelume_map_setup(map, sizeof map);
+    tecelume_send(map, sizeof map, 100, TECELUME_MESSAGE, 1, 0, 16, payload, sizeof payload, signature_of(0, 1), 0, 0, 0, records, sizeof records);
+    for (size_t i = 0; i < TECELUME_FRAMES_MAX; i++)
+        stamp(0, records + i * TECELUME_RECORD_SIZE);
+    if (once_in(2))
+        return;
+    uint8_t *last = stamped(recorded - 1);
+    last[DATA_AT + 7] = (uint8_t)(last[DATA_AT + last[LENGTH_AT] - 1] & (once_in(2) ? 0xBF : 0xFF));
+    last[LENGTH_AT] = 8;
+}
+
+/* A frame is changed, lost or there twice; an end becomes none. */
+static void damage_record(void)
+{
+    uint8_t *at = stamped(below((uint32_t)recorded)), *end = stamped(recorded);
+    switch (below(4)) {
+    case 0:
+        memmove(at, at + TECELUME_STAMPED_SIZE, (size_t)(end - at) - TECELUME_STAMPED_SIZE);
+        recorded--;
+        break;
+    case 1:
+        memmove(at + TECELUME_STAMPED_SIZE, at, (size_t)(end - at));
+        recorded++;
+        break;
+    case 2:
+        at[LENGTH_AT] = (uint8_t)(once_in(4) ? next_random() : 8);
+        at[DATA_AT + 7] &= 0x3F;
+        break;
+    default:
+        at[RECORD_AT + below(once_in(2) ? 4 : TECELUME_RECORD_SIZE)] ^= (uint8_t)(1 << below(8));
+    }
+}
+
+/* The same list and the first of the records. */
+static tecelume_result judge_first(size_t records)
+{
+    static struct call first;
+    first = judging;
+    first.input.length = trail(first.input.bytes, records);
+    cut++;
+    return run(&first);
+}
+
+static void judge_sender(void)
+{
+    judging.entry = JUDGE;
+    judging.out.length = 0;
+    recorded = 0;
+    subscribe_judge();
+    if (once_in(20))
+        record_nodes(62 + below(5));
+    if (once_in(20))
+        record_longest();
+    for (uint32_t own = once_in(8) ? 0 : 1; own < JUDGED_NODES; own++)
+        record_node(own);
+    for (uint32_t n = below(3); n > 0 && recorded > 1; n--)
+        damage_record();
+    judging.input.length = trail(judging.input.bytes, recorded);
+    if (once_in(16))
+        damage(&judging.input);
+    tecelume_result verdict = run(&judging);
+    uint32_t number = tecelume_number(verdict);
+    if (number == TECELUME_SETUP_REFUSED || number == TECELUME_NO_CAPTURE)
+        return;
+    size_t frame = (size_t)(verdict.word >> 8), first = number == TECELUME_SUCCESS ? below((uint32_t)recorded + 1) : frame;
+    if (judge_first(first).word != TECELUME_SUCCESS || (number != TECELUME_SUCCESS && judge_first(frame + 1).word != verdict.word))
+        fail(&judging, "the frame named is not the first after which nothing passes");
+}
+
 static void one_step(void)
 {
     correct();
@@ -551,6 +691,8 @@ static void one_step(void)
         ask();
     if (once_in(20))
         convert();
+    if (once_in(30))
+        judge_sender();
     struct lane *lane = &lanes[below(LANES)];
     if (once_in(20))
         receive_wild();
@@ -632,6 +774,16 @@ static void sweep_captures(void)
     sweep(&converter, &converter.out.length, length + FRAME_LENGTH_MAX);
     converter.out.length = TECELUME_LOG_SIZE(3);
     sweep(&converter, &converter.input.length, TECELUME_CAPTURE_SIZE(3));
+}
+
+static void sweep_judge(void)
+{
+    do
+        judge_sender();
+    while (recorded < 2 || recorded > 20);
+    size_t length = judging.input.length;
+    sweep(&judging, &judging.input.length, length);
+    sweep(&judging, &judging.state.length, TECELUME_SUBSCRIPTION_SIZE * (TECELUME_SUBSCRIPTIONS_MAX + 2));
 }
 
 /* ---- memory that nobody wrote before: valgrind sees it if a call decides on such a byte ---- */
@@ -733,11 +885,12 @@ int main(int count, char **words)
     sweep_sending();
     sweep_allocation(most < SHORT ? 100 : TECELUME_ALLOCATOR_SIZE + STATE_EXTRA);
     sweep_captures();
+    sweep_judge();
     for (uint64_t swept = calls_made(); calls_made() - swept < most;)
         one_step();
     printf("seed %" PRIu64 ": %" PRIu64 " calls, each made twice; %" PRIu64 " transfers went through, %" PRIu64
-           " nodes got their ID again, %" PRIu64 " logs came back\n",
-           seed, calls_made(), through, told_again, returned);
+           " nodes got their ID again, %" PRIu64 " logs came back, %" PRIu64 " captures were judged again\n",
+           seed, calls_made(), through, told_again, returned, cut);
     if (show_answers() || most < SHORT)
         return 0;
     printf("an answer was never seen\n");

@@ -349,7 +349,7 @@ static void reasons_in_order(void)
 static void texts(void)
 {
     for (uint32_t number = 0; number < 40; number++) {
-        bool known = (number <= TECELUME_NOT_CARRIED && number != 10) || number == 25 || number == TECELUME_NO_BLOCK ||
+        bool known = (number <= TECELUME_NO_BLOCK && number != 10) ||
                      (number >= TECELUME_NO_TRANSFER && number <= TECELUME_OTHER_INTERFACE);
         CHECK(known == (strcmp(tecelume_text(number), "unknown number") != 0));
         CHECK((number >= TECELUME_NO_TRANSFER && known) == (strncmp(tecelume_text(number), "passed over", 11) == 0));
@@ -837,6 +837,20 @@ static const struct {
     {"wrong_trailers", wrong_trailers},
     {"records_not_carried", records_not_carried},
     {"count_of_a_capture", count_of_a_capture},
+    {"own_sender_passes", own_sender_passes},
+    {"frame_of_a_verdict", frame_of_a_verdict},
+    {"checks_of_a_capture", checks_of_a_capture},
+    {"transfer_ids_judged", transfer_ids_judged},
+    {"gap_before_a_start", gap_before_a_start},
+    {"responses_judged", responses_judged},
+    {"priorities_judged", priorities_judged},
+    {"cut_short", cut_short},
+    {"checksums_judged", checksums_judged},
+    {"longest_judged", longest_judged},
+    {"short_payload_judged", short_payload_judged},
+    {"streams_judged", streams_judged},
+    {"bytes_that_do_not_count", bytes_that_do_not_count},
+    {"verdict_without_a_frame", verdict_without_a_frame},
 };
 
 int main(int count, char **words)

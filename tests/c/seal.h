@@ -1,4 +1,4 @@
-/* Makes the checksum of a capture without a preface right again: CRC-16-CCITT-FALSE of its records. */
+/* The trailer of a capture without a preface, made right: its checksum, CRC-16-CCITT-FALSE of its records, or all of it. */
 #ifndef SEAL_H
 #define SEAL_H
 
@@ -14,6 +14,21 @@ static inline void seal(uint8_t *capture, size_t size)
     }
     capture[size - 4] = (uint8_t)sum;
     capture[size - 3] = (uint8_t)(sum >> 8);
+}
+
+/* Writes the trailer after so many records; the length of all. */
+static inline size_t trail(uint8_t *capture, size_t records)
+{
+    size_t size = TECELUME_CAPTURE_SIZE(records);
+    uint8_t *trailer = capture + size - TECELUME_TRAILER_SIZE;
+    for (size_t i = 0; i < 8; i++)
+        trailer[i] = (uint8_t)((uint64_t)TECELUME_STAMPED_SIZE * records >> 8 * i);
+    for (size_t i = 0; i < 4; i++)
+        trailer[8 + i] = (uint8_t)(records >> 8 * i);
+    trailer[14] = 'C';
+    trailer[15] = 'T';
+    seal(capture, size);
+    return size;
 }
 
 #endif

@@ -1,4 +1,4 @@
-/* What the sentences of header.c, patch.c, allocator.c, definitions.c and captures.c share. */
+/* What the sentences of header.c, patch.c, allocator.c, definitions.c, captures.c and judge.c share. */
 #ifndef SENTENCE_H
 #define SENTENCE_H
 
@@ -50,5 +50,21 @@ void refused_logs(void);
 void wrong_trailers(void);
 void records_not_carried(void);
 void count_of_a_capture(void);
+
+/* Those of judge.c. */
+void own_sender_passes(void);
+void frame_of_a_verdict(void);
+void checks_of_a_capture(void);
+void transfer_ids_judged(void);
+void gap_before_a_start(void);
+void responses_judged(void);
+void priorities_judged(void);
+void cut_short(void);
+void checksums_judged(void);
+void longest_judged(void);
+void short_payload_judged(void);
+void streams_judged(void);
+void bytes_that_do_not_count(void);
+void verdict_without_a_frame(void);
 
 #endif

@@ -1,10 +1,11 @@
-/* Wrong libraries for header.c, allocator.c and captures.c. The linker puts these functions in front of the true ones (--wrap); the environment's WRONG names the one
+/* Wrong libraries for header.c, allocator.c, captures.c and judge.c. The linker puts these functions in front of the true ones (--wrap); the environment's WRONG names the one
  * thing that is wrong, or is the number of the one call whose answer is. tests/c/sentences says which sentence each must break. */
 #include <stdbool.h>
 #include <stdio.h>
 #include <stdlib.h>
 #include <string.h>
 
+#include "seal.h"
 #include "tecelume.h"
 
 enum { GATHERED_COUNT = 8, TIME_SIZE = 8, ENTRIES = 9, TABLE = 26, ENTRY = 17 }; /* places in an allocator's state */
@@ -649,4 +650,139 @@ uint64_t __wrap_tecelume_uncapture_word(const uint8_t *capture, size_t capture_l
     if (is("output-touched-after-log") && (word & 255) == TECELUME_SUCCESS)
         out[word >> 8] ^= 1;
     return answer(reread(word, capture, capture_len), OTHER);
+}
+
+/* ---- checking a sender ---- */
+
+enum { TIME_BYTES = 8, ID_AT_BYTE = 8, LENGTH_AT = 12, DATA_AT = 13, DATA_MAX = 8, ID_BITS = 29 };
+enum { CAPTURE_MAX = 10000 };
+
+static uint64_t get(const uint8_t *bytes, size_t count)
+{
+    uint64_t value = 0;
+    while (count > 0)
+        value = value << 8 | bytes[--count];
+    return value;
+}
+
+static void put(uint8_t *bytes, uint64_t value, size_t count)
+{
+    for (size_t i = 0; i < count; i++)
+        bytes[i] = (uint8_t)(value >> 8 * i);
+}
+
+/* A record as a judge sees it that has one rule wrong. */
+static void alter(uint8_t *record)
+{
+    uint64_t time = get(record, TIME_BYTES);
+    uint32_t id = (uint32_t)get(record + ID_AT_BYTE, 4);
+    bool service = (id & 128) != 0;
+    if (is("judge-counts-responses") && service)
+        id |= 1 << 15;
+    if (is("judge-requests-free") && service)
+        id &= ~((uint32_t)1 << 15);
+    if (is("judge-joins-nodes") && (id & 127) != 0)
+        id |= 127;
+    if (is("judge-priority-free"))
+        id &= 0xFFFFFF;
+    if (is("judge-follows-anonymous") && !service && (id & 127) == 0)
+        id = (id & 0x1F000300) | 99;
+    if (is("judge-cuts-the-id"))
+        id &= ((uint32_t)1 << ID_BITS) - 1;
+    if (is("judge-cuts-the-length") && record[LENGTH_AT] > DATA_MAX)
+        record[LENGTH_AT] = DATA_MAX;
+    if (is("judge-gap-shorter"))
+        time += time > 1 ? 1 : 0;
+    if (is("judge-no-gap"))
+        time = 0;
+    if (is("judge-times-of-32-bits"))
+        time &= 0xFFFFFFFF;
+    if (is("judge-reads-unused-bytes") && record[LENGTH_AT] < DATA_MAX && record[LENGTH_AT] > 0 && record[DATA_AT + DATA_MAX - 1] != 0)
+        record[DATA_AT + record[LENGTH_AT] - 1] = record[DATA_AT + DATA_MAX - 1];
+    put(record, time, TIME_BYTES);
+    put(record + ID_AT_BYTE, id, 4);
+}
+
+uint64_t __real_tecelume_judge_word(const uint8_t *list, size_t list_len, const uint8_t *capture, size_t capture_len);
+
+/* The word for a capture whose records are so altered. */
+static uint64_t judge_altered(const uint8_t *list, size_t list_len, const uint8_t *capture, size_t capture_len)
+{
+    static uint8_t copy[CAPTURE_MAX];
+    uint64_t word = __real_tecelume_judge_word(list, list_len, capture, capture_len);
+    size_t size = TECELUME_CAPTURE_SIZE(tecelume_capture_count(capture, capture_len));
+    if (word == TECELUME_NO_CAPTURE || word == TECELUME_SETUP_REFUSED)
+        return word;
+    memcpy(copy, capture + capture_len - size, size);
+    for (size_t at = 0; at + TECELUME_TRAILER_SIZE < size; at += TECELUME_STAMPED_SIZE)
+        alter(copy + at);
+    seal(copy, size);
+    return __real_tecelume_judge_word(list, list_len, copy, size);
+}
+
+/* The word in place of the right one. */
+static uint64_t verdict(uint64_t word, const uint8_t *capture, size_t capture_len)
+{
+    size_t count = tecelume_capture_count(capture, capture_len), size = TECELUME_CAPTURE_SIZE(count);
+    uint64_t number = word & 255, last = count == 0 ? 0 : (uint64_t)(count - 1) << 8;
+    const uint8_t *record = capture + capture_len - TECELUME_TRAILER_SIZE - (count == 0 ? 0 : TECELUME_STAMPED_SIZE);
+    bool fails = number != TECELUME_SUCCESS && number != TECELUME_NO_CAPTURE && number != TECELUME_SETUP_REFUSED;
+    bool cut = number == TECELUME_SUCCESS && count > 0 && record[LENGTH_AT] == DATA_MAX && (record[DATA_AT + DATA_MAX - 1] & END) == 0;
+    if (is("judge-counts-from-1") && fails)
+        return word + 256;
+    if (is("judge-names-the-last") && fails)
+        return number | last;
+    if (is("judge-tells-no-frame"))
+        return number;
+    if (is("judge-frame-of-8-bits"))
+        return word & 0xFFFF;
+    if (is("judge-frame-under-22") && number == TECELUME_NO_CAPTURE)
+        return word | 256;
+    if (is("judge-refuses-what-is-cut") && cut)
+        return TECELUME_RULE_BROKEN | last;
+    if (is("judge-keeps-the-priority") && word == TECELUME_SUCCESS && count > 0 && record[11] != (capture + capture_len - size)[11])
+        return TECELUME_RULE_BROKEN | last;
+    if (is("judge-refuses-nothing-in-it") && word == TECELUME_SUCCESS && count == 0)
+        return TECELUME_NO_CAPTURE;
+    if (is("judge-refuses-64-streams") && word == TECELUME_SUCCESS && count > 64)
+        return TECELUME_TABLE_FULL | last;
+    if (is("judge-refuses-512-bytes") && word == TECELUME_SUCCESS && count == TECELUME_FRAMES_MAX)
+        return TECELUME_PAYLOAD_TOO_LONG | last;
+    if (is("judge-accepts-65-streams") && number == TECELUME_TABLE_FULL)
+        return TECELUME_SUCCESS;
+    if (is("judge-accepts-513-bytes") && number == TECELUME_PAYLOAD_TOO_LONG)
+        return TECELUME_SUCCESS;
+    if (is("judge-accepts-checksums") && number == TECELUME_CHECKSUM_DIFFERS)
+        return TECELUME_SUCCESS;
+    if (is("judge-12-before-11") && number == TECELUME_PAYLOAD_TOO_LONG)
+        return (word & ~(uint64_t)255) | TECELUME_CHECKSUM_DIFFERS;
+    if (is("judge-24-before-12") && number == TECELUME_CHECKSUM_DIFFERS && count == 2)
+        return (word & ~(uint64_t)255) | TECELUME_RULE_BROKEN;
+    if (is("judge-24-before-9") && number == TECELUME_TABLE_FULL && record[LENGTH_AT] == 2)
+        return (word & ~(uint64_t)255) | TECELUME_RULE_BROKEN;
+    if (is("judge-9-before-7") && number == TECELUME_NO_SUBSCRIPTION && count > 64)
+        return (word & ~(uint64_t)255) | TECELUME_TABLE_FULL;
+    if (is("judge-3-before-2") && number == TECELUME_ID_TOO_LARGE && count > 1 && record[LENGTH_AT] > DATA_MAX)
+        return (word & ~(uint64_t)255) | TECELUME_DATA_LENGTH;
+    if (is("judge-7-before-5") && number == TECELUME_TAIL && count == 2)
+        return (word & ~(uint64_t)255) | TECELUME_NO_SUBSCRIPTION;
+    return word;
+}
+
+uint64_t __wrap_tecelume_judge_word(const uint8_t *list, size_t list_len, const uint8_t *capture, size_t capture_len)
+{
+    size_t size = TECELUME_CAPTURE_SIZE(tecelume_capture_count(capture, capture_len));
+    if (is("judge-refuses-an-empty-list") && list_len == 0)
+        return TECELUME_SETUP_REFUSED;
+    if (is("judge-refuses-prefaces") && capture_len > size)
+        return TECELUME_NO_CAPTURE;
+    if (is("judge-22-before-13") && __real_tecelume_judge_word(list, 0, capture, capture_len) == TECELUME_NO_CAPTURE)
+        return TECELUME_NO_CAPTURE;
+    uint64_t word = judge_altered(list, list_len, capture, capture_len);
+    /* a lent buffer is const to the call alone */
+    if (is("judge-touches-the-capture") && capture_len > 0)
+        ((uint8_t *)(uintptr_t)capture)[0]++;
+    if (is("judge-touches-the-list") && list_len > 0)
+        ((uint8_t *)(uintptr_t)list)[5]++;
+    return answer(verdict(word, capture, capture_len), OTHER);
 }

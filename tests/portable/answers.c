@@ -13,10 +13,10 @@
 
 enum { CALLS = 100000, FOLD = 1000, LANES = 6, NODES = 2, TYPES = 6, NUMBERS = TECELUME_DEFINITIONS_TOO_LARGE + 1, ALLOCATEES = 140 };
 enum { BLOCKS_AT = 1584, FIRST_ENTRIES = 60 }; /* where the blocks of a receiver start; of an allocator, counts and two entries */
-enum entry { SETUP, RECEIVE, MAP_SETUP, SEND, PATCH, ALLOCATOR_SETUP, ALLOCATE, SIGNATURES, CAPTURE, UNCAPTURE, OTHERS, ENTRIES };
+enum entry { SETUP, RECEIVE, MAP_SETUP, SEND, PATCH, ALLOCATOR_SETUP, ALLOCATE, SIGNATURES, CAPTURE, UNCAPTURE, JUDGE, OTHERS, ENTRIES };
 
 static const char *const names[ENTRIES] = {"setup",    "receive",    "map_setup", "send",      "patch", "allocator_setup",
-                                           "allocate", "signatures", "capture",   "uncapture", "others"};
+                                           "allocate", "signatures", "capture",   "uncapture", "judge", "others"};
 #define BIT(number) ((uint64_t)1 << (number))
 static const uint64_t must[ENTRIES] = {
     BIT(0) | BIT(13) | BIT(20),
@@ -29,6 +29,7 @@ static const uint64_t must[ENTRIES] = {
     BIT(0) | BIT(8) | (BIT(44) - BIT(40)),
     BIT(0) | BIT(8) | BIT(18),
     BIT(0) | BIT(8) | BIT(22) | BIT(23),
+    BIT(0) | (BIT(6) - BIT(2)) | BIT(7) | BIT(9) | BIT(11) | BIT(12) | BIT(13) | BIT(22) | BIT(24),
     BIT(0),
 };
 
@@ -250,7 +251,9 @@ static void define(void)
     answered(SIGNATURES, given.word, left);
 }
 
-enum { LINES_MAX = 12 };
+enum { LINES_MAX = 12, RECORDS_MAX = 90, ID_AT = 8, LENGTH_AT = 12, DATA_AT = 13, END = 64 };
+
+static uint8_t capture[TECELUME_CAPTURE_SIZE(RECORDS_MAX)];
 
 static size_t put_hex(uint8_t *to, uint32_t digits)
 {
@@ -280,7 +283,6 @@ static size_t put_line(uint8_t *to)
 /* A log, now and then with a byte changed, to a capture; and that back, now and then with a byte changed or a record at fault. */
 static void convert(void)
 {
-    static uint8_t capture[TECELUME_CAPTURE_SIZE(LINES_MAX)];
     size_t length = 0, lines = below(LINES_MAX);
     for (size_t i = 0; i < lines; i++)
         length += put_line(payload + length);
@@ -302,6 +304,79 @@ static void convert(void)
     out_len = once_in(8) ? below(200) : sizeof out;
     result = tecelume_uncapture(capture, size, out, out_len);
     answered(UNCAPTURE, result.word, (size_t)tecelume_output_length(result));
+}
+
+static size_t recorded;
+
+static void stamp(uint64_t time, const uint8_t *record)
+{
+    uint8_t *to = capture + TECELUME_STAMPED_SIZE * recorded++;
+    for (size_t i = 0; i < ID_AT; i++)
+        to[i] = (uint8_t)(time >> 8 * i);
+    memcpy(to + ID_AT, record, TECELUME_RECORD_SIZE);
+}
+
+/* A few transfers of one node; or the longest; or a frame each from as many nodes as may be, and more. */
+static void record_any(void)
+{
+    static const uint8_t single[TECELUME_RECORD_SIZE] = {0, 2, 0, 16, 1, 0xC5};
+    uint8_t map[TECELUME_MAP_SIZE], record[TECELUME_RECORD_SIZE];
+    uint32_t sort = below(8);
+    uint32_t count = sort == 0 ? 1 : below(4);
+    uint64_t time = now;
+    tecelume_map_setup(map, sizeof map);
+    for (uint32_t i = 0; i < count; i++) {
+        uint32_t kind = below(3);
+        uint32_t type_id = below(TYPES);
+        uint32_t transfer_id = below(32);
+        size_t length = sort == 0 ? 512 : below(40);
+        for (size_t k = 0; k < length; k++)
+            payload[k] = (uint8_t)below(256);
+        time += once_in(3) ? 2000000 : 0;
+        tecelume_result sent = tecelume_send(map, sizeof map, 4, kind, type_id, kind == 0 ? 0 : 8, 16, payload, length, signature_of(type_id), time,
+                                             transfer_id, 0, out, sizeof out);
+        for (size_t k = 0; k < tecelume_frames(sent); k++)
+            stamp(time, out + k * TECELUME_RECORD_SIZE);
+    }
+    memcpy(record, single, sizeof record);
+    for (uint32_t nodes = sort == 1 ? 64 + below(2) : 0; nodes > 0; nodes--) {
+        record[0] = (uint8_t)nodes;
+        stamp(time, record);
+    }
+}
+
+/* A bit of a record; or a frame is full and no end; or one is lost. */
+static void alter_record(void)
+{
+    uint8_t *record = capture + TECELUME_STAMPED_SIZE * (once_in(2) ? recorded - 1 : below((uint32_t)recorded));
+    uint32_t way = below(4);
+    if (way == 0) {
+        record[DATA_AT + 7] = (uint8_t)(record[DATA_AT + record[LENGTH_AT] - 1] & ~END);
+        record[LENGTH_AT] = 8;
+    } else if (way == 1) {
+        size_t after = (size_t)(capture + TECELUME_STAMPED_SIZE * --recorded - record);
+        memmove(record, record + TECELUME_STAMPED_SIZE, after);
+    } else {
+        uint32_t at = below(way == 2 ? 5 : TECELUME_RECORD_SIZE);
+        record[ID_AT + at] ^= (uint8_t)(1u << below(8));
+    }
+}
+
+static void judge(void)
+{
+    uint8_t list[2 * TYPES * TECELUME_SUBSCRIPTION_SIZE], *next = list;
+    for (uint32_t i = 0; i < 2 * TYPES; i++)
+        next = tecelume_subscription(next, i % 2, i / 2, signature_of(i / 2));
+    if (once_in(10))
+        list[TECELUME_SUBSCRIPTION_SIZE * below(TYPES)] = (uint8_t)below(3);
+    recorded = 0;
+    record_any();
+    if (recorded > 0 && once_in(2))
+        alter_record();
+    size_t size = trail(capture, recorded);
+    if (once_in(20))
+        capture[below((uint32_t)size)] ^= 1;
+    answered(JUDGE, tecelume_judge_word(list, sizeof list, capture, size), 0);
 }
 
 /* Any frame, or a long transfer that never ends. */
@@ -379,6 +454,8 @@ static void step(void)
         receive_any();
     else if (which < 370)
         patch();
+    else if (which < 385)
+        judge();
     else if (lane->next < lane->count)
         pass_on(lane);
     else

@@ -27,6 +27,29 @@ pub fn crc16_from(start: u16, bytes: &[u8]) -> u16 {
     })
 }
 
+/// The same by a table, a byte at a time: for files that are large.
+pub fn crc16_by_table(start: u16, bytes: &[u8]) -> u16 {
+    bytes.iter().fold(start, |crc, &byte| {
+        crc << 8 ^ TABLE[usize::from((crc >> 8) as u8 ^ byte)]
+    })
+}
+
+/// What eight shifts make of each byte in the highest bits.
+static TABLE: [u16; 256] = {
+    let mut table = [0; 256];
+    let mut index = 0;
+    while index < 256 {
+        let (mut crc, mut bit) = ((index as u16) << 8, 0);
+        while bit < 8 {
+            crc = crc << 1 ^ if crc & 0x8000 != 0 { 0x1021 } else { 0 };
+            bit += 1;
+        }
+        table[index] = crc;
+        index += 1;
+    }
+    table
+};
+
 /// CRC-64-WE, the signature hash of a normalized definition.
 pub fn hash(bytes: &[u8]) -> u64 {
     hash_from(0, bytes)

@@ -37,7 +37,7 @@ pub fn setup(bytes: &mut [u8], own: u32, subscriptions: &[u8]) -> u32 {
     }
 }
 
-fn read_subscriptions(list: &[u8]) -> Option<Vec<Subscription>> {
+pub fn read_subscriptions(list: &[u8]) -> Option<Vec<Subscription>> {
     let records = list.chunks_exact(SUBSCRIPTION);
     if !records.remainder().is_empty() {
         return None;

@@ -12,6 +12,7 @@ pub mod definitions;
 pub mod dsdl;
 pub mod entry;
 pub mod frame;
+pub mod judge;
 pub mod logs;
 pub mod map;
 pub mod messages;

@@ -28,12 +28,17 @@ pub fn run(input: &[u8]) -> Vec<u8> {
 
 /// Own ID 1, subscribed to every type.
 fn receiver() -> Receiver {
+    Receiver::setup(1, subscriptions()).expect("types that differ")
+}
+
+/// The types of RULES 10.1.
+pub fn subscriptions() -> Vec<Subscription> {
     let one = |service, type_id, signature| Subscription {
         service,
         type_id,
         signature,
     };
-    let subscriptions = vec![
+    vec![
         one(false, types::NODE_STATUS, types::node_status()),
         one(false, types::ALLOCATION, types::allocation()),
         one(false, types::KEY_VALUE, types::key_value()),
@@ -43,8 +48,7 @@ fn receiver() -> Receiver {
         one(false, types::RAW_COMMAND, types::raw_command()),
         one(true, types::GET_SET, types::get_set()),
         one(true, types::EXECUTE_OPCODE, types::execute_opcode()),
-    ];
-    Receiver::setup(1, subscriptions).expect("types that differ")
+    ]
 }
 
 fn text(answer: &Answer) -> String {

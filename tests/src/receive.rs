@@ -277,7 +277,7 @@ impl Receiver {
 }
 
 /// What 5 refuses, the other way round; `payload` counts the bytes before the tail.
-fn well_shaped(tail: Tail, payload: usize, anonymous: bool) -> bool {
+pub fn well_shaped(tail: Tail, payload: usize, anonymous: bool) -> bool {
     !(tail.start && tail.toggle)
         && !(anonymous && !(tail.start && tail.end))
         && (tail.end || payload == FRAME_PAYLOAD)

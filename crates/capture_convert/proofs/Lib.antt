@@ -1,7 +1,7 @@
 mod Frames
 pub mod Logs
 mod Captures
-mod Trailers
+pub mod Trailers
 mod Walking
 pub mod Calls
 mod Theorems

@@ -71,7 +71,7 @@ unfolding le
 le-zeros zero = refl
 le-zeros (suc n) = omega (arith, le-zeros n)
 
-module _ (f : Frame) (fine : Carried f) where
+module _ (f : Frame) (id : f .id < 2 ^ 32) (time : f .time < 2 ^ 64) (few : length (f .bytes) ≤ 8) where
   frame-part : drop 8 (timed f) ≡ recordOf (f .id) (f .bytes)
   unfolding timed
   frame-part = drop-at (leBytes 8 (f .time)) (recordOf (f .id) (f .bytes)) 8 (length-leBytes 8 (f .time))
@@ -80,11 +80,24 @@ module _ (f : Frame) (fine : Carried f) where
   unfolding timed
   stamp-back =
       ap le (take-at (leBytes 8 (f .time)) (recordOf (f .id) (f .bytes)) 8 (length-leBytes 8 (f .time)))
-      ∙ le-leBytes 8 (f .time) (omega (arith, fine .time))
+      ∙ le-leBytes 8 (f .time) (omega arith)
 
-  size-back : sizeOf (timed f) ≡ length (f .bytes)
+  pub size-back : sizeOf (timed f) ≡ length (f .bytes)
   unfolding recordOf leBytes
   size-back = sym (getD-drop 8 (timed f) 4 0) ∙ ap (λ (x : List ℕ). getD x 4 0) frame-part
+
+  pub frame-back : frameOf (timed f) ≡ f
+  unfolding recordsOf
+  frame-back =
+      ap₂ (λ (x : List ℕ) (t : ℕ). frameIn x t 0) (frame-part ∙ sym (append-nil (recordOf (f .id) (f .bytes)))) stamp-back
+      ∙ back (f .id) id (f .time) (f .bytes ∷ []) 0 (few, tt) (omega arith)
+
+module _ (f : Frame) (fine : Carried f) where
+  stamped : f .time < 2 ^ 64
+  stamped = omega (arith, fine .time)
+
+  sized : sizeOf (timed f) ≡ length (f .bytes)
+  sized = size-back f (fine .id) stamped (fine .few)
 
   zeros-back : le (span (timed f) (13 + sizeOf (timed f)) (8 - sizeOf (timed f))) ≡ 0
   unfolding recordOf leBytes
@@ -93,29 +106,23 @@ module _ (f : Frame) (fine : Carried f) where
       let zs : List ℕ = replicate (8 - n) 0 in
       let p : 13 + n ≡ 8 + (5 + n) = omega arith in
       let d : drop (13 + n) (timed f) ≡ zs =
-      ap (λ (k : ℕ). drop k (timed f)) p ∙ sym (drop-drop (5 + n) 8 (timed f)) ∙ ap (drop (5 + n)) frame-part
+      ap (λ (k : ℕ). drop k (timed f)) p ∙ sym (drop-drop (5 + n) 8 (timed f)) ∙ ap (drop (5 + n)) (frame-part f (fine .id) stamped (fine .few))
       ∙ sym (drop-drop n 5 (recordOf (f .id) (f .bytes))) ∙ drop-at (f .bytes) zs n refl in
-      ap (λ (k : ℕ). le (span (timed f) (13 + k) (8 - k))) size-back
+      ap (λ (k : ℕ). le (span (timed f) (13 + k) (8 - k))) sized
       ∙ ap (λ (x : List ℕ). le (take (8 - n) x)) d
       ∙ ap le (take-all (8 - n) zs (omega (arith, length-replicate {A = ℕ} (8 - n) 0))) ∙ le-zeros (8 - n)
-
-  frame-back : frameOf (timed f) ≡ f
-  unfolding recordsOf
-  frame-back =
-      ap₂ (λ (x : List ℕ) (t : ℕ). frameIn x t 0) (frame-part ∙ sym (append-nil (recordOf (f .id) (f .bytes)))) stamp-back
-      ∙ back (f .id) (fine .id) (f .time) (f .bytes ∷ []) 0 (fine .few, tt) (omega arith)
 
   pub timed-back : carried (timed f) ≡ some f
   unfolding carried
   timed-back =
       let t : carriable (timed f) ≡ true =
       fit-carriable (timed f) (record {
-        few = omega (arith, size-back, fine .few);
+        few = omega (arith, sized, fine .few);
         clear = zeros-back;
-        whole = rw stamp-back (fine .whole);
-        time = rw stamp-back (fine .time);
+        whole = rw (stamp-back f (fine .id) stamped (fine .few)) (fine .whole);
+        time = rw (stamp-back f (fine .id) stamped (fine .few)) (fine .time);
       }) in
-      rw (t, frame-back)
+      rw (t, frame-back f (fine .id) stamped (fine .few))
 
 -- ── a record that reads ──
 

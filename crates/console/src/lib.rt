@@ -27,3 +27,8 @@ pub fn progress(mib: u64) {
     io::print_decimal(3, mib);
     io::write_all(3, b" MiB");
 }
+
+// Internal. Takes away what `progress` said.
+pub fn progress_ends() {
+    io::write_all(3, b"\r\x1b[K");
+}

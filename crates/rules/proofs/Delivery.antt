@@ -299,7 +299,7 @@ same-not : (g : Bool) → sameBool (not g) g ≡ false
 same-not true = refl
 same-not false = refl
 
-same-self : (g : Bool) → sameBool g g ≡ true
+pub same-self : (g : Bool) → sameBool g g ≡ true
 same-self true = refl
 same-self false = refl
 

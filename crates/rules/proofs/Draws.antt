@@ -18,11 +18,11 @@ use Rattle.rules.specs.Tests.{pick}
 
 -- ── topics ──
 
-same-refl : (k : Topic) → sameTopic k k ≡ true
+pub same-refl : (k : Topic) → sameTopic k k ≡ true
 unfolding sameTopic
 same-refl k = rw (eq-eqb (k .transferType) (k .transferType) refl, eq-eqb (k .type) (k .type) refl, eq-eqb (k .destination) (k .destination) refl)
 
-same-eq : (a b : Topic) → sameTopic a b ≡ true → a ≡ b
+pub same-eq : (a b : Topic) → sameTopic a b ≡ true → a ≡ b
 unfolding sameTopic
 same-eq a b e =
     let e₂ = and-elim-right (eqb (a .transferType) (b .transferType)) _ e in
@@ -143,13 +143,13 @@ gives k now m = go (seek (isOf k) m) (offers k m) (seek isFree m) (seek-below is
 -- ── counting ──
 
 -- a store takes the old slot from the count and adds the new
-times-set : (k : Topic) (m : Map) (i : ℕ) (s : Slot) → i < length m → times k (set m i s) + flag (isOf k (getD m i free)) ≡ times k m + flag (isOf k s)
+pub times-set : (k : Topic) (m : Map) (i : ℕ) (s : Slot) → i < length m → times k (set m i s) + flag (isOf k (getD m i free)) ≡ times k m + flag (isOf k s)
 unfolding times
 times-set k [] i s h = absurd (omega arith)
 times-set k (x ∷ m) zero s h = omega arith
 times-set k (x ∷ m) (suc i) s h = let q = times-set k m i s (omega arith) in omega arith
 
-times-some : (k : Topic) (m : Map) (i : ℕ) → isOf k (getD m i free) ≡ true → 1 ≤ times k m
+pub times-some : (k : Topic) (m : Map) (i : ℕ) → isOf k (getD m i free) ≡ true → 1 ≤ times k m
 unfolding times
 times-some k [] i e = absurd (false≢true e)
 times-some k (s ∷ m) zero e = rw e (omega arith)
@@ -170,12 +170,12 @@ pub all-fit : (m : Map) → sound m ≡ true → (j : ℕ) → slotFits m (getD 
 unfolding sound
 all-fit m h = fit-at m m (and-elim-right (eqb (length m) 32) _ h)
 
-record EntryFits (m : Map) (k : Topic) (t : ℕ) : Type 0 where
+pub record EntryFits (m : Map) (k : Topic) (t : ℕ) : Type 0 where
   pub topic : topicFits k ≡ true
   pub transfer : t < 32
   pub alone : times k m ≡ 1
 
-entry-fits : (m : Map) (k : Topic) (t since : ℕ) → slotFits m (used k t since) ≡ true → EntryFits m k t
+pub entry-fits : (m : Map) (k : Topic) (t since : ℕ) → slotFits m (used k t since) ≡ true → EntryFits m k t
 entry-fits m k t since h =
     let q = and-elim-right (topicFits k) _ h in
     record {

@@ -26,7 +26,7 @@ pub framed-payload : (xs : List ℕ) (b : ℕ) → payloadOf (framed xs b) ≡ x
 framed-payload xs b = take-at xs (b ∷ []) (length (framed xs b) - 1) (omega (arith, framed-length xs b))
 
 -- a frame is its payload and its tail
-framed-back : (c : List ℕ) → 1 ≤ length c → c ≡ framed (payloadOf c) (tailOf c)
+pub framed-back : (c : List ℕ) → 1 ≤ length c → c ≡ framed (payloadOf c) (tailOf c)
 framed-back c h =
     let e : suc (length c - 1) ≡ length c = omega arith in
     sym (take-append-drop (length c - 1) c)

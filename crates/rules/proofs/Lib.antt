@@ -3,6 +3,7 @@ pub mod Bounds
 pub mod Calls
 pub mod Caught
 pub mod Checks
+pub mod Ordered
 pub mod Counts
 pub mod Delivered
 pub mod Delivery

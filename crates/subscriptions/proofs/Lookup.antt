@@ -14,6 +14,8 @@ use Rattle.keys.specs.inside.Keys.{wordAt, lowest}
 use Rattle.rules.specs.Setup.{subscribed}
 use Rattle.rules.specs.Tests.{pick}
 use Rattle.state.specs.Layout.{signaturesAt, subscriptionKeysAt, subscriptionKeyAt, subscriptionAt}
+use Rattle.subscriptions.specs.inside.Subscription.{asked}
+use Rattle.subscriptions.specs.declared.Subscribed.the-variants.{Under, Not}
 
 -- two numbers are equal exactly if their halves are
 halves : (k x y : ℕ) → y < 65536 → (eqb (k / 65536) x && eqb (k % 65536) y) ≡ eqb k (x * 65536 + y)
@@ -57,3 +59,13 @@ module _ (m : List ℕ) (kind type : ℕ) (h : type < 65536) where
         → pick b (some (le (span m (signaturesAt + i * 8) 8))) (listed (suc i) n) ≡ none
     go later true e l = absurd (omega arith)
     go later false e l = later (omega arith)
+
+-- ── what an answer tells ──
+
+pub under : (o : Option ℕ) (g : ℕ) → asked o ≡ Under g → o ≡ some g
+under none g e = let z : _≡_ {A = ℕ} 0 1 = cc in absurd (omega arith)
+under (some n) g e = cc
+
+pub not-asked : (o : Option ℕ) → asked o ≡ Not → o ≡ none
+not-asked none e = refl
+not-asked (some n) e = let z : _≡_ {A = ℕ} 0 1 = cc in absurd (omega arith)

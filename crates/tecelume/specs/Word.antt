@@ -5,6 +5,7 @@ use mathlib.Core.Bool.{true, _||_}
 use mathlib.Core.List.{List}
 use Prim.Native.Nat.{ℕ, _+_, _*_, _/_, _%_, _^_, _≤_, _<_}
 use lib.Dec.{eqb}
+use Rattle.bits.specs.Order.{Octets}
 use Rattle.rules.specs.Frame.{Arrival}
 use Rattle.receiver.specs.Receive.{received}
 use Rattle.answers.specs.Reception.{numberOf, transferIn}
@@ -22,6 +23,9 @@ use Rattle.dsdl_signature.specs.Call as signing
 use Rattle.dsdl_signature.specs.declared.answer.Answer as signing-answer
 use Rattle.capture_convert.specs.Answer as conversion
 use Rattle.capture_convert.specs.declared.answer.Converted.{Converted}
+use Rattle.judge_capture.specs.Answer as judge
+use Rattle.judge_capture.specs.Judge.{judges}
+use Rattle.judge_capture.specs.declared.verdict.Verdict.{Verdict}
 use Rattle.rules.specs.Limits.{payloadMax}
 use Rattle.rules.specs.Range.{answered}
 
@@ -117,3 +121,13 @@ conversionWord a = conversion.numberOf a + conversion.lengthIn a * 2 ^ 8
 pub record ConversionWordLaws : Type 0 where
   pub number : (a : Converted) → numberIn (conversionWord a) ≡ conversion.numberOf a
   pub len : (a : Converted) → conversionWord a / 2 ^ 8 ≡ conversion.lengthIn a
+
+-- ── the result word of a verdict: the number in bits 0 to 7, the frame from bit 8 on ──
+
+abbrev pub verdictWord : Verdict → ℕ
+verdictWord a = judge.numberOf a + judge.frameOf a * 2 ^ 8
+
+-- C reads both
+pub record VerdictWordLaws : Type 0 where
+  pub number : (s c : List ℕ) → Octets c → numberIn (verdictWord (judges s c)) ≡ judge.numberOf (judges s c)
+  pub frame : (s c : List ℕ) → Octets c → verdictWord (judges s c) / 2 ^ 8 ≡ judge.frameOf (judges s c)

@@ -8,7 +8,7 @@ ghost use mathlib.Core.Path.{_≡_};
 ghost use Prim.Native.Nat.{_%_};
 ghost use Rattle.tecelume.specs.Condition3.{wordBytes};
 ghost use Rattle.tecelume.specs.Entry.{version, numbered, numberedMap, numberedAllocator, entry, packed, packedSend, packedAllocation, signed, packedSignatures, packedConversion};
-ghost use Rattle.tecelume.specs.Word.{patchWord, WordLaws, PatchWordLaws, AllocationWordLaws, SignaturesWordLaws, ConversionWordLaws};
+ghost use Rattle.tecelume.specs.Word.{patchWord, verdictWord, WordLaws, PatchWordLaws, AllocationWordLaws, SignaturesWordLaws, ConversionWordLaws, VerdictWordLaws};
 ghost use Rattle.allocator.specs.Allocate.{allocated};
 ghost use Rattle.allocator.specs.Setup as allocator;
 ghost use Rattle.allocator_table.specs.Layout as table;
@@ -16,6 +16,7 @@ ghost use Rattle.dsdl_signature.specs.Call.{signatures};
 ghost use Rattle.capture_convert.specs.Convert.{captured, uncaptured};
 ghost use Rattle.id_map.specs.Layout as layout;
 ghost use Rattle.id_map.specs.Setup as setting;
+ghost use Rattle.judge_capture.specs.Judge.{judges};
 ghost use Rattle.patch.specs.Patch.{patches};
 ghost use Rattle.receiver.specs.Receive.{arrivalOf, received};
 ghost use Rattle.rules.specs.Condition3.{Condition3};
@@ -206,6 +207,14 @@ pub extern "C" fn tecelume_uncapture_word(capture: &[u8], out: &mut [u8]) -> u64
     word::of_converted(capture_convert::uncapture(capture, out))
 }
 
+// A capture judged under subscriptions: the number and, from bit 8 on, the frame that it is for.
+#[no_mangle]
+pub extern "C" fn tecelume_judge_word(subscriptions: &[u8], capture: &[u8]) -> u64
+    ensures { λ r. ⌜ r ≡ verdictWord (judges (now (subscriptions .entry)) (now (capture .entry))) ⌝ }
+{
+    word::of_verdict(judge_capture::judge(subscriptions, capture))
+}
+
 // What the result word of a reception holds: a number of RULES 4.10 or 20; and every value that is handed out fits its field and is read back from it.
 pub fn word_fields()
     ensures { λ _. ⌜ WordLaws ⌝ }
@@ -229,6 +238,11 @@ pub fn signatures_word_fields()
 // What the result word of a conversion holds, the same way.
 pub fn conversion_word_fields()
     ensures { λ _. ⌜ ConversionWordLaws ⌝ }
+{}
+
+// What the result word of a verdict holds, the same way.
+pub fn verdict_word_fields()
+    ensures { λ _. ⌜ VerdictWordLaws ⌝ }
 {}
 
 // RULES 14.14: condition 3, of what a C program reads.

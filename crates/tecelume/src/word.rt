@@ -1,6 +1,7 @@
 // Answers as numbers (RULES 13.3).
 use allocator::answer;
 use capture_convert::answer::Converted;
+use judge_capture::verdict::Verdict;
 use transport::Answer;
 use transport::Patched;
 use transport::Sent;
@@ -10,7 +11,8 @@ ghost use Prim.Native.Nat.{_^_, _≤_, _<_};
 ghost use Rattle.allocator.specs.Laws.{Range};
 ghost use Rattle.answers.specs.Sending.{dispatchIn};
 ghost use Rattle.capture_convert.specs.Answer.{lengthIn};
-ghost use Rattle.tecelume.specs.Word.{transferWord, wordOf, sentWord, patchWord, allocationWord, signaturesWord, conversionWord, TransferFits, Fits};
+ghost use Rattle.judge_capture.specs.Answer.{frameOf};
+ghost use Rattle.tecelume.specs.Word.{transferWord, wordOf, sentWord, patchWord, allocationWord, signaturesWord, conversionWord, verdictWord, TransferFits, Fits};
 
 fn of_transfer(t: Transfer) -> u64
     requires { ⌜ TransferFits t ⌝ }
@@ -64,4 +66,11 @@ pub fn of_converted(a: Converted) -> u64
     ensures { λ r. ⌜ r ≡ conversionWord a ⌝ }
 {
     a.number() + a.length() as u64 * 0x100
+}
+
+pub fn of_verdict(a: Verdict) -> u64
+    requires { ⌜ frameOf a < 2 ^ 32 ⌝ }
+    ensures { λ r. ⌜ r ≡ verdictWord a ⌝ }
+{
+    a.number() as u64 + a.frame() as u64 * 0x100
 }

@@ -1,18 +1,14 @@
-// The program `uncapture` (RULES 18.7): a capture on standard input, which must be a file, its log on standard output, a block at a time: the trailer
-// first, then the records. Reading and writing are here; trailer, records, checksum and lines are those of `capture_convert`. A refusal is a line on
-// standard error; what was written is then worth nothing, and ../../tecelume throws it away.
+// The program `uncapture` (RULES 18.7): a capture on standard input, which must be a file, its log on standard output, a block at a time. Reading and
+// writing are here; trailer, records, checksum and lines are those of `capture_file` and `capture_convert`. A refusal is a line on standard error; what
+// was written is then worth nothing, and ../../tecelume throws it away.
 use capture_convert::lines;
-use capture_convert::trailer;
 use capture_convert::trailer::Trailer;
+use capture_file::Opened;
 ghost use mathlib.Core.Path.{_≡_};
-ghost use Prim.Native.Nat.{_≤_, _<_, _*_, _^_};
+ghost use Prim.Native.Nat.{_≤_, _<_};
 ghost use lib.ListN.{length};
 
-// The records of a block, and room for as many of the longest lines.
-const RECORDS: usize = 1024;
-
-const BLOCK: usize = 21504;
-
+// Room for the lines of a block, each as long as any.
 const OUT: usize = 48128;
 
 // Records: how many are left and how many were read; the checksum of these; the first that no line can carry, counted from 1, or 0; whether
@@ -39,15 +35,6 @@ fn judged(record: u64) {
     io::write_all(libc::STDERR_FILENO, b"\n");
 }
 
-fn least(a: usize, b: usize) -> usize
-    ensures { λ r. ⌜ (r ≤ a) × (r ≤ b) ⌝ }
-{
-    if a < b {
-        return a;
-    }
-    b
-}
-
 // The lines of a block's records are written; whether that failed.
 fn print(records: &[u8], out: &mut [u8], s: Rest) -> Rest
     requires { ⌜ (length (now records) ≤ 21504) × (length (now out) ≡ 48128) ⌝ }
@@ -67,15 +54,17 @@ fn print(records: &[u8], out: &mut [u8], s: Rest) -> Rest
     r
 }
 
-// One block: read, printed, summed.
+// One block: read, printed, summed. Where reading fails, none is left.
 fn turn(block: &mut [u8], out: &mut [u8], s: Rest) -> Rest
-    requires { ⌜ (length (now block) ≡ 21504) × (length (now out) ≡ 48128) ⌝ }
+    requires { ⌜ (0 < s .left) × ((length (now block) ≡ 21504) × (length (now out) ≡ 48128)) ⌝ }
+    ensures { λ r. ⌜ r .left < s .left ⌝ }
 {
-    let k = least(s.left, RECORDS);
+    let k = capture_file::next(block, s.left);
     let n = k * capture_record::SIZE;
     let mut r = s;
-    if io::read_full(0, &mut block[0..n]) < n {
+    if k == 0 {
         console::cannot_read();
+        r.left = 0;
         r.failed = true;
         return r;
     }
@@ -97,13 +86,9 @@ fn run(block: &mut [u8], out: &mut [u8], t: Trailer)
         bad: 0,
         failed: false,
     };
-    let mut turns = u64::MAX;
-    while turns > 0 && 0 < s.left && !s.failed {
+    while 0 < s.left && !s.failed {
         s = turn(block, out, s);
-        turns -= 1;
-        if turns % 3072 == 0 {
-            console::progress(std::num::wrapping_sub_u64(u64::MAX, turns) / 3072 * 63);
-        }
+        capture_file::tell(s.done);
     }
     if s.failed {
         return;
@@ -114,50 +99,18 @@ fn run(block: &mut [u8], out: &mut [u8], t: Trailer)
     no_capture();
 }
 
-// Where the first record begins, the trailer being at `end`; -1 if there are fewer records than it says, or more bytes than any file has.
-fn begin(t: Trailer, end: u64) -> i64
-    requires { ⌜ t .count < 2 ^ 32 ⌝ }
-{
-    let size = t.count as u64 * 21;
-    if end < size {
-        return -1;
-    }
-    if 0x4000_0000_0000_0000 < end {
-        return -1;
-    }
-    (end - size) as i64
-}
-
-// The trailer, and where the first record begins.
 fn whole(block: &mut [u8], out: &mut [u8])
     requires { ⌜ (length (now block) ≡ 21504) × (length (now out) ≡ 48128) ⌝ }
 {
-    if libc::lseek(0, 0, libc::SEEK_END) < 0 {
-        return console::cannot_read();
+    match capture_file::open() {
+        Opened::Capture(t) => run(block, out, t),
+        Opened::NoCapture => no_capture(),
+        Opened::Unreadable => console::cannot_read(),
     }
-    let end = libc::lseek(0, -16, libc::SEEK_END);
-    if end < 0 {
-        return no_capture();
-    }
-    if io::read_full(0, &mut block[0..16]) < 16 {
-        return console::cannot_read();
-    }
-    let t = trailer::read(&block[0..16]);
-    let from = begin(t, shape::signed::size(end));
-    if !t.ok {
-        return no_capture();
-    }
-    if from < 0 {
-        return no_capture();
-    }
-    if libc::lseek(0, from, libc::SEEK_SET) < 0 {
-        return console::cannot_read();
-    }
-    run(block, out, t);
 }
 
 fn main() {
-    let mut block = [0u8; BLOCK];
+    let mut block = [0u8; capture_file::BLOCK];
     let mut out = [0u8; OUT];
     whole(&mut block, &mut out);
 }

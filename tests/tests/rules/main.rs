@@ -6,6 +6,7 @@ mod allocation_log;
 mod blocks;
 mod captures;
 mod checksums;
+mod judge;
 mod lent_state;
 mod log_program;
 mod parameters;

@@ -16,10 +16,11 @@ use Rattle.frame.specs.declared.head.Head.{Head}
 use Rattle.frame.proofs.Heads.{source-is, type-lt, transfer-type-lt, destination-lt}
 use Rattle.receiver.specs.Receive.{result, arrivalOf, arriving, lent}
 use Rattle.receiver.specs.inside.Called.{Accepted}
-use Rattle.receiver.proofs.Checks.{Readable, readable, head-passes, under, not-asked, read-refuses, head-refuses, not-subscribed, no-room, all-passed, accepted, heads, parsed-is, step-refused, step-accepted}
+use Rattle.receiver.proofs.Checks.{read-refuses, head-refuses, not-subscribed, no-room, all-passed, accepted, heads, parsed-is, step-refused, step-accepted}
 use Rattle.receiver.proofs.Lent.{untouched}
 use Rattle.rules.proofs.Checks as checks
 use Rattle.rules.proofs.Lasting.{stream-fits}
+use Rattle.rules.proofs.Ordered.{Readable, readable, head-passes}
 use Rattle.rules.specs.Answer.{refused}
 use Rattle.rules.specs.Check.{Parsed, check, frameCheck, first, orZero}
 use Rattle.rules.specs.Frame as rules
@@ -31,6 +32,7 @@ use Rattle.rules.specs.Tests.{pick}
 use Rattle.session.specs.inside.Session.{parsedOf}
 use Rattle.state.specs.Layout.{setupOf, placesOf}
 use Rattle.state.specs.Sound.{soundState}
+use Rattle.subscriptions.proofs.Lookup.{under, not-asked}
 use Rattle.subscriptions.specs.inside.Subscription.{asked}
 use Rattle.subscriptions.specs.declared.Subscribed.{Subscribed}
 use Rattle.state.proofs.Faultless.{long}

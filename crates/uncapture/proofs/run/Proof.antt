@@ -1,15 +1,15 @@
--- `run` is safe and ends: the turns that are left fall.
+-- `run` is safe and ends: the records that are left get fewer.
 use mathlib.Core.Path.{_≡_}
-use borrow.Author.Needs.{needs}
 use lib.ListN.{length}
+use borrow.Author.Needs.{needs}
 use Rattle.uncapture.proofs.run.Statement.{statement}
 use Rattle.uncapture.proofs.run.Tie as tie
 
 abbrev Inv-loop : tie.InvT-loop
-Inv-loop block₀ out₀ t s₀ turns₀ block out s turns = (length block ≡ length block₀) × (length out ≡ length out₀)
+Inv-loop block₀ out₀ t s₀ block out s = (length block ≡ length block₀) × (length out ≡ length out₀)
 
 abbrev μ-loop : tie.MeasureT-loop
-μ-loop block₀ out₀ t s₀ turns₀ block out s turns = turns
+μ-loop block₀ out₀ t s₀ block out s = s .left
 
 loop-holds : tie.Need-loop-holds Inv-loop μ-loop
 loop-holds c = search needs
@@ -17,29 +17,14 @@ loop-holds c = search needs
 turn-requires : tie.Need-turn-requires Inv-loop μ-loop
 turn-requires c κs = search needs
 
-sub-turns : tie.Need-sub-turns Inv-loop μ-loop
-sub-turns c = search needs
-
-wrapping-sub-u64-requires : tie.Need-wrapping-sub-u64-requires Inv-loop μ-loop
-wrapping-sub-u64-requires c κs = search needs
-
-mul-progress : tie.Need-mul-progress Inv-loop μ-loop
-mul-progress c = search needs
-
-progress-requires : tie.Need-progress-requires Inv-loop μ-loop
-progress-requires c κs = search needs
+tell-requires : tie.Need-tell-requires Inv-loop μ-loop
+tell-requires c κs = search needs
 
 loop-less : tie.Need-loop-less Inv-loop μ-loop
 loop-less c = search needs
 
 loop-again : tie.Need-loop-again Inv-loop μ-loop
 loop-again c = search needs
-
-loop-less-2 : tie.Need-loop-less-2 Inv-loop μ-loop
-loop-less-2 c = search needs
-
-loop-again-2 : tie.Need-loop-again-2 Inv-loop μ-loop
-loop-again-2 c = search needs
 
 same-length : tie.Need-same-length Inv-loop μ-loop
 same-length c = search needs
@@ -50,8 +35,8 @@ same-length-2 c = search needs
 returns : tie.Need-returns Inv-loop μ-loop
 returns c = search needs
 
-cast-if5 : tie.Need-cast-if5 Inv-loop μ-loop
-cast-if5 c = search needs
+cast-if4 : tie.Need-cast-if4 Inv-loop μ-loop
+cast-if4 c = search needs
 
 judged-requires : tie.Need-judged-requires Inv-loop μ-loop
 judged-requires c κs = search needs
@@ -85,18 +70,13 @@ run-spec =
     μ-loop
     loop-holds
     turn-requires
-    sub-turns
-    wrapping-sub-u64-requires
-    mul-progress
-    progress-requires
+    tell-requires
     loop-less
     loop-again
-    loop-less-2
-    loop-again-2
     same-length
     same-length-2
     returns
-    cast-if5
+    cast-if4
     judged-requires
     same-length-3
     same-length-4

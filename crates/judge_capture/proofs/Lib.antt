@@ -1,0 +1,6 @@
+pub mod Told
+mod Checked
+mod Turning
+mod Walk
+mod Calls
+pub mod Theorems

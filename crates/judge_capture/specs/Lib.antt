@@ -1,0 +1,5 @@
+pub mod Record
+pub mod Answer
+pub mod Judge
+pub mod Laws
+pub mod inside

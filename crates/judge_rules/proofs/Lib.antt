@@ -1,0 +1,14 @@
+pub mod Completion
+pub mod Views
+pub mod Pieces
+pub mod Following
+pub mod Streams
+pub mod Theorem
+pub mod Passing
+pub mod Bytes
+pub mod Drawing
+pub mod Sender
+pub mod Counting
+pub mod Running
+pub mod Reasons
+pub mod Shorter
