@@ -11,15 +11,15 @@ fn byte(number: i64) -> u8 {
 }
 
 /// The five numbers of a status. The sub-mode is zero both ways.
-struct Status {
-    uptime: u32,
-    health: u8,
-    mode: u8,
-    vendor: u16,
+pub struct Status {
+    pub uptime: u32,
+    pub health: u8,
+    pub mode: u8,
+    pub vendor: u16,
 }
 
 impl Status {
-    fn read(b: &[u8; 7]) -> Status {
+    pub fn read(b: &[u8; 7]) -> Status {
         Status {
             uptime: u32::from_le_bytes([b[0], b[1], b[2], b[3]]),
             health: b[4] >> 6,
@@ -37,7 +37,7 @@ impl Status {
         }
     }
 
-    fn write(&self, out: &mut [u8; 7]) {
+    pub fn write(&self, out: &mut [u8; 7]) {
         out[..4].copy_from_slice(&self.uptime.to_le_bytes());
         out[4] = self.health << 6 | self.mode << 3;
         out[5..].copy_from_slice(&self.vendor.to_le_bytes());
@@ -176,19 +176,19 @@ fn narrow(float: f32) -> u16 {
     sign | half as u16
 }
 
-struct Battery<'a> {
-    floats: [f32; 7],
-    flags: u16,
-    health: u8,
-    charge: u8,
-    deviation: u8,
-    id: u8,
-    model: u32,
-    name: &'a [u8],
+pub struct Battery<'a> {
+    pub floats: [f32; 7],
+    pub flags: u16,
+    pub health: u8,
+    pub charge: u8,
+    pub deviation: u8,
+    pub id: u8,
+    pub model: u32,
+    pub name: &'a [u8],
 }
 
 impl<'a> Battery<'a> {
-    fn read(b: &'a [u8]) -> Result<Battery<'a>, u64> {
+    pub fn read(b: &'a [u8]) -> Result<Battery<'a>, u64> {
         let name = b.get(23..).ok_or(15u64)?;
         if name.len() > 31 {
             return Err(16);
@@ -231,7 +231,7 @@ impl<'a> Battery<'a> {
         })
     }
 
-    fn write(&self, out: &mut [u8]) -> Result<u64, u64> {
+    pub fn write(&self, out: &mut [u8]) -> Result<u64, u64> {
         let length = 23 + self.name.len();
         let out = out.get_mut(..length).ok_or(8u64)?;
         for (place, float) in out.chunks_exact_mut(2).zip(self.floats) {

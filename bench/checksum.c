@@ -22,8 +22,8 @@ static uint16_t bitwise(uint16_t c, const uint8_t *s, size_t n)
 static uint16_t by_table(uint16_t c, const uint8_t *s, size_t n)
 {
     for (size_t i = 0; i < n; i++) {
-        c = (uint16_t)((c << 4) ^ table[(c >> 12) ^ (s[i] >> 4)]);
-        c = (uint16_t)((c << 4) ^ table[(c >> 12) ^ (s[i] & 15)]);
+        unsigned x = c >> 8 ^ s[i], high = x >> 4, low = x & 15;
+        c = (uint16_t)(c << 8 ^ table[high] << 4 ^ table[high ^ low]);
     }
     return c;
 }

@@ -17,8 +17,8 @@ static uint16_t by_table(uint16_t c, const uint8_t *s, size_t n)
     static const uint16_t table[16] = {0x0000, 0x1021, 0x2042, 0x3063, 0x4084, 0x50A5, 0x60C6, 0x70E7,
                                        0x8108, 0x9129, 0xA14A, 0xB16B, 0xC18C, 0xD1AD, 0xE1CE, 0xF1EF};
     for (size_t i = 0; i < n; i++) {
-        c = (uint16_t)((c << 4) ^ table[(c >> 12) ^ (s[i] >> 4)]);
-        c = (uint16_t)((c << 4) ^ table[(c >> 12) ^ (s[i] & 15)]);
+        unsigned x = c >> 8 ^ s[i], high = x >> 4, low = x & 15;
+        c = (uint16_t)(c << 8 ^ table[high] << 4 ^ table[high ^ low]);
     }
     return c;
 }

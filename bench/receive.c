@@ -1,9 +1,12 @@
-/* Reception, ns per frame: the proved receiver through its C entry tecelume_receive, beside the plain C receiver of baseline.c.
+/* Reception, ns per frame: the proved receiver through its C entries tecelume_receive, one frame a call, and tecelume_receive_many, bursts of
+ * 32 frames, beside the plain C receiver of baseline.c.
  *
  * First each must hand out every transfer of every row with the right bytes. Then they take turns in one process, and the best of
  * ROUNDS rounds counts. Both have five subscriptions, the time rises by 100 microseconds a frame, and both leave the payload in one
  * flat buffer: the baseline's copy out of its chunks is part of its figure. All memory is warm, nothing is cleared between frames:
  * state and pool are set up once a row, the output buffer keeps the last payload.
+ *
+ * A burst lies in the records of tecelume_arrival, as a driver's queue has it: writing them is no part of the figure, reading all results is.
  *
  * In the row of two cables each frame comes a second time by the other interface, and must not be handed out again.
  *
@@ -21,7 +24,7 @@
 #ifndef ROUNDS /* fewer where a run is an emulated one and each is like the other */
 #define ROUNDS 101
 #endif
-enum { STEP = 100, OWN = 1, FIRST_SOURCE = 10, ROW_FRAMES_MAX = 21000, REFUSED = 10000 };
+enum { STEP = 100, OWN = 1, FIRST_SOURCE = 10, ROW_FRAMES_MAX = 21000, REFUSED = 10000, BURST = 32 };
 
 /* ---- the frames of a row ---- */
 
@@ -70,7 +73,13 @@ static void make_frames(const struct row *row)
     }
 }
 
-/* ---- the two receivers ---- */
+/* ---- the receivers ---- */
+
+/* what a frame handed out: the length of the payload, -1 for none, and its bytes */
+struct payload {
+    int length;
+    const uint8_t *bytes;
+};
 
 static uint8_t out[TECELUME_OUTPUT_SIZE];
 
@@ -89,6 +98,52 @@ static int tecelume_feed(const struct frame *f, uint64_t time)
 {
     tecelume_result result = tecelume_receive(state, sizeof state, f->id, f->data, f->length, f->interface_number, time, out, sizeof out);
     return tecelume_number(result) == TECELUME_HANDED_OUT ? (int)tecelume_length(result) : -1;
+}
+
+static void tecelume_take(size_t from, size_t n, uint64_t time, struct payload *taken)
+{
+    (void)n;
+    taken->length = tecelume_feed(&frames[from], time + STEP);
+    taken->bytes = out;
+}
+
+static uint8_t records[ROW_FRAMES_MAX * TECELUME_ARRIVAL_SIZE];
+static uint8_t results[BURST * TECELUME_RESULT_SIZE];
+static uint8_t wide_out[TECELUME_OUTPUT_SIZE + BURST * 7]; /* enough for a burst of single frames; a longer payload may end a call earlier */
+
+/* The queue's records of all frames, the first one STEP after this time. */
+static void make_records(uint64_t time)
+{
+    uint8_t *next = records;
+    for (size_t i = 0; i < frame_count; i++)
+        next = tecelume_arrival(next, frames[i].id, frames[i].data, frames[i].length, frames[i].interface_number, time += STEP);
+}
+
+static size_t tecelume_feed_many(size_t from, size_t n)
+{
+    return tecelume_used(tecelume_receive_many(state, sizeof state, records + from * TECELUME_ARRIVAL_SIZE, n * TECELUME_ARRIVAL_SIZE, results,
+                                               sizeof results, wide_out, sizeof wide_out));
+}
+
+static void tecelume_take_many(size_t from, size_t n, uint64_t time, struct payload *taken)
+{
+    static uint8_t kept[BURST * TECELUME_OUTPUT_SIZE];
+    uint8_t *end = kept;
+    if (from == 0)
+        make_records(time);
+    while (n > 0) {
+        size_t used = tecelume_feed_many(from, n);
+        const uint8_t *bytes = wide_out;
+        for (size_t i = 0; i < used; i++, taken++) {
+            tecelume_result result = tecelume_result_at(results, i);
+            taken->length = tecelume_number(result) == TECELUME_HANDED_OUT ? (int)tecelume_length(result) : -1;
+            taken->bytes = end;
+            for (int k = 0; k < taken->length; k++)
+                *end++ = *bytes++;
+        }
+        from += used;
+        n = used > 0 ? n - used : 0; /* a call that uses up none leaves the rest, and is found wrong */
+    }
 }
 
 static struct baseline baseline;
@@ -118,6 +173,13 @@ static int baseline_feed(const struct frame *f, uint64_t time)
     return baseline_length;
 }
 
+static void baseline_take(size_t from, size_t n, uint64_t time, struct payload *taken)
+{
+    (void)n;
+    taken->length = baseline_feed(&frames[from], time + STEP);
+    taken->bytes = out;
+}
+
 /* Loops of their own, so that each call is a direct one. They count the transfers handed out. */
 
 static size_t tecelume_run(uint64_t time)
@@ -136,26 +198,50 @@ static size_t baseline_run(uint64_t time)
     return handed;
 }
 
+static size_t tecelume_run_many(uint64_t time)
+{
+    size_t handed = 0, used;
+    (void)time; /* the records have it */
+    for (size_t i = 0; i < frame_count; i += used) {
+        size_t left = BURST - i % BURST;
+        used = tecelume_feed_many(i, left < frame_count - i ? left : frame_count - i);
+        for (size_t k = 0; k < used; k++)
+            handed += tecelume_number(tecelume_result_at(results, k)) == TECELUME_HANDED_OUT;
+        if (used == 0)
+            break;
+    }
+    return handed;
+}
+
+static void nothing(uint64_t time)
+{
+    (void)time;
+}
+
+/* Frames are taken in bursts of so many. What is prepared before a round is not timed. */
 static const struct side {
     const char *name;
+    size_t burst;
     bool (*begin)(void);
-    int (*feed)(const struct frame *f, uint64_t time);
+    void (*take)(size_t from, size_t n, uint64_t time, struct payload *taken);
+    void (*prepare)(uint64_t time);
     size_t (*run)(uint64_t time);
 } sides[] = {
-    {"Tecelume", tecelume_begin, tecelume_feed, tecelume_run},
-    {"baseline", baseline_begin, baseline_feed, baseline_run},
+    {"Tecelume", 1, tecelume_begin, tecelume_take, nothing, tecelume_run},
+    {"Tecelume in bursts", BURST, tecelume_begin, tecelume_take_many, make_records, tecelume_run_many},
+    {"baseline", 1, baseline_begin, baseline_take, nothing, baseline_run},
 };
 
-enum { SIDES = sizeof sides / sizeof sides[0] };
+enum { SINGLE, MANY, PLAIN, SIDES };
 
 /* ---- what must come out ---- */
 
-static bool is_payload(const struct row *row, const struct frame *f, unsigned turn, int length)
+static bool is_payload(const struct row *row, const struct frame *f, unsigned turn, const struct payload *taken)
 {
-    if (length != (int)row->length)
+    if (taken->length != (int)row->length)
         return false;
     for (unsigned i = 0; i < row->length; i++)
-        if (out[i] != payload_byte(f->id & 127, turn, i))
+        if (taken->bytes[i] != payload_byte(f->id & 127, turn, i))
             return false;
     return true;
 }
@@ -168,13 +254,20 @@ static bool is_right(const struct side *side, const struct row *row)
         return false;
     for (int again = 0; again < 2; again++) {
         unsigned ended = 0;
-        for (size_t i = 0; i < frame_count; i++) {
-            const struct frame *f = &frames[i];
-            bool end = f->interface_number == 0 && (f->data[f->length - 1] >> 6 & 1);
-            int length = side->feed(f, time += STEP);
-            if (end ? !is_payload(row, f, ended / row->sources, length) : length >= 0)
-                return false;
-            ended += end;
+        for (size_t i = 0; i < frame_count; i += side->burst) {
+            struct payload taken[BURST];
+            size_t n = side->burst < frame_count - i ? side->burst : frame_count - i;
+            for (size_t k = 0; k < n; k++)
+                taken[k].length = -2;
+            side->take(i, n, time, taken);
+            for (size_t k = 0; k < n; k++) {
+                const struct frame *f = &frames[i + k];
+                bool end = f->interface_number == 0 && (f->data[f->length - 1] >> 6 & 1);
+                if (end ? !is_payload(row, f, ended / row->sources, &taken[k]) : taken[k].length != -1)
+                    return false;
+                ended += end;
+            }
+            time += STEP * n;
         }
     }
     return true;
@@ -192,6 +285,7 @@ static bool measure(const struct row *row, double best[SIDES])
     }
     for (uint64_t round = 0; round < ROUNDS; round++) {
         for (int k = 0; k < SIDES; k++) {
+            sides[k].prepare(round * frame_count * STEP);
             double from = nanoseconds();
             size_t handed = sides[k].run(round * frame_count * STEP);
             double took = (nanoseconds() - from) / (double)frame_count;
@@ -235,7 +329,8 @@ static bool show_row(const struct row *row)
         }
     }
     bool right = measure(row, best);
-    printf("%-34s %12.1f %12.1f %8.2f\n", row->name, best[0], best[1], best[0] / best[1]);
+    printf("%-34s %9.1f %9.1f %9.1f %8.2f %8.2f\n", row->name, best[SINGLE], best[MANY], best[PLAIN], best[SINGLE] / best[PLAIN],
+           best[MANY] / best[PLAIN]);
     return right;
 }
 
@@ -244,14 +339,14 @@ static bool show_check(const struct row *row)
     double best;
     make_frames(row);
     bool right = measure_check(&best);
-    printf("state check alone, %2u sessions      %12.1f\n", row->sources, best);
+    printf("state check alone, %2u sessions      %9.1f\n", row->sources, best);
     return right;
 }
 
 int main(void)
 {
     bool right = true;
-    printf("%-34s %12s %12s %8s\n", "reception", "Tecelume ns", "baseline ns", "ratio");
+    printf("%-34s %9s %9s %9s %8s %8s\n", "reception, ns a frame", "one each", "bursts", "baseline", "ratio", "ratio");
     for (int k = 0; k < ROWS; k++)
         right &= show_row(&rows[k]);
     right &= show_check(&rows[0]);

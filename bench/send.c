@@ -27,7 +27,7 @@ struct row {
     double goal;      /* 0 for none */
 };
 
-static const struct row rows[] = {{7, 5, 5.0}, {64, 5, 1.5}, {512, 5, 1.0}, {7, 32, 0}};
+static const struct row rows[] = {{7, 5, 2.5}, {64, 5, 1.5}, {512, 5, 1.0}, {7, 32, 0}};
 
 enum { ROWS = sizeof rows / sizeof rows[0] };
 

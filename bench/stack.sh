@@ -1,8 +1,7 @@
 #!/usr/bin/env bash
 # stack.sh ARCHIVE: from its object code, the stack that each C entry needs and the functions it wants from outside. Fails if
-# tecelume_receive_word needs more than 2048 bytes, tecelume_signatures_word more than 24576, tecelume_judge_word more than 8192 or another entry
-# more than 1024, or if anything but
-# memcpy, memset, memmove and memcmp is wanted.
+# tecelume_receive_word or tecelume_receive_many_word needs more than 2048 bytes, tecelume_signatures_word more than 24576, tecelume_judge_word more
+# than 8192 or another entry more than 1024, or if anything but memcpy, memset, memmove and memcmp is wanted.
 #
 # The figure is an upper bound. A function needs its return address, every push and every step down of %rsp that it has, each counted
 # once on whatever path, 128 bytes below %rsp if it calls nothing (the red zone), and the most that a function needs which it calls or
@@ -127,7 +126,7 @@ awk -v entries="$work/entries" '
         while ((getline f < entries) > 0) {
             n = need(f)
             printf "%-28s %6d   %s\n", f, n, path[f]
-            limit = f == "tecelume_receive_word" ? 2048 : f == "tecelume_signatures_word" ? 24576 : f == "tecelume_judge_word" ? 8192 : 1024
+            limit = f ~ /^tecelume_receive(_many)?_word$/ ? 2048 : f == "tecelume_signatures_word" ? 24576 : f == "tecelume_judge_word" ? 8192 : 1024
             if (n > limit)
                 fail(f " needs more than " limit " bytes")
         }

@@ -15,6 +15,7 @@ class Expr:
         self.fill = more.get('fill')          # of an array of copies of one byte: that byte
         self.address = more.get('address', 'stable')  # the kind of its address
         self.own_place = more.get('own_place', False)  # it is a local, or a part of one, whose address nobody has
+        self.short = more.get('short', False)  # of 64 bits in MIR, a size_t in C: the length of a slice, or what is no more than one
         self.temps = set()                    # the temporaries that were put in, each as (local, number of its assignment)
         self.own = None                       # the temporary that the whole expression is the value of
 
@@ -34,6 +35,11 @@ def mixed(e, *parts):
 def number(n, width):
     """A constant. C gives it a type of 32 bits or more, which the rules below cut where it matters."""
     return Expr(f'{n}u' if n < 2 ** 32 else f'UINT64_C({n})', ('int', width), constant=n)
+
+
+def wide(a, b):
+    """a beside b, with 64 bits: a length is a size_t, which b may make wider."""
+    return cast(a, 64) if a.short and (b.short or b.constant is not None) else a
 
 
 def cast(e, width):
@@ -61,19 +67,22 @@ def comparison(c, negation, types=('int',)):
     return rule
 
 
-def arithmetic(c, shift=False, types=('int',)):
+def arithmetic(c, shift=False, types=('int',), shrinks=False):
     """C computes with int what is smaller than int: such a result is cut to its width. None leaves int: sums and products fit their own
-    width, by the proofs, and 16 bits shifted by 15 have 31."""
+    width, by the proofs, and 16 bits shifted by 15 have 31. A result that is no more than its operands may be as short as they are."""
     def rule(a, b):
         if a.type[0] not in types:
             refuse(f'the operator {c} on', a.type)
+        short = shrinks and (a.short or b.short) and all(e.short or e.constant is not None and e.constant < 2 ** 32 for e in (a, b))
+        if not shrinks:
+            a, b = cast(a, 64) if shift and a.short else wide(a, b), wide(b, a)
         left, right = typed(a, b, shift)
         if a.type == ('bool',):
             return Expr(f'({left} {c} {right}) != 0', a.type, atom=False)
         if a.type[1] < 32:
             return Expr(f'(uint{a.type[1]}_t)({left} {c} {right})', a.type)
         times = (left, b.constant) if c == '*' and b.constant is not None else None
-        return Expr(f'{left} {c} {right}', a.type, atom=False, times=times)
+        return Expr(f'{left} {c} {right}', a.type, atom=False, times=times, short=short)
     return rule
 
 
@@ -90,11 +99,11 @@ def signed_less(a, b):
 # A signed number is its bits in two's complement, in the unsigned type of its width: a difference has the same bits as an unsigned one.
 OP2 = {
     ('Add', 'Unsigned'): arithmetic('+'),
-    ('Sub', 'Unsigned'): arithmetic('-'),
+    ('Sub', 'Unsigned'): arithmetic('-', shrinks=True),
     ('Sub', 'Signed'): arithmetic('-'),
     ('Mul', 'Unsigned'): arithmetic('*'),
-    ('Div', 'Unsigned'): arithmetic('/'),
-    ('Rem', 'Unsigned'): arithmetic('%'),
+    ('Div', 'Unsigned'): arithmetic('/', shrinks=True),
+    ('Rem', 'Unsigned'): arithmetic('%', shrinks=True),
     ('And',): arithmetic('&', types=('int', 'bool')),
     ('Or',): arithmetic('|', types=('int', 'bool')),
     ('Xor',): arithmetic('^', types=('int', 'bool')),
@@ -138,11 +147,27 @@ static uint32_t trailing_zeros(uint64_t x, uint32_t bits)
     return zeros;
 }'''
 
+# By halves of 32 bits, which are what most small machines compute with: every call of the receiver counts the free blocks.
+COUNT_ONES = '''/* The bits of a number that are 1: first of pairs, then of fours and of bytes. */
+static uint32_t count_ones_u32(uint32_t x)
+{
+    x = x - (x >> 1 & 0x55555555u);
+    x = (x & 0x33333333u) + (x >> 2 & 0x33333333u);
+    x = (x + (x >> 4)) & 0x0F0F0F0Fu;
+    x = x + (x >> 8);
+    return (x + (x >> 16)) & 63u;
+}
+
+static uint32_t count_ones(uint64_t x)
+{
+    return count_ones_u32((uint32_t)(x & UINT32_MAX)) + count_ones_u32((uint32_t)(x >> 32));
+}'''
+
 
 def negation(a):
     if a.type == ('bool',):
         return Expr(a.negated or '!' + a.inner(), a.type, atom=not a.negated, negated=a.text)
-    return Expr(f'(uint{a.type[1]}_t)~{exact(a)}', a.type)
+    return Expr(f'(uint{a.type[1]}_t)~{cast(a, 64).text if a.short else exact(a)}', a.type)
 
 
 def leading_zeros(a):
@@ -151,6 +176,10 @@ def leading_zeros(a):
 
 def trailing_zeros(a):
     return Expr(f'trailing_zeros({a.text}, {a.type[1]}u)', ('int', 32))
+
+
+def count_ones(a):
+    return Expr(f'count_ones({a.text})', ('int', 32))
 
 
 def same_bits(a):
@@ -162,11 +191,12 @@ OP1 = {
     ('Not',): negation,
     ('LeadingZeros',): leading_zeros,
     ('TrailingZeros',): trailing_zeros,
+    ('CountOnes',): count_ones,
     **{('Cast', 'Unsigned', 'Unsigned', width): lambda a, width=width: cast(a, width) for width in (8, 16, 32, 64)},
     ('Cast', 'Unsigned', 'Signed', 64): same_bits,
     ('Cast', 'Signed', 'Unsigned', 64): same_bits,
 }
-HELPERS = {('LeadingZeros',): LEADING_ZEROS, ('TrailingZeros',): TRAILING_ZEROS}
+HELPERS = {('LeadingZeros',): LEADING_ZEROS, ('TrailingZeros',): TRAILING_ZEROS, ('CountOnes',): COUNT_ONES}
 
 
 def apply(rules, operator, *operands):

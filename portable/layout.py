@@ -84,14 +84,16 @@ def comment(text):
     return textwrap.fill(text, WIDTH, initial_indent='/* ', subsequent_indent=' * ') + ' */\n' if text else ''
 
 
+def fold_at(row, indent):
+    """Where a row that is too long is folded, behind a comma or before an operator; 0 if nowhere."""
+    cuts = [m.end() if m[0] == ', ' else m.start() + 1 for m in re.finditer(r', | [-+*/%&|^] ', row)]
+    return max((cut for cut in cuts if indent < cut <= WIDTH < len(row)), default=0)
+
+
 def fold(line):
-    """A long line, folded behind a comma or before an operator."""
+    """A line in rows that are not too long, where it can be folded."""
     indent = ' ' * (len(line) - len(line.lstrip()) + 4)
     rows = [line]
-    while len(rows[-1]) > WIDTH:
-        cuts = [m.end() if m[0] == ', ' else m.start() + 1 for m in re.finditer(r', | [-+*/%&|^] ', rows[-1])]
-        cuts = [c for c in cuts if len(indent) < c <= WIDTH]
-        if not cuts:
-            break
-        rows[-1:] = [rows[-1][:cuts[-1]].rstrip(), indent + rows[-1][cuts[-1]:].lstrip()]
+    while at := fold_at(rows[-1], len(indent)):
+        rows[-1:] = [rows[-1][:at].rstrip(), indent + rows[-1][at:].lstrip()]
     return '\n'.join(rows)

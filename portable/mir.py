@@ -164,12 +164,24 @@ class Function:
         self.places = list(places(self.body))
 
 
+class Functions(dict):
+    """Functions by their symbols, each read when it is first asked for: one that nothing reaches may have what no rule knows."""
+
+    def __init__(self):
+        super().__init__()
+        self.terms = {}
+
+    def __missing__(self, symbol):
+        self[symbol] = Function(symbol, self.terms[symbol])
+        return self[symbol]
+
+
 class Library:
     """A proved library and all that it depends on, from the folder that rt writes them to."""
 
     def __init__(self, folder, name):
         self.name, self.folder = name, pathlib.Path(folder)
-        self.functions, self.logic = {}, None
+        self.functions, self.logic = Functions(), None
         self.crates = []
         self.add(name)
 
@@ -183,8 +195,7 @@ class Library:
             refuse('two logics', name)
         self.logic = logic
         self.crates.append(name)
-        for symbol, term in json.loads((home / 'toolchain' / 'mir.json').read_text()):
-            self.functions[symbol] = Function(symbol, term)
+        self.functions.terms.update(json.loads((home / 'toolchain' / 'mir.json').read_text()))
         for words in lines:
             if words[0] == 'dep':
                 self.add(words[1])

@@ -1,5 +1,5 @@
-"""MIR's types in C: numbers and bool as they are, a reference as a pointer, a slice as pointer and length, an array as a struct (so that
-it is a value), a struct as a struct, an enum without fields as an enum, and any other as its tag beside a union of the variants' fields."""
+"""MIR's types in C: numbers and bool as they are, a reference as a pointer, a slice as pointer and length (a size_t, as no slice is longer than
+what C can address), an array as a struct (so that it is a value), a struct as a struct, an enum without fields as an enum, and any other as its tag beside a union of the variants' fields."""
 import re
 
 from layout import comment
@@ -66,7 +66,7 @@ class Shapes:
             return ('const ' if t[1] == 'imm' else '') + self.c_type(t[2]) + ' *'
         if t[0] == 'slice':
             name = f'slice_{"mut_" if t[1] == "mut" else ""}{self.short(t[2])}'
-            return self.define(name, lambda: self.struct([self.member(('ref',) + t[1:], 'ptr'), self.member(('int', 64), 'len')]))
+            return self.define(name, lambda: self.struct([self.member(('ref',) + t[1:], 'ptr'), 'size_t len;']))
         if t[0] == 'array':
             return self.define(f'array_{self.short(t[1])}_{t[2]}', lambda: self.struct([self.member(t[1], f'a[{t[2]}]')]))
         if t[0] == 'named':

@@ -107,7 +107,7 @@ class Values:
         if not text:
             return Expr(at.text, type_, at.kind, at.atom, address=at.address, own_place=at.own_place)
         text = f'{at.text[1:]}->{text[1:]}' if at.text[0] == '*' else at.inner() + text
-        return Expr(text, type_, at.kind, address=at.address, own_place=at.own_place)
+        return Expr(text, type_, at.kind, address=at.address, own_place=at.own_place, short=at.type[0] == 'slice' and step[1] == 1)
 
     def operand(self, operand):
         if operand[0] == 'copy':
@@ -201,6 +201,8 @@ class Values:
         if len(wanted) != len(parts):
             refuse('the number of parts of', type_)
         texts = [self.convert(p, t).text for p, t in zip(parts, wanted)]
+        if type_[0] == 'slice' and not parts[1].short and parts[1].constant is None:
+            texts[1] = f'(size_t){parts[1].inner()}'
         again = self.again(parts, texts, type_)
         if again:
             return again

@@ -32,11 +32,11 @@ static unsigned bus_count;
 static const char *table_name;
 static size_t kept; /* entries of the table that are in its file; as it only grows, their number says whether all are */
 
-static void tell(void *self, uint32_t source, const struct node_status *s)
+static void tell(void *self, uint32_t source, const tecelume_node_status *s)
 {
     (void)self;
-    fprintf(stderr, "node %u: up %u s, health %u, mode %u, vendor code %u\n", (unsigned)source, (unsigned)s->uptime, s->health, s->mode,
-            s->vendor_code);
+    fprintf(stderr, "node %u: up %u s, health %u, mode %u, vendor code %u\n", (unsigned)source, (unsigned)s->uptime_sec, (unsigned)s->health,
+            (unsigned)s->mode, (unsigned)s->vendor_specific_status_code);
 }
 
 static void send_frame(void *self, const struct frame *f)

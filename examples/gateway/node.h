@@ -17,13 +17,8 @@ struct frame {
     uint8_t data[8];
 };
 
-struct node_status {
-    uint32_t uptime; /* seconds */
-    unsigned health, mode, vendor_code;
-};
-
 struct owner {
-    void (*told)(void *self, uint32_t source, const struct node_status *status);
+    void (*told)(void *self, uint32_t source, const tecelume_node_status *status);
     void (*sent)(void *self, const struct frame *frame);
     /* The node with this unique ID is about to be told its node ID; it is told only if this gives true. NULL hands out no IDs. */
     bool (*given)(void *self, uint32_t node_id, const uint8_t *unique_id);

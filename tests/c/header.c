@@ -5,7 +5,7 @@
  *     header --list      their names
  *
  * The first that does not hold is printed, with status 1. Those of correcting a checksum are in patch.c, those of
- * handing out node IDs in allocator.c. wrong.c makes libraries that
+ * handing out node IDs in allocator.c, those of messages in payloads.c. wrong.c and wrong_payloads.c make libraries that
  * break them. */
 #include <stdbool.h>
 #include <stdio.h>
@@ -349,12 +349,12 @@ static void reasons_in_order(void)
 static void texts(void)
 {
     for (uint32_t number = 0; number < 40; number++) {
-        bool known = (number <= TECELUME_NO_BLOCK && number != 10) ||
+        bool known = (number <= TECELUME_NO_SUCH_CASE && number != 10) ||
                      (number >= TECELUME_NO_TRANSFER && number <= TECELUME_OTHER_INTERFACE);
         CHECK(known == (strcmp(tecelume_text(number), "unknown number") != 0));
         CHECK((number >= TECELUME_NO_TRANSFER && known) == (strncmp(tecelume_text(number), "passed over", 11) == 0));
     }
-    CHECK(strcmp(tecelume_text(25), "padding not zero") == 0);
+    CHECK(strcmp(tecelume_text(TECELUME_PADDING_NOT_ZERO), "padding not zero") == 0);
 }
 
 static void entry_at_two_seconds(void)
@@ -803,6 +803,12 @@ static const struct {
     {"faults", faults},
     {"new_setup", new_setup},
     {"order_of_subscriptions", order_of_subscriptions},
+    {"batch_is_single_calls", batch_is_single_calls},
+    {"batch_of_single_frames", batch_of_single_frames},
+    {"batch_ends_for_room", batch_ends_for_room},
+    {"batch_room_for_results", batch_room_for_results},
+    {"batch_of_bad_frames", batch_of_bad_frames},
+    {"batch_on_a_fault", batch_on_a_fault},
     {"rewritten_in_passing", rewritten_in_passing},
     {"rewritten_field", rewritten_field},
     {"damage_before_a_correction", damage_before_a_correction},
@@ -851,6 +857,16 @@ static const struct {
     {"streams_judged", streams_judged},
     {"bytes_that_do_not_count", bytes_that_do_not_count},
     {"verdict_without_a_frame", verdict_without_a_frame},
+    {"longest_messages", longest_messages},
+    {"numbers_clipped", numbers_clipped},
+    {"lists_in_the_payload", lists_in_the_payload},
+    {"empty_lists", empty_lists},
+    {"floats_of_messages", floats_of_messages},
+    {"sub_mode_is_zero", sub_mode_is_zero},
+    {"names_of_nodes", names_of_nodes},
+    {"cases_of_a_value", cases_of_a_value},
+    {"refused_messages", refused_messages},
+    {"rows_of_numbers", rows_of_numbers},
 };
 
 int main(int count, char **words)

@@ -3,7 +3,11 @@
 #include <stdio.h>
 #include <stdlib.h>
 #include <string.h>
+#ifdef __unix__
 #include <sys/mman.h>
+#else /* no pages that no one may touch: guard bytes stand in */
+#define MAP_FAILED NULL
+#endif
 
 enum { GUARD = 64, PAGE = 4096 };
 
@@ -41,6 +45,7 @@ static void lend_on_heap(struct lent *l)
     l->bytes = l->block;
 }
 
+#ifdef __unix__
 /* Areas of LENT_MAX bytes between two pages that no one may touch. Those given back are used again. */
 static uint8_t *areas[8];
 static size_t area_count;
@@ -60,6 +65,23 @@ static void lend_at_page(struct lent *l, unsigned choice)
     l->block = get_area();
     l->bytes = choice % 4 == 0 ? l->block : l->block + LENT_MAX - l->length;
 }
+
+static void give_back(struct lent *l)
+{
+    areas[area_count++] = l->block;
+}
+#else
+static void lend_at_page(struct lent *l, unsigned choice)
+{
+    l->placement = BETWEEN;
+    lend_between(l, choice);
+}
+
+static void give_back(struct lent *l)
+{
+    free(l->block);
+}
+#endif
 
 struct lent lend(enum placement placement, const uint8_t *content, size_t length, unsigned choice)
 {
@@ -95,7 +117,7 @@ void take_back(struct lent *l, uint8_t *content)
     if (l->length > 0)
         memcpy(content, l->bytes, l->length);
     if (l->placement == AT_PAGE && l->block != NULL)
-        areas[area_count++] = l->block;
+        give_back(l);
     else
         free(l->block);
     l->block = NULL;

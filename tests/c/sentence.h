@@ -1,4 +1,4 @@
-/* What the sentences of header.c, patch.c, allocator.c, definitions.c, captures.c and judge.c share. */
+/* What the sentences of header.c, batch.c, patch.c, allocator.c, definitions.c, captures.c, judge.c and payloads.c share. */
 #ifndef SENTENCE_H
 #define SENTENCE_H
 
@@ -8,6 +8,14 @@
 void check(bool holds, const char *what, int line);
 
 #define CHECK(condition) check((condition), #condition, __LINE__)
+
+/* Those of batch.c. */
+void batch_is_single_calls(void);
+void batch_of_single_frames(void);
+void batch_ends_for_room(void);
+void batch_room_for_results(void);
+void batch_of_bad_frames(void);
+void batch_on_a_fault(void);
 
 /* Those of patch.c. */
 void rewritten_in_passing(void);
@@ -66,5 +74,17 @@ void short_payload_judged(void);
 void streams_judged(void);
 void bytes_that_do_not_count(void);
 void verdict_without_a_frame(void);
+
+/* Those of payloads.c. */
+void longest_messages(void);
+void numbers_clipped(void);
+void lists_in_the_payload(void);
+void empty_lists(void);
+void floats_of_messages(void);
+void sub_mode_is_zero(void);
+void names_of_nodes(void);
+void cases_of_a_value(void);
+void refused_messages(void);
+void rows_of_numbers(void);
 
 #endif

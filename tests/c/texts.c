@@ -9,31 +9,13 @@
 #include <string.h>
 #include <unistd.h>
 
-#include "lent.h"
+#include "buffers.h"
 #include "tecelume.h"
 
 enum { CALLS = 100000, SHORT = 20000, NUMBERS = 44, SOURCE_MAX = 18000, OUT_MAX = 8000, EXTRA = 3, DEFINITIONS = 10 };
 enum { LENGTHS_MAX = DEFINITIONS * TECELUME_LENGTHS_SIZE + EXTRA, RECORDS_MAX = DEFINITIONS * TECELUME_SIGNED_SIZE + EXTRA };
 
-static uint64_t seed = 1, random_state, calls, seen[256];
-
-static uint64_t next_random(void)
-{
-    uint64_t z = random_state += 0x9E3779B97F4A7C15;
-    z = (z ^ z >> 30) * 0xBF58476D1CE4E5B9;
-    z = (z ^ z >> 27) * 0x94D049BB133111EB;
-    return z ^ z >> 31;
-}
-
-static size_t below(size_t n)
-{
-    return (size_t)(next_random() % n);
-}
-
-struct buffer {
-    uint8_t bytes[LENT_MAX];
-    size_t length;
-};
+static uint64_t seed = 1, calls, seen[256];
 
 /* What is given, and what the call may write. */
 struct call {
@@ -45,12 +27,6 @@ static void fail(const struct call *c, const char *what)
     printf("seed %" PRIu64 ", call %" PRIu64 ", with %zu, %zu, %zu and %zu bytes lent: %s\n", seed, calls, c->source.length,
            c->lengths.length, c->out.length, c->records.length, what);
     exit(1);
-}
-
-static struct lent lend_buffer(const struct buffer *b)
-{
-    uint64_t choice = next_random();
-    return lend((enum placement)(choice % PLACEMENTS), b->bytes, b->length, choice >> 8 & 255);
 }
 
 /* Makes the call on buffers placed at random; `after` gets what it left. */
@@ -67,11 +43,6 @@ static tecelume_result make_placed(const struct call *c, struct call *after)
     take_back(&out, after->out.bytes);
     take_back(&records, after->records.bytes);
     return result;
-}
-
-static bool alike(const struct buffer *one, const struct buffer *other, size_t from, size_t length)
-{
-    return from >= length || memcmp(one->bytes + from, other->bytes + from, length - from) == 0;
 }
 
 static void judge(const struct call *c, const struct call *after, tecelume_result result)

@@ -1,4 +1,5 @@
-/* Wrong libraries for header.c, allocator.c, captures.c and judge.c. The linker puts these functions in front of the true ones (--wrap); the environment's WRONG names the one
+/* Wrong libraries for header.c, batch.c, allocator.c, captures.c and judge.c; wrong_payloads.c has those of messages. The linker puts these functions in
+ * front of the true ones (--wrap); the environment's WRONG names the one
  * thing that is wrong, or is the number of the one call whose answer is. tests/c/sentences says which sentence each must break. */
 #include <stdbool.h>
 #include <stdio.h>
@@ -7,20 +8,20 @@
 
 #include "seal.h"
 #include "tecelume.h"
+#include "wrong.h"
 
 enum { GATHERED_COUNT = 8, TIME_SIZE = 8, ENTRIES = 9, TABLE = 26, ENTRY = 17 }; /* places in an allocator's state */
-enum { START = 0x80, END = 0x40, TOGGLE = 0x20, TRANSFER_ID = 31, ID_AT = 55, SWITCH_DELAY = 1000000, OTHER = 99 /* a number that no call answers */ };
+enum { START = 0x80, END = 0x40, TOGGLE = 0x20, TRANSFER_ID = 31, ID_AT = 55, SWITCH_DELAY = 1000000 };
 /* of the first session: how many bytes it has gathered, the transfer ID that it expects, the toggle and twice the interface; free blocks */
 enum { GATHERED = 1168, EXPECTED = 1170, FLAGS = 1171, FREE = 776, FREE_SIZE = 8 };
 
-static bool is(const char *name)
+bool is(const char *name)
 {
     const char *wrong = getenv("WRONG");
     return wrong != NULL && strcmp(wrong, name) == 0;
 }
 
-/* The right answer, or the wrong one if this is the call. */
-static uint64_t answer(uint64_t right, uint64_t wrong)
+uint64_t answer(uint64_t right, uint64_t wrong)
 {
     static unsigned calls;
     char number[16];
@@ -258,6 +259,115 @@ uint64_t __wrap_tecelume_receive_word(uint8_t *state, size_t state_len, uint32_t
         counted = time;
     touch(number, state, out, out_len);
     return answer(wrong == number ? word : wrong, OTHER);
+}
+
+/* ---- several frames ---- */
+
+enum { RECORDS = 64 };
+
+/* What a batch is done on: records that may be changed, and the true call. */
+struct batch {
+    uint8_t *state, *results, *out, records[(RECORDS + 1) * TECELUME_ARRIVAL_SIZE];
+    size_t state_len, records_len, results_len, out_len;
+};
+
+uint64_t __real_tecelume_receive_many_word(uint8_t *state, size_t state_len, const uint8_t *records, size_t records_len, uint8_t *results,
+                                           size_t results_len, uint8_t *out, size_t out_len);
+
+static uint64_t receive_many(const struct batch *b)
+{
+    return __real_tecelume_receive_many_word(b->state, b->state_len, b->records, b->records_len, b->results, b->results_len, b->out, b->out_len);
+}
+
+static size_t payload_length(const struct batch *b, size_t i)
+{
+    return tecelume_length(tecelume_result_at(b->results, i));
+}
+
+/* The records as a wrong library reads them. */
+static void change_records(struct batch *b)
+{
+    for (size_t i = 0; i < b->records_len / TECELUME_ARRIVAL_SIZE; i++) {
+        uint8_t *record = b->records + i * TECELUME_ARRIVAL_SIZE;
+        if (is("batch-ignores-interfaces"))
+            record[12] = 0;
+        if (is("batch-cuts-lengths") && record[13] > 8)
+            record[13] = 8;
+    }
+    if (is("batch-forgets-a-frame") && b->records_len >= 2 * TECELUME_ARRIVAL_SIZE)
+        memcpy(b->records, b->records + TECELUME_ARRIVAL_SIZE, TECELUME_ARRIVAL_SIZE);
+    if (is("batch-reads-a-part-of-a-record"))
+        b->records_len += TECELUME_ARRIVAL_SIZE - 1;
+}
+
+/* Record by record, up to one after which a wrong library ends; each with the front of the output buffer, or what is left of it. */
+static uint64_t receive_one_by_one(struct batch *b)
+{
+    struct batch one = *b;
+    size_t used = 0, past = 0, most = b->records_len / TECELUME_ARRIVAL_SIZE;
+    size_t least = is("batch-needs-511-bytes") ? TECELUME_OUTPUT_SIZE - 1 : is("batch-needs-513-bytes") ? TECELUME_OUTPUT_SIZE + 1 : TECELUME_OUTPUT_SIZE;
+    bool ends = false;
+    one.records_len = TECELUME_ARRIVAL_SIZE;
+    while (used < most && (used + 1) * TECELUME_RESULT_SIZE <= b->results_len && !ends) {
+        memcpy(one.records, b->records + used * TECELUME_ARRIVAL_SIZE, TECELUME_ARRIVAL_SIZE);
+        one.results = b->results + used * TECELUME_RESULT_SIZE;
+        one.results_len = TECELUME_RESULT_SIZE;
+        one.out = b->out + (is("batch-writes-over-payloads") ? 0 : past);
+        one.out_len = b->out_len - past;
+        if (tecelume_number((tecelume_result){receive_many(&one)}) != TECELUME_SUCCESS)
+            return TECELUME_STATE_FAULT;
+        size_t length = payload_length(&one, 0);
+        uint32_t number = tecelume_number(tecelume_result_at(one.results, 0));
+        past += length;
+        used++;
+        ends = (length > 0 && (is("batch-ends-at-every-payload") || b->out_len - past < least)) ||
+               (is("batch-ends-at-an-empty-payload") && number == TECELUME_HANDED_OUT && length == 0) ||
+               (is("batch-ends-at-a-refusal") && number == TECELUME_DATA_LENGTH);
+    }
+    return (uint64_t)used << 8;
+}
+
+static bool is_one_by_one(void)
+{
+    return is("batch-writes-over-payloads") || is("batch-ends-at-every-payload") || is("batch-ends-at-an-empty-payload") ||
+           is("batch-ends-at-a-refusal") || is("batch-needs-511-bytes") || is("batch-needs-513-bytes");
+}
+
+static uint64_t receive_many_wrongly(struct batch *b)
+{
+    change_records(b);
+    uint64_t word = is_one_by_one() ? receive_one_by_one(b) : receive_many(b);
+    size_t used = (size_t)(word >> 8), past = 0;
+    for (size_t i = 0; i < used; i++)
+        past += payload_length(b, i);
+    if (word == TECELUME_STATE_FAULT) {
+        if (is("batch-fault-writes-a-result") && b->results_len > 0)
+            b->results[0] = TECELUME_STATE_FAULT;
+        return is("batch-fault-not-told") || (is("batch-fault-with-records-only") && b->records_len == 0) ? TECELUME_SUCCESS : word;
+    }
+    if (is("batch-touches-results-after-the-last") && used * TECELUME_RESULT_SIZE < b->results_len)
+        b->results[used * TECELUME_RESULT_SIZE] ^= 1;
+    if (is("batch-touches-output-after-payloads") && past < b->out_len)
+        b->out[past] ^= 1;
+    return word + (is("batch-counts-one-more") ? 256 : 0);
+}
+
+uint64_t __wrap_tecelume_receive_many_word(uint8_t *state, size_t state_len, const uint8_t *records, size_t records_len, uint8_t *results,
+                                           size_t results_len, uint8_t *out, size_t out_len);
+uint64_t __wrap_tecelume_receive_many_word(uint8_t *state, size_t state_len, const uint8_t *records, size_t records_len, uint8_t *results,
+                                           size_t results_len, uint8_t *out, size_t out_len)
+{
+    static struct batch b;
+    b.state = state;
+    b.results = results;
+    b.out = out;
+    b.state_len = state_len;
+    b.records_len = records_len;
+    b.results_len = results_len;
+    b.out_len = out_len;
+    if (records_len > 0)
+        memcpy(b.records, records, records_len);
+    return answer(receive_many_wrongly(&b), OTHER);
 }
 
 /* ---- sending ---- */

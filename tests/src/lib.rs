@@ -2,6 +2,7 @@
 //! alone (docs/RULES.md), to be compared with the proved one.
 
 pub mod allocator;
+pub mod batch;
 pub mod binary16;
 pub mod bits;
 pub mod blocks;
@@ -18,6 +19,7 @@ pub mod map;
 pub mod messages;
 pub mod patch;
 pub mod receive;
+pub mod rows;
 pub mod send;
 pub mod session;
 pub mod state;

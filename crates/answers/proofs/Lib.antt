@@ -1,2 +1,3 @@
 pub mod Reception
 pub mod Sending
+pub mod Words

@@ -1,3 +1,4 @@
 pub mod Setup
 pub mod Reception
 pub mod Sending
+pub mod Word

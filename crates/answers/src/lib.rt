@@ -1,5 +1,7 @@
 // What the calls of the transport answer (RULES 13.1): an enum for each, with its number. What a reader has to tell apart is the number and, of a
 // reception, the transfer that was handed out.
+pub mod word;
+
 ghost use mathlib.Core.Path.{_≡_};
 ghost use Prim.Native.Nat.{_<_};
 ghost use Rattle.answers.specs.Reception.{reasonNumber, numberOf, noTransfer, transferIn};

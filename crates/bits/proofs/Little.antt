@@ -3,6 +3,7 @@ use mathlib.Core.Path.{_≡_, refl, ap}
 use mathlib.Core.List.{List, [], _∷_, _++_}
 use Prim.Native.Nat.{ℕ, zero, suc, _+_, _*_, _-_, _/_, _%_, _^_, _≤_, _<_}
 use native.Mathlib.Nat.{pow-suc, pow-le-pow-right, sub-zero}
+use native.Mathlib.Numerals.{add-one}
 use native.Mathlib.Omega.{arith}
 use lib.Dec.{lit<}
 use lib.ListN.{length, getD, replicate}
@@ -52,6 +53,61 @@ leBytes-le (b ∷ bs) h =
 pub le-one : (m : List ℕ) (at : ℕ) → at < length m → le (span m at 1) ≡ getD m at 0
 unfolding le
 le-one m at h = rw (drop-cons m at 0) (omega arith)
+
+-- a byte and those after it
+le-more : (m : List ℕ) (at n : ℕ) → at < length m → le (span m at (suc n)) ≡ getD m at 0 + 256 * le (span m (at + 1) n)
+unfolding le
+le-more m at n h = rw (drop-cons m at 0, add-one)
+
+-- two bytes
+pub le-two : (m : List ℕ) (at : ℕ) → at + 2 ≤ length m → le (span m at 2) ≡ getD m at 0 + 256 * getD m (at + 1) 0
+le-two m at h = omega (arith, le-more m at 1 (omega arith), le-one m (at + 1) (omega arith))
+
+-- four bytes and those after them
+pub le-four : (m : List ℕ) (at n : ℕ) → at + 4 ≤ length m
+    → le (span m at (suc (suc (suc (suc n)))))
+    ≡ getD m at 0 + 256 * getD m (at + 1) 0 + 65536 * getD m (at + 2) 0 + 16777216 * getD m (at + 3) 0 + 4294967296 * le (span m (at + 4) n)
+le-four m at n h =
+    let a : at + 1 + 1 ≡ at + 2 = omega arith in
+    let b : at + 2 + 1 ≡ at + 3 = omega arith in
+    let d : at + 3 + 1 ≡ at + 4 = omega arith in
+    omega (
+      arith,
+      le-more m at (suc (suc (suc n))) (omega arith),
+      rw a at (le-more m (at + 1) (suc (suc n)) (omega arith)),
+      rw b at (le-more m (at + 2) (suc n) (omega arith)),
+      rw d at (le-more m (at + 3) n (omega arith)),
+    )
+
+-- the same by the number of the four
+pub le-low : (m : List ℕ) (at n : ℕ) → at + 4 ≤ length m → le (span m at (suc (suc (suc (suc n))))) ≡ le (span m at 4) + 4294967296 * le (span m (at + 4) n)
+unfolding le
+le-low m at n h = omega (arith, le-four m at n h, le-four m at 0 h)
+
+-- the lowest bytes of a number do not see the rest of it
+low-byte : (v : ℕ) → (v % 4294967296 % 256 ≡ v % 256) × (v % 4294967296 / 256 ≡ v / 256 % 16777216)
+low-byte v = (omega arith, omega arith)
+
+low-byte-2 : (v : ℕ) → (v % 16777216 % 256 ≡ v % 256) × (v % 16777216 / 256 ≡ v / 256 % 65536)
+low-byte-2 v = (omega arith, omega arith)
+
+low-byte-3 : (v : ℕ) → (v % 65536 % 256 ≡ v % 256) × (v % 65536 / 256 % 256 ≡ v / 256 % 256)
+low-byte-3 v = (omega arith, omega arith)
+
+-- the lowest four bytes of a number and the next ones
+pub leBytes-four : (n v : ℕ) → leBytes (suc (suc (suc (suc n)))) v ≡ leBytes 4 (v % 4294967296) ++ leBytes n (v / 4294967296)
+unfolding leBytes
+leBytes-four n v =
+    let f : v / 256 / 256 / 256 / 256 ≡ v / 4294967296 = omega arith in
+    rw (
+      low-byte v .0,
+      low-byte v .1,
+      low-byte-2 (v / 256) .0,
+      low-byte-2 (v / 256) .1,
+      low-byte-3 (v / 256 / 256) .0,
+      low-byte-3 (v / 256 / 256) .1,
+      f,
+    )
 
 zero-bytes : (n : ℕ) → leBytes n 0 ≡ replicate n 0
 unfolding leBytes

@@ -1,14 +1,15 @@
 -- Laws of `span` and `splice`: what a store at a place leaves there and elsewhere.
 use mathlib.Core.Path.{_≡_, refl, sym, ap, ap₂, _∙_}
 use mathlib.Core.Bool.{Bool, true, false}
-use mathlib.Core.List.{List, _++_, append-assoc, append-nil}
+use mathlib.Core.List.{List, [], _∷_, _++_, append-assoc, append-nil}
 use Prim.Native.Nat.{ℕ, _+_, _-_, _≤_, _<_}
 use native.Mathlib.Nat.{add-sub-cancel-left}
+use native.Mathlib.Numerals.{add-one}
 use native.Mathlib.Omega.{arith}
 use borrow.Author.Tests.{ltb-true, ltb-false}
 use lib.Dec.{ltb}
-use lib.ListN.{length, take, drop, length-append, length-drop, take-append-drop}
-use lib.Seq.{length-take-le, take-at, drop-at, take-append-le, take-take, take-add, drop-drop, drop-length, drop-append-le}
+use lib.ListN.{length, take, drop, set, length-append, length-drop, take-append-drop}
+use lib.Seq.{length-take-le, set-split, take-at, drop-at, take-append-le, take-take, take-add, drop-drop, drop-length, drop-append-le}
 use borrow.Rule.Slice.PartMut.{putMid}
 use Rattle.bits.specs.Part.{span, splice}
 
@@ -79,6 +80,10 @@ pub splice-next : {A : Type 0} (m m' m'' : List A) (at n : ℕ) (ys zs : List A)
     → m'' ≡ splice m' (at + n) zs → m'' ≡ splice m at (ys ++ zs)
 splice-next m m' m'' at n ys zs h l e f =
     f ∙ rw (e, ← l) (splice-splice m at ys (omega arith) zs)
+
+-- one element stored
+pub set-splice : {A : Type 0} (m : List A) (i : ℕ) (x : A) → i < length m → set m i x ≡ splice m i (x ∷ [])
+set-splice m i x h = rw (add-one, set-split m i x)
 
 -- a store over all of m
 pub splice-all : {A : Type 0} (m ys : List A) → length ys ≡ length m → splice m 0 ys ≡ ys

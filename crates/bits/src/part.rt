@@ -31,3 +31,15 @@ pub fn copy_span(dst: &mut [u8], at: usize, src: &[u8], from: usize, n: usize)
 {
     copy_at(dst, at, &src[from..from + n]);
 }
+
+// Internal. The same as `copy_at`, for the bytes of a frame. Seven is what most frames carry, and a copy of a known length needs no call.
+pub fn copy_few(dst: &mut [u8], at: usize, src: &[u8])
+    requires { ⌜ at + length (now src) ≤ length (now dst) ⌝ }
+    ensures { λ _. ⌜ now (dst .exit) ≡ splice (now (dst .entry)) at (now (src .entry)) ⌝ }
+{
+    if src.len() == 7 {
+        copy_span(dst, at, src, 0, 7);
+        return;
+    }
+    copy_at(dst, at, src);
+}

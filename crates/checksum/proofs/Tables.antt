@@ -10,7 +10,7 @@ use lib.ListN.{getD}
 use lib.Pow.{pow-pos, pow-mono, split}
 use Rattle.checksum.specs.Crc.{Crc, shift, shifts, crcByte}
 use Rattle.checksum.specs.Crc16.{ccitt}
-use Rattle.checksum.specs.inside.Table.{crcNibble, IsTable}
+use Rattle.checksum.specs.inside.Table.{IsTable}
 use Rattle.checksum.proofs.Below.{all, agree}
 use Rattle.checksum.proofs.Xor.{xor-assoc, xor-times}
 use Rattle.checksum.proofs.Linear.{shifts-xor}
@@ -50,23 +50,18 @@ module _ (k : Crc) where
       ∙ ap (λ (z : ℕ). bitXor z (shifts k n (bitXor hi x * 2 ^ j))) (shifts-low n j lo e l)
 
 -- the step in code: the shift drops what the table is asked about
-pub nibble-step : (c n e : ℕ) → c < 65536 → e ≡ shifts ccitt 4 (bitXor (c / 4096) n * 4096) → bitXor (c * 16 % 65536) e ≡ crcNibble c n
-nibble-step c n e h q =
-    let m : c * 16 % 65536 ≡ c % 4096 * 16 = omega arith in
-    ap₂ bitXor m q ∙ sym (by-table ccitt 4 12 c n refl)
+pub byte-step : (c b e : ℕ) → c < 65536 → e ≡ crcByte ccitt 0 (bitXor (c / 256) b) → bitXor (c * 256 % 65536) e ≡ crcByte ccitt c b
+unfolding crcByte
+byte-step c b e h q = let m : c * 256 % 65536 ≡ c % 256 * 256 = omega arith in ap₂ bitXor m q ∙ sym (by-table ccitt 8 8 c b refl)
 
--- two steps a byte: its low nibble goes up four places with the high one's step, and nothing of it leaves
-pub two-steps : (c b : ℕ) → b < 256 → crcByte ccitt c b ≡ crcNibble (crcNibble c (b / 16)) (b % 16)
-unfolding crcByte shifts
-two-steps c b h =
-    let hi = b / 16 * 4096 in
-    let lo = b % 16 * 256 in
-    let l : lo < 2 ^ 12 = omega arith in
-    let s : b * 256 ≡ hi + lo = omega arith in
-    let u : shifts ccitt 4 lo ≡ b % 16 * 4096 = shifts-low ccitt 4 12 lo refl l ∙ omega arith in
-    ap (shifts ccitt 4)
-    (ap (shifts ccitt 4) (ap (bitXor c) (s ∙ sym (xor-shifted (b / 16) 12 lo l)) ∙ sym (xor-assoc c hi lo)) ∙ shifts-xor ccitt 4 (bitXor c hi) lo
-    ∙ ap (bitXor (crcNibble c (b / 16))) u)
+-- two entries of the table for the byte x, both found by x alone
+abbrev pub entries : ℕ → ℕ
+entries x = bitXor (shifts ccitt 4 (x / 16 * 4096) * 16 % 65536) (shifts ccitt 4 (bitXor (x % 16) (x / 16) * 4096))
+
+-- they make its step: a test that antt computes for each byte
+pub two-steps : (x : ℕ) → x < 256 → entries x ≡ crcByte ccitt 0 x
+unfolding shift shifts crcByte
+two-steps = agree entries (crcByte ccitt 0) 256 tt
 
 pub is-table : (t : List ℕ) → T (all (λ i. eqb (getD t i 0) (shifts ccitt 4 (i * 4096))) 16) → IsTable t
 is-table t h = record { entry = agree (λ i. getD t i 0) (λ i. shifts ccitt 4 (i * 4096)) 16 h }

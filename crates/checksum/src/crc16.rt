@@ -4,7 +4,7 @@ ghost use Prim.Native.Nat.{_+_, _≤_, _<_};
 ghost use lib.ListN.{length};
 ghost use Rattle.checksum.specs.Crc.{crcByte, crcOver};
 ghost use Rattle.checksum.specs.Crc16.{ccitt, checksum};
-ghost use Rattle.checksum.specs.inside.Table.{crcNibble, IsTable};
+ghost use Rattle.checksum.specs.inside.Table.{IsTable};
 ghost use Rattle.bits.specs.Little.{leBytes};
 ghost use Rattle.bits.specs.Part.{span};
 
@@ -15,23 +15,24 @@ fn table() -> [u16; 16]
     TABLE
 }
 
-// The register c after four bits more, a nibble.
-fn nibble(t: &[u16; 16], c: u16, n: u8) -> u16
+// The register after the byte x, from 0: one entry for its high four bits, moved up by the second step, and one for its low four. What the second
+// step finds at the top is the low four bits and, since each entry has its own number there, the high four: neither entry waits for the other.
+fn two(t: &[u16; 16], x: u8) -> u16
     requires { ⌜ IsTable (now t) ⌝ }
-    requires { ⌜ n < 16 ⌝ }
-    ensures { λ r. ⌜ r ≡ crcNibble c n ⌝ }
+    ensures { λ r. ⌜ r ≡ crcByte ccitt 0 x ⌝ }
 {
-    let i = (c >> 12) ^ (n as u16);
-    (c << 4) ^ t[i as usize]
+    let h = x / 16;
+    let l = x % 16;
+    (t[h as usize] << 4) ^ t[(l ^ h) as usize]
 }
 
-// The register c after one byte more: its high nibble, then its low one.
+// The register c after one byte more.
 fn step(t: &[u16; 16], c: u16, b: u8) -> u16
     requires { ⌜ IsTable (now t) ⌝ }
     ensures { λ r. ⌜ r ≡ crcByte ccitt c b ⌝ }
 {
-    let h = nibble(t, c, b / 16);
-    nibble(t, h, b % 16)
+    let x = (c >> 8) ^ (b as u16);
+    (c << 8) ^ two(t, x as u8)
 }
 
 // The register c after the bytes of s.

@@ -33,9 +33,9 @@ pub fn put(out: &mut [u8], at: usize, id: u32, n: usize, word: u64)
     requires { ⌜ (at + frameRecord ≤ length (now out)) × (n ≤ frameData) ⌝ }
     ensures { λ _. ⌜ now (out .exit) ≡ splice (now (out .entry)) at (leBytes 4 id ++ (n ∷ leBytes 8 word)) ⌝ }
 {
-    bits::le::put_at(out, at, 4, id as u64);
+    bits::le::put_u32(out, at, id);
     bits::le::put_at(out, at + 4, 1, n as u64);
-    bits::le::put_at(out, at + 5, 8, word);
+    bits::le::put_u64(out, at + 5, word);
 }
 
 // Internal. The record from `at` on.

@@ -30,7 +30,7 @@ pub fn time(map: &[u8], i: usize) -> u64
     requires { ⌜ (i < entriesMax) × (size ≤ length (now map)) ⌝ }
     ensures { λ r. ⌜ r ≡ timeAt (now (map .entry)) i ⌝ }
 {
-    bits::le::get_at(map, TIMES_AT + i * 8, 8)
+    bits::le::get_u64(map, TIMES_AT + i * 8)
 }
 
 // Internal. The transfer ID that the entry of the key k gets at place i: 0 if it is new there.
@@ -49,7 +49,7 @@ pub fn store(map: &mut [u8], i: usize, k: u32, next: u8, time: u64)
     requires { ⌜ ((i < entriesMax) × (size ≤ length (now map))) × (k % 2 ≡ 1) ⌝ }
     ensures { λ _. ⌜ now (map .exit) ≡ withSlot (now (map .entry)) i (rules.used (topicOfKey k) next time) ⌝ }
 {
-    bits::le::put_at(map, KEYS_AT + i * 4, 4, k as u64);
-    bits::le::put_at(map, TIMES_AT + i * 8, 8, time);
+    bits::le::put_u32(map, KEYS_AT + i * 4, k);
+    bits::le::put_u64(map, TIMES_AT + i * 8, time);
     bits::le::put_at(map, NEXTS_AT + i, 1, next as u64);
 }

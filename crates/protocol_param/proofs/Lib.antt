@@ -1,5 +1,5 @@
 mod ValueFacts
-mod WriteFacts
+pub mod WriteFacts
 mod GetSetFacts
 mod OpcodeFacts
 mod Trips

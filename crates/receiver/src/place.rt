@@ -47,7 +47,11 @@ fn over(c: Session, f: Incoming) -> Session
     requires { ⌜ (c .expected < 32) × (c .len ≤ gatheredMax) ⌝ }
     ensures { λ r. ⌜ r ≡ idle (next (c .expected)) (pick (f .head .start) (f .time) (c .time)) (c .follows) ⌝ }
 {
-    c.take(f.head.start, f.time, 0).close()
+    let next = (c.expected + 1) % 32;
+    if f.head.start {
+        return Session::fresh(next, f.time, c.follows);
+    }
+    Session::fresh(next, c.time, c.follows)
 }
 
 // The last of several frames: the bytes in hand and its own are gathered, and the checksum decides.

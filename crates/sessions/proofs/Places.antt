@@ -14,7 +14,7 @@ use Rattle.rules.specs.Blocks.{need, blocksIn}
 use Rattle.rules.specs.Limits.{sessionsMax, gatheredMax, blocksEach}
 use Rattle.rules.specs.Table.{empty}
 use Rattle.session.specs.declared.Session.{Session}
-use Rattle.sessions.specs.inside.Place.{codedAt, codeStores}
+use Rattle.sessions.specs.inside.Place.{codeStores}
 use Rattle.state.proofs.Held.{count-le, table-held, small}
 use Rattle.state.proofs.Table.{place-of}
 use Rattle.state.specs.Layout.{freeAt, streamKeysAt, blockListsAt, freeOf, keyAt, countAt, blocksOf, placeAt, placesOf}
@@ -28,18 +28,14 @@ given-none m i h z = ap (includingAll (freeOf m)) (sym (ap blocksIn (place-of m 
     none : placeAt m i ≡ empty
     none = rw (eq-eqb (keyAt m i) 0 z)
 
-module _ (m : List ℕ) (r : Ready m) (bytes : Octets m) (i : ℕ) (inTable : i < sessionsMax) (some : keyAt m i ≡ 0 → ⊥) (c : Session) (is : c ≡ codedAt m i) where
-  len-is : c .len ≡ countAt m i
-  unfolding codedAt
-  len-is = ap (λ (x : Session). x .len) is
+module _ (m : List ℕ) (r : Ready m) (bytes : Octets m) (i : ℕ) (inTable : i < sessionsMax) (some : keyAt m i ≡ 0 → ⊥) (len : ℕ) (is : len ≡ countAt m i) where
+  pub count-of : len ≤ gatheredMax
+  count-of = omega (arith, is, count-le m r bytes i inTable some)
 
-  pub count-of : c .len ≤ gatheredMax
-  count-of = omega (arith, len-is, count-le m r bytes i inTable some)
-
-  module _ (n : ℕ) (e : n ≡ need (c .len)) where
+  module _ (n : ℕ) (e : n ≡ need len) where
     listed : span m (blockListsAt + i * blocksEach) n ≡ blocksOf m i
     unfolding blocksOf
-    listed = ap (span m (blockListsAt + i * blocksEach)) (e ∙ ap need len-is)
+    listed = ap (span m (blockListsAt + i * blocksEach)) (e ∙ ap need is)
 
     pub listed-small : (n ≤ blocksEach) × Small (span m (blockListsAt + i * blocksEach) n)
     listed-small = (omega (arith, e, count-of), subst Small (sym listed) (small m r bytes i inTable some))

@@ -37,9 +37,8 @@ some-hand (x ∷ g) = sym (lt-ltb 0 (suc (length g)) (omega arith))
 -- ── the test ──
 
 module _ (m : List ℕ) (t i : ℕ) (b : Bool) (e : b ≡ oldAt m t i) where
-  pub stale-yes : b ≡ true → (c : coded.Session) → c ≡ codedAt m i → ltb 0 (c .len) ≡ staleAt m t i
-  unfolding codedAt
-  stale-yes y c q = ap (λ (x : coded.Session). ltb 0 (x .len)) q ∙ ap (λ (x : Bool). x && ltb 0 (countAt m i)) (sym y ∙ e)
+  pub stale-yes : b ≡ true → (n : ℕ) → n ≡ countAt m i → ltb 0 n ≡ staleAt m t i
+  stale-yes y n q = ap (ltb 0) q ∙ ap (λ (x : Bool). x && ltb 0 (countAt m i)) (sym y ∙ e)
 
   pub stale-no : b ≡ false → false ≡ staleAt m t i
   stale-no n = ap (λ (x : Bool). x && ltb 0 (countAt m i)) (sym n ∙ e)

@@ -31,7 +31,7 @@ pub fn free(state: &[u8]) -> u64
     requires { ⌜ size ≤ length (now state) ⌝ }
     ensures { λ r. ⌜ r ≡ freeOf (now (state .entry)) ⌝ }
 {
-    bits::le::get_at(state, FREE_AT, 8)
+    bits::le::get_u64(state, FREE_AT)
 }
 
 // Internal. The number is that of a block, and not in the set.
@@ -74,7 +74,7 @@ pub fn claim(state: &mut [u8], i: usize, n: usize)
 {
     let all = free(state);
     let b = set::lowest(all);
-    bits::le::put_at(state, FREE_AT, 8, set::exclude(all, b));
+    bits::le::put_u64(state, FREE_AT, set::exclude(all, b));
     bits::le::put_at(state, BLOCK_LISTS_AT + i * BLOCKS_EACH + n, 1, b as u64);
 }
 
@@ -86,7 +86,7 @@ pub fn append(state: &mut [u8], i: usize, n: usize, p: &[u8])
     let at = BLOCK_LISTS_AT + i * BLOCKS_EACH + n / BLOCK;
     let start = BLOCKS_AT + state[at] as usize * BLOCK + n % BLOCK;
     if n % BLOCK + p.len() <= BLOCK {
-        bits::part::copy_at(state, start, p);
+        bits::part::copy_few(state, start, p);
         return;
     }
     let m = BLOCK - n % BLOCK;

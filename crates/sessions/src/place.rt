@@ -18,7 +18,7 @@ ghost use Rattle.rules.specs.Session.{waiting};
 ghost use Rattle.rules.specs.Table.{empty, held};
 ghost use Rattle.sessions.specs.inside.Blocks.{Appends, tailStores};
 ghost use Rattle.sessions.specs.inside.Place.{codedAt, codeStores, Waits, Grows, grown};
-ghost use Rattle.state.specs.Layout.{size, freeOf, keyAt, timeAt, placesOf};
+ghost use Rattle.state.specs.Layout.{size, freeOf, keyAt, timeAt, countAt, placesOf};
 ghost use Rattle.state.specs.Place.{one, written};
 ghost use Rattle.state.specs.inside.Ready.{Ready};
 
@@ -35,7 +35,15 @@ pub fn time(state: &[u8], i: usize) -> u64
     requires { ⌜ (i < sessionsMax) × (size ≤ length (now state)) ⌝ }
     ensures { λ r. ⌜ r ≡ timeAt (now (state .entry)) i ⌝ }
 {
-    bits::le::get_at(state, TIMES_AT + i * 8, 8)
+    bits::le::get_u64(state, TIMES_AT + i * 8)
+}
+
+// Internal. How many bytes the session of place i has in hand.
+pub fn count(state: &[u8], i: usize) -> usize
+    requires { ⌜ (i < sessionsMax) × (size ≤ length (now state)) ⌝ }
+    ensures { λ r. ⌜ r ≡ countAt (now (state .entry)) i ⌝ }
+{
+    bits::le::get_u16(state, CONTROLS_AT + i * 4) as usize
 }
 
 // Internal. The session of place i.
@@ -44,7 +52,7 @@ pub fn load(state: &[u8], i: usize) -> Session
     ensures { λ r. ⌜ r ≡ codedAt (now (state .entry)) i ⌝ }
 {
     let at = CONTROLS_AT + i * 4;
-    let len = bits::le::get_at(state, at, 2) as usize;
+    let len = count(state, i);
     let since = time(state, i);
     let flags = state[at + 3];
     Session {
@@ -57,11 +65,11 @@ pub fn load(state: &[u8], i: usize) -> Session
 }
 
 // The flags of a session: the toggle, and twice the interface that it follows.
-fn flags(c: Session) -> u64
+fn flags(c: Session) -> u32
     requires { ⌜ c .follows < interfacesMax ⌝ }
     ensures { λ r. ⌜ r ≡ one (c .toggle) + 2 * c .follows ⌝ }
 {
-    let follows = bits::le::wide(c.follows);
+    let follows = c.follows as u32;
     if c.toggle {
         return 1 + 2 * follows;
     }
@@ -73,9 +81,9 @@ fn write(state: &mut [u8], i: usize, c: Session)
     requires { ⌜ ((i < sessionsMax) × (size ≤ length (now state))) × ((c .len ≤ gatheredMax) × ((c .expected < 32) × (c .follows < interfacesMax))) ⌝ }
     ensures { λ _. ⌜ now (state .exit) ≡ storeAll (now (state .entry)) (codeStores i c) ⌝ }
 {
-    let word = c.len as u64 + 65536 * (bits::le::wide(c.expected) + 256 * flags(c));
-    bits::le::put_at(state, CONTROLS_AT + i * 4, 4, word);
-    bits::le::put_at(state, TIMES_AT + i * 8, 8, c.time);
+    let word = c.len as u32 + 65536 * (c.expected as u32 + 256 * flags(c));
+    bits::le::put_u32(state, CONTROLS_AT + i * 4, word);
+    bits::le::put_u64(state, TIMES_AT + i * 8, c.time);
 }
 
 // The free blocks once place i has given back its own.
@@ -86,7 +94,7 @@ fn free_after(state: &[u8], i: usize) -> u64
     if key(state, i) == 0 {
         return gathered::free_with(state, i, 0);
     }
-    let len = load(state, i).len;
+    let len = count(state, i);
     gathered::free_with(state, i, gathered::needed(len))
 }
 
@@ -96,8 +104,8 @@ pub fn wait(state: &mut [u8], i: usize, k: u32, c: Session)
     ensures { λ _. ⌜ now (state .exit) ≡ written (now (state .entry)) (set (placesOf (now (state .entry))) i (held (streamOfKey k) (waiting (c .expected) (c .time) (c .follows)) [])) ⌝ }
 {
     let free = free_after(state, i);
-    bits::le::put_at(state, FREE_AT, 8, free);
-    bits::le::put_at(state, STREAM_KEYS_AT + i * 4, 4, k as u64);
+    bits::le::put_u64(state, FREE_AT, free);
+    bits::le::put_u32(state, STREAM_KEYS_AT + i * 4, k);
     write(state, i, c);
 }
 

@@ -23,7 +23,7 @@ fn is_stale(state: &[u8], t: u64, i: usize) -> bool
     ensures { λ r. ⌜ r ≡ staleAt (now (state .entry)) t i ⌝ }
 {
     if scan::is_old(state, t, i) {
-        return 0 < place::load(state, i).len;
+        return 0 < place::count(state, i);
     }
     false
 }

@@ -33,7 +33,7 @@ ghost use Rattle.frame.specs.Key.{streamOfKey};
 ghost use Rattle.state.specs.Sound.{soundState};
 
 // Above the last flags in range with any expected transfer ID: the toggle and twice the interface, 256 times.
-const FLAGS_END: u64 = 512 * INTERFACES as u64;
+const FLAGS_END: u32 = 512 * INTERFACES as u32;
 
 // The stream of a key is in range.
 fn stream_fits(k: u32) -> bool
@@ -54,7 +54,7 @@ fn stream_fits(k: u32) -> bool
 }
 
 // The control fields of a place with nothing in hand are in range. x: its expected transfer ID and 256 times its flags.
-fn idle_fits(x: u64) -> bool
+fn idle_fits(x: u32) -> bool
     ensures { λ r. ⌜ r ≡ (ltb (x % 512) 32 && ltb x 1536) ⌝ }
 {
     if x % 512 < 32 {
@@ -64,7 +64,7 @@ fn idle_fits(x: u64) -> bool
 }
 
 // The same with n bytes in hand, where the toggle may be 0 or 1.
-fn busy_fits(n: usize, x: u64) -> bool
+fn busy_fits(n: usize, x: u32) -> bool
     ensures { λ r. ⌜ r ≡ (leb n gatheredMax && (ltb (x % 256) 32 && ltb x 1536)) ⌝ }
 {
     if GATHERED < n {
@@ -108,8 +108,8 @@ fn claim_session(state: &[u8], i: usize, seen: u64) -> Claimed
     ensures { λ r. ⌜ r ≡ told (pick (controlFits (now (state .entry)) i) (claimed seen (blocksOf (now (state .entry)) i)) none) ⌝ }
 {
     let at = CONTROLS_AT + i * 4;
-    let n = bits::le::get_at(state, at, 2) as usize;
-    let x = bits::le::get_at(state, at + 2, 2);
+    let n = bits::le::get_u16(state, at) as usize;
+    let x = bits::le::get_u16(state, at + 2);
     if n == 0 {
         if idle_fits(x) {
             return Claimed::Blocks(seen);

@@ -28,7 +28,7 @@ pub fn find(state: &[u8], kind: u32, type_id: u32) -> Subscribed
     let n = state[SUBSCRIPTION_COUNT_AT] as usize;
     let j = keys::find(state, SUBSCRIPTION_KEYS_AT, n, kind * 65536 + type_id);
     if j < n {
-        return Subscribed::Under(bits::le::get_at(state, SIGNATURES_AT + j * 8, 8));
+        return Subscribed::Under(bits::le::get_u64(state, SIGNATURES_AT + j * 8));
     }
     Subscribed::Not
 }

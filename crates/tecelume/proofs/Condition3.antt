@@ -5,8 +5,10 @@ use Prim.Native.Nat.{ℕ}
 use lib.ListN.{take}
 use Rattle.tecelume.specs.Condition3.{WordReading, wordReading, wordBytes}
 use Rattle.tecelume.specs.Entry.{packed}
-use Rattle.tecelume.specs.Word.{wordOf}
-use Rattle.tecelume.proofs.Words.{told-fits, received-fits, read-back}
+use Rattle.answers.proofs.Words.{told-fits}
+use Rattle.answers.specs.Word.{wordOf}
+use Rattle.batch.proofs.Fits.{received-fits}
+use Rattle.tecelume.proofs.Words.{read-back}
 use Rattle.answers.proofs.Reception.{told-number}
 use Rattle.answers.specs.Reception.{told}
 use Rattle.guarantees.proofs.Condition3.{view}

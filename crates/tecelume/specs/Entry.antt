@@ -2,9 +2,11 @@
 use mathlib.Core.List.{List}
 use Prim.Native.Nat.{ℕ, _+_, _*_, _^_}
 use Rattle.answers.specs.Setup.{numberOf}
-use Rattle.tecelume.specs.Word.{wordOf, sentWord, allocationWord, signaturesWord, conversionWord}
+use Rattle.answers.specs.Word.{wordOf}
+use Rattle.tecelume.specs.Word.{manyWord, sentWord, allocationWord, signaturesWord, conversionWord}
 use Rattle.allocator.specs.Allocate as allocate
 use Rattle.allocator.specs.Setup as allocator
+use Rattle.batch.specs.Many as many
 use Rattle.dsdl_signature.specs.Call as signing
 use Rattle.capture_convert.specs.Convert as convert
 use Rattle.id_map.specs.Setup as map
@@ -43,6 +45,16 @@ entry w m out = record { word = w; state = m; out = out }
 -- the Rattle call's result, its answer as a word
 abbrev pub packed : receive.Result → Called
 packed r = entry (wordOf (r .answer)) (r .state) (r .out)
+
+-- of several receptions: the result words too
+pub record CalledMany : Type 0 where
+  pub word : ℕ
+  pub state : List ℕ
+  pub results : List ℕ
+  pub out : List ℕ
+
+abbrev pub packedMany : many.Called → CalledMany
+packedMany r = record { word = manyWord (r .answer); state = r .state; results = r .results; out = r .out }
 
 abbrev pub packedSend : send.Result → Called
 packedSend r = entry (sentWord (r .answer)) (r .map) (r .out)

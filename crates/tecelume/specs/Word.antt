@@ -1,5 +1,4 @@
--- RULES 13.3: the result word of a reception. The number in bits 0 to 7; with 1 the payload's length in 8 to 17, the transfer type in 18 and 19,
--- the type ID in 20 to 35, source in 36 to 42, destination in 43 to 49, priority in 50 to 54 and transfer ID in 55 to 59. All other bits are 0.
+-- RULES 13.3: the result words of the calls, and what C reads in each. That of a reception is defined in `answers`.
 use mathlib.Core.Path.{_≡_}
 use mathlib.Core.Bool.{true, _||_}
 use mathlib.Core.List.{List}
@@ -11,11 +10,13 @@ use Rattle.receiver.specs.Receive.{received}
 use Rattle.answers.specs.Reception.{numberOf, transferIn}
 use Rattle.answers.specs.declared.Answer.{Answer}
 use Rattle.answers.specs.declared.Sent.{Sent}
-use Rattle.answers.specs.declared.Transfer.{Transfer}
 use Rattle.answers.specs.Sending as sending
+use Rattle.answers.specs.Word.{wordOf, Fits}
 use Rattle.allocator.specs.Answer as allocator
 use Rattle.allocator.specs.Calls.{Call, resultOf}
 use Rattle.allocator.specs.declared.answer.Answer as allocator-answer
+use Rattle.batch.specs.Answer as many
+use Rattle.batch.specs.declared.Progress.{Progress}
 use Rattle.patch.specs.Answer as patch
 use Rattle.patch.specs.Patch.{patches}
 use Rattle.patch.specs.declared.Patched.{Patched}
@@ -26,31 +27,7 @@ use Rattle.capture_convert.specs.declared.answer.Converted.{Converted}
 use Rattle.judge_capture.specs.Answer as judge
 use Rattle.judge_capture.specs.Judge.{judges}
 use Rattle.judge_capture.specs.declared.verdict.Verdict.{Verdict}
-use Rattle.rules.specs.Limits.{payloadMax}
 use Rattle.rules.specs.Range.{answered}
-
-unfoldable pub transferWord : Transfer → ℕ
-transferWord t =
-    t .len * 2 ^ 8 + (t .«transfer_type» * 2 ^ 18 + (t .«type_id» * 2 ^ 20 + (t .source * 2 ^ 36
-    + (t .destination * 2 ^ 43 + (t .priority * 2 ^ 50 + t .transfer * 2 ^ 55)))))
-
-unfoldable pub wordOf : Answer → ℕ
-wordOf a = numberOf a + transferWord (transferIn a)
-
--- ── every answer fits (RULES 4.10): no field runs into the next ──
-
-pub record TransferFits (t : Transfer) : Type 0 where
-  pub len : t .len ≤ payloadMax
-  pub transferType : t .«transfer_type» < 3
-  pub type : t .«type_id» < 65536
-  pub source : t .source < 128
-  pub destination : t .destination < 128
-  pub priority : t .priority < 32
-  pub transfer : t .transfer < 32
-
-pub record Fits (a : Answer) : Type 0 where
-  pub number : numberOf a < 2 ^ 8
-  pub transfer : TransferFits (transferIn a)
 
 -- what C reads in a word: the number, and the length of the payload
 abbrev pub numberIn : ℕ → ℕ
@@ -75,6 +52,16 @@ pub record WordLaws : Type 0 where
   pub numbers : (m : List ℕ) (f : Arrival) (out : List ℕ) → (answered (numberOf (received m f out .answer)) || eqb (numberOf (received m f out .answer)) 20) ≡ true
   pub fits : (m : List ℕ) (f : Arrival) (out : List ℕ) → Fits (received m f out .answer)
   pub back : (a : Answer) → Fits a → ReadBack (wordOf a) a
+
+-- ── the result word of several receptions (RULES 5.8): the number in bits 0 to 7, the records used up from bit 8 on ──
+
+abbrev pub manyWord : Progress → ℕ
+manyWord a = many.numberOf a + many.usedIn a * 2 ^ 8
+
+-- C reads both
+pub record ManyWordLaws : Type 0 where
+  pub number : (a : Progress) → numberIn (manyWord a) ≡ many.numberOf a
+  pub used : (a : Progress) → manyWord a / 2 ^ 8 ≡ many.usedIn a
 
 -- ── the result word of a send: the number in bits 0 to 7, the frames in 8 to 14, their transfer ID in 55 to 59 as that of a reception ──
 

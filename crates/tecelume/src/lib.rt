@@ -1,4 +1,5 @@
 // The C interface: extern "C" entry points around the proved calls. include/tecelume.h documents them.
+mod messages;
 mod word;
 
 use allocator::Request;
@@ -7,11 +8,12 @@ use transport::Outgoing;
 ghost use mathlib.Core.Path.{_≡_};
 ghost use Prim.Native.Nat.{_%_};
 ghost use Rattle.tecelume.specs.Condition3.{wordBytes};
-ghost use Rattle.tecelume.specs.Entry.{version, numbered, numberedMap, numberedAllocator, entry, packed, packedSend, packedAllocation, signed, packedSignatures, packedConversion};
-ghost use Rattle.tecelume.specs.Word.{patchWord, verdictWord, WordLaws, PatchWordLaws, AllocationWordLaws, SignaturesWordLaws, ConversionWordLaws, VerdictWordLaws};
+ghost use Rattle.tecelume.specs.Entry.{version, numbered, numberedMap, numberedAllocator, entry, packed, packedMany, packedSend, packedAllocation, signed, packedSignatures, packedConversion};
+ghost use Rattle.tecelume.specs.Word.{patchWord, verdictWord, WordLaws, ManyWordLaws, PatchWordLaws, AllocationWordLaws, SignaturesWordLaws, ConversionWordLaws, VerdictWordLaws};
 ghost use Rattle.allocator.specs.Allocate.{allocated};
 ghost use Rattle.allocator.specs.Setup as allocator;
 ghost use Rattle.allocator_table.specs.Layout as table;
+ghost use Rattle.batch.specs.Many.{receivedMany};
 ghost use Rattle.dsdl_signature.specs.Call.{signatures};
 ghost use Rattle.capture_convert.specs.Convert.{captured, uncaptured};
 ghost use Rattle.id_map.specs.Layout as layout;
@@ -62,7 +64,20 @@ pub extern "C" fn tecelume_receive_word(
 ) -> u64
     ensures { λ r. ⌜ entry r (now (state .exit)) (now (out .exit)) ≡ packed (received (now (state .entry)) (arrivalOf id (now (frame .entry)) interface time) (now (out .entry))) ⌝ }
 {
-    word::of_answer(transport::receive(state, id, frame, interface, time, out))
+    answers::word::of_answer(transport::receive(state, id, frame, interface, time, out))
+}
+
+// Several frames on a lent state: the number and, from bit 8 on, how many records were used up; a result word for each in `results`.
+#[no_mangle]
+pub extern "C" fn tecelume_receive_many_word(
+    state: &mut [u8],
+    records: &[u8],
+    results: &mut [u8],
+    out: &mut [u8],
+) -> u64
+    ensures { λ r. ⌜ record { word = r; state = now (state .exit); results = now (results .exit); out = now (out .exit) } ≡ packedMany (receivedMany (now (state .entry)) (now (records .entry)) (now (results .entry)) (now (out .entry))) ⌝ }
+{
+    word::of_progress(transport::receive_many(state, records, results, out))
 }
 
 // The bytes of a transfer-ID map.
@@ -218,6 +233,11 @@ pub extern "C" fn tecelume_judge_word(subscriptions: &[u8], capture: &[u8]) -> u
 // What the result word of a reception holds: a number of RULES 4.10 or 20; and every value that is handed out fits its field and is read back from it.
 pub fn word_fields()
     ensures { λ _. ⌜ WordLaws ⌝ }
+{}
+
+// What the result word of several receptions holds, the same way.
+pub fn many_word_fields()
+    ensures { λ _. ⌜ ManyWordLaws ⌝ }
 {}
 
 // What the result word of a correction holds, the same way.

@@ -2,36 +2,24 @@
 use allocator::answer;
 use capture_convert::answer::Converted;
 use judge_capture::verdict::Verdict;
-use transport::Answer;
 use transport::Patched;
+use transport::Progress;
 use transport::Sent;
-use transport::Transfer;
 ghost use mathlib.Core.Path.{_≡_};
 ghost use Prim.Native.Nat.{_^_, _≤_, _<_};
 ghost use Rattle.allocator.specs.Laws.{Range};
 ghost use Rattle.answers.specs.Sending.{dispatchIn};
+ghost use Rattle.batch.specs.Answer.{usedIn};
+ghost use Rattle.batch.specs.Layout.{recordsMax};
 ghost use Rattle.capture_convert.specs.Answer.{lengthIn};
 ghost use Rattle.judge_capture.specs.Answer.{frameOf};
-ghost use Rattle.tecelume.specs.Word.{transferWord, wordOf, sentWord, patchWord, allocationWord, signaturesWord, conversionWord, verdictWord, TransferFits, Fits};
+ghost use Rattle.tecelume.specs.Word.{manyWord, sentWord, patchWord, allocationWord, signaturesWord, conversionWord, verdictWord};
 
-fn of_transfer(t: Transfer) -> u64
-    requires { ⌜ TransferFits t ⌝ }
-    ensures { λ r. ⌜ r ≡ transferWord t ⌝ }
+pub fn of_progress(a: Progress) -> u64
+    requires { ⌜ usedIn a ≤ recordsMax ⌝ }
+    ensures { λ r. ⌜ r ≡ manyWord a ⌝ }
 {
-    t.len as u64 * 0x100
-        + (t.transfer_type as u64 * 0x40000
-            + (t.type_id as u64 * 0x100000
-                + (t.source as u64 * 0x1000000000
-                    + (t.destination as u64 * 0x80000000000
-                        + (t.priority as u64 * 0x4000000000000
-                            + t.transfer as u64 * 0x80000000000000)))))
-}
-
-pub fn of_answer(a: Answer) -> u64
-    requires { ⌜ Fits a ⌝ }
-    ensures { λ r. ⌜ r ≡ wordOf a ⌝ }
-{
-    a.number() + of_transfer(a.transfer())
+    a.number() as u64 + a.used() as u64 * 0x100
 }
 
 pub fn of_sent(a: Sent) -> u64

@@ -3,6 +3,8 @@ pub use answers::Answer;
 pub use answers::Outcome;
 pub use answers::Sent;
 pub use answers::Transfer;
+pub use batch::Progress;
+pub use batch::receive_many;
 pub use id_map::setup as map_setup;
 pub use id_map::size as map_size;
 pub use patch::Patched;

@@ -1,15 +1,10 @@
--- RULES 6.4: the transfer checksum four bits at a time, and its table.
+-- RULES 6.4: the table of the transfer checksum.
 use mathlib.Core.Path.{_≡_}
 use mathlib.Core.List.{List}
 use Prim.Native.Nat.{ℕ, _*_, _<_}
-use lib.Bits.{bitXor}
 use lib.ListN.{getD}
 use Rattle.checksum.specs.Crc.{shifts}
 use Rattle.checksum.specs.Crc16.{ccitt}
-
--- a nibble comes in at the top, and four places go up
-abbrev pub crcNibble : ℕ → ℕ → ℕ
-crcNibble c n = shifts ccitt 4 (bitXor c (n * 4096))
 
 -- the rule of the table: entry i is what four places up make of i at the top of the register
 pub record IsTable (t : List ℕ) : Type 0 where

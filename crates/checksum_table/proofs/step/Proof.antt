@@ -3,7 +3,7 @@ use Prim.Native.Nat.{ℕ, _/_, _<_}
 use native.Mathlib.Omega.{arith}
 use borrow.Author.Needs.{needs}
 use lib.Bits.{bitXor, xor-lt}
-use Rattle.checksum_table.proofs.Bytes.{byte-step}
+use Rattle.checksum.proofs.Tables.{byte-step}
 use Rattle.checksum_table.proofs.step.Statement.{statement}
 use Rattle.checksum_table.proofs.step.Tie as tie
 

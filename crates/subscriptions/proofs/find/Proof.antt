@@ -44,20 +44,20 @@ add-find c = search needs
 find-requires : tie.Need-find-requires
 find-requires c κs = omega (arith, c .shared-slice-known2 .given subscriptionCountAt)
 
-mul-get-at : tie.Need-mul-get-at
-mul-get-at c = omega (arith, c .before .before .shared-slice-known2 .given subscriptionCountAt)
+mul-get-u64 : tie.Need-mul-get-u64
+mul-get-u64 c = omega (arith, c .before .before .shared-slice-known2 .given subscriptionCountAt)
 
-add-get-at : tie.Need-add-get-at
-add-get-at c = omega (arith, c .before .before .shared-slice-known2 .given subscriptionCountAt)
+add-get-u64 : tie.Need-add-get-u64
+add-get-u64 c = omega (arith, c .before .before .shared-slice-known2 .given subscriptionCountAt)
 
-get-at-requires : tie.Need-get-at-requires
-get-at-requires c κs = omega (arith, c .before .before .shared-slice-known2 .given subscriptionCountAt)
+get-u64-requires : tie.Need-get-u64-requires
+get-u64-requires c κs = omega (arith, c .before .before .shared-slice-known2 .given subscriptionCountAt)
 
 returns : tie.Need-returns
 returns c =
     let f = c .before .before in
     let s = f .before .before .before in
-    under (s .args .state .now) (s .args .kind) (s .args .type-id) (omega arith) (f .find .result) (f .find .ensures) (c .before .if1 .taken) (c .get-at .result) (c .get-at .ensures)
+    under (s .args .state .now) (s .args .kind) (s .args .type-id) (omega arith) (f .find .result) (f .find .ensures) (c .before .if1 .taken) (c .get-u64 .result) (c .get-u64 .ensures)
 
 returns-2 : tie.Need-returns-2
 returns-2 c =
@@ -74,8 +74,8 @@ find-spec =
     mul-find
     add-find
     find-requires
-    mul-get-at
-    add-get-at
-    get-at-requires
+    mul-get-u64
+    add-get-u64
+    get-u64-requires
     returns
     returns-2)

@@ -3,8 +3,8 @@ use mathlib.Core.Path.{sym, ap, subst, _∙_}
 use Prim.Native.Nat.{ℕ}
 use denote.Ref.{now}
 use Rattle.tecelume.specs.Entry.{entry, packed}
-use Rattle.tecelume.specs.Word.{Fits}
-use Rattle.tecelume.proofs.Words.{received-fits}
+use Rattle.answers.specs.Word.{Fits}
+use Rattle.batch.proofs.Fits.{received-fits}
 use Rattle.receiver.specs.Receive.{Result, arrivalOf}
 use borrow.Author.Needs.{needs}
 use Rattle.tecelume.proofs.tecelume_receive_word.Statement.{statement}

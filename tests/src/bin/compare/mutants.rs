@@ -6,7 +6,9 @@ use crate::entry_points::{
     frames_in, receive, send, Allocate, Allocating, Arrival, Departure, EntryPoints, Receive,
     Reception, Send, Sending, Serialization, REFERENCE,
 };
-use crate::{block_mutants, clipping_mutants, interface_mutants, parameter_mutants, reason_mutants};
+use crate::{
+    block_mutants, clipping_mutants, interface_mutants, parameter_mutants, reason_mutants,
+};
 use reference::bits::Refusal;
 use reference::blocks::BLOCK;
 use reference::codec::{Decode, Encode};

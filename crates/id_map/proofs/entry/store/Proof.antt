@@ -19,29 +19,29 @@ stored m m₁ m₂ m₃ i k next time odd byte e₁ e₂ e₃ =
     let b : next % 256 ≡ next = omega arith in
     rw (e₃, e₂, e₁, b, key-topic k odd)
 
-mul-put-at : tie.Need-mul-put-at
-mul-put-at c = search needs
+mul-put-u32 : tie.Need-mul-put-u32
+mul-put-u32 c = search needs
+
+add-put-u32 : tie.Need-add-put-u32
+add-put-u32 c = search needs
+
+put-u32-requires : tie.Need-put-u32-requires
+put-u32-requires c κs = search needs
+
+mul-put-u64 : tie.Need-mul-put-u64
+mul-put-u64 c = search needs
+
+add-put-u64 : tie.Need-add-put-u64
+add-put-u64 c = search needs
+
+put-u64-requires : tie.Need-put-u64-requires
+put-u64-requires c κs = search needs
 
 add-put-at : tie.Need-add-put-at
 add-put-at c = search needs
 
 put-at-requires : tie.Need-put-at-requires
 put-at-requires c κs = search needs
-
-mul-put-at-2 : tie.Need-mul-put-at-2
-mul-put-at-2 c = search needs
-
-add-put-at-2 : tie.Need-add-put-at-2
-add-put-at-2 c = search needs
-
-put-at-requires-2 : tie.Need-put-at-requires-2
-put-at-requires-2 c κs = search needs
-
-add-put-at-3 : tie.Need-add-put-at-3
-add-put-at-3 c = search needs
-
-put-at-requires-3 : tie.Need-put-at-requires-3
-put-at-requires-3 c κs = search needs
 
 same-length : tie.Need-same-length
 same-length c = search needs
@@ -52,20 +52,20 @@ returns c =
     let p₂ = p₃ .before .before .before .before in
     let p₁ = p₂ .before .before .before .before in
     let s = p₁ .before .before .before in
-    stored (s .args .map .now) (p₁ .put-at .last .0) (p₂ .put-at2 .last .0) (p₃ .put-at3 .last .0) (s .args .i) (s .args .k) (s .args .next) (s .args .time)
-    (omega arith) (omega arith) (p₁ .put-at .ensures) (p₂ .put-at2 .ensures) (p₃ .put-at3 .ensures)
+    stored (s .args .map .now) (p₁ .put-u32 .last .0) (p₂ .put-u64 .last .0) (p₃ .put-at .last .0) (s .args .i) (s .args .k) (s .args .next) (s .args .time)
+    (omega arith) (omega arith) (p₁ .put-u32 .ensures) (p₂ .put-u64 .ensures) (p₃ .put-at .ensures)
 
 pub store-spec : {M : Type 1} → statement M
 store-spec =
     tie.close
     (tie.spec
-    mul-put-at
+    mul-put-u32
+    add-put-u32
+    put-u32-requires
+    mul-put-u64
+    add-put-u64
+    put-u64-requires
     add-put-at
     put-at-requires
-    mul-put-at-2
-    add-put-at-2
-    put-at-requires-2
-    add-put-at-3
-    put-at-requires-3
     same-length
     returns)

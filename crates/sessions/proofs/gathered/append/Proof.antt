@@ -42,8 +42,8 @@ add-start-2 c = search needs
 add-if1 : tie.Need-add-if1
 add-if1 c = search needs
 
-copy-at-requires : tie.Need-copy-at-requires
-copy-at-requires c κs = search needs
+copy-few-requires : tie.Need-copy-few-requires
+copy-few-requires c κs = search needs
 
 same-length : tie.Need-same-length
 same-length c = search needs
@@ -51,7 +51,7 @@ same-length c = search needs
 returns : tie.Need-returns
 returns c =
     let a = c .before .before .before .before .before .before .before .before .args in
-    c .before .before .copy-at .ensures ∙ one-tail (a .state .now) (a .i) (a .n) (a .p .now) (c .before .before .before .before .if1 .taken)
+    c .before .before .copy-few .ensures ∙ one-tail (a .state .now) (a .i) (a .n) (a .p .now) (c .before .before .before .before .if1 .taken)
 
 sub-m : tie.Need-sub-m
 sub-m c = search needs
@@ -103,7 +103,7 @@ append-spec =
     add-start
     add-start-2
     add-if1
-    copy-at-requires
+    copy-few-requires
     same-length
     returns
     sub-m

@@ -4,12 +4,12 @@ use borrow.Author.Needs.{needs}
 use Rattle.sessions.proofs.gathered.free.Statement.{statement}
 use Rattle.sessions.proofs.gathered.free.Tie as tie
 
-get-at-requires : tie.Need-get-at-requires
-get-at-requires c κs = search needs
+get-u64-requires : tie.Need-get-u64-requires
+get-u64-requires c κs = search needs
 
 returns : tie.Need-returns
 unfolding freeOf
-returns c = c .get-at .ensures
+returns c = c .get-u64 .ensures
 
 pub free-spec : {M : Type 1} → statement M
-free-spec = tie.close (tie.spec get-at-requires returns)
+free-spec = tie.close (tie.spec get-u64-requires returns)

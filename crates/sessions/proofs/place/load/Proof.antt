@@ -12,8 +12,8 @@ mul-at c = search needs
 add-at : tie.Need-add-at
 add-at c = search needs
 
-get-at-requires : tie.Need-get-at-requires
-get-at-requires c κs = search needs
+count-requires : tie.Need-count-requires
+count-requires c κs = search needs
 
 time-requires : tie.Need-time-requires
 time-requires c κs = search needs
@@ -27,8 +27,8 @@ shared-slice-read-flags c = search needs
 add-t7 : tie.Need-add-t7
 add-t7 c = search needs
 
-shared-slice-read-t10 : tie.Need-shared-slice-read-t10
-shared-slice-read-t10 c = search needs
+shared-slice-read-t9 : tie.Need-shared-slice-read-t9
+shared-slice-read-t9 c = search needs
 
 returns : tie.Need-returns
 unfolding countAt
@@ -38,7 +38,7 @@ returns c =
     let a = g .before .before .args in
     let m = a .state .now in
     let f = fields m (a .i) (omega arith) (omega arith) in
-    loaded m (a .i) _ _ _ _ (f .0) (f .1) (t .time .ensures) (g .get-at .ensures)
+    loaded m (a .i) _ _ _ _ (f .0) (f .1) (t .time .ensures) (g .count .ensures)
 
 pub load-spec : {M : Type 1} → statement M
 load-spec =
@@ -46,10 +46,10 @@ load-spec =
     (tie.spec
     mul-at
     add-at
-    get-at-requires
+    count-requires
     time-requires
     add-flags
     shared-slice-read-flags
     add-t7
-    shared-slice-read-t10
+    shared-slice-read-t9
     returns)

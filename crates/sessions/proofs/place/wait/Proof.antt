@@ -11,22 +11,22 @@ use Rattle.sessions.proofs.place.wait.Tie as tie
 free-after-requires : tie.Need-free-after-requires
 free-after-requires c κs = (c .before .before .pre .ready, c .before .before .pre .place)
 
-put-at-requires : tie.Need-put-at-requires
-put-at-requires c κs = omega (arith, c .before .before .before .before .pre .ready .long)
+put-u64-requires : tie.Need-put-u64-requires
+put-u64-requires c κs = omega (arith, c .before .before .before .before .pre .ready .long)
 
-mul-put-at : tie.Need-mul-put-at
-mul-put-at c = omega (arith, c .before .before .before .before .before .before .before .before .pre .place)
+mul-put-u32 : tie.Need-mul-put-u32
+mul-put-u32 c = omega (arith, c .before .before .before .before .before .before .before .before .pre .place)
 
-add-put-at : tie.Need-add-put-at
-add-put-at c = omega (arith, c .before .before .before .before .before .before .before .before .pre .place)
+add-put-u32 : tie.Need-add-put-u32
+add-put-u32 c = omega (arith, c .before .before .before .before .before .before .before .before .pre .place)
 
-put-at-requires-2 : tie.Need-put-at-requires-2
-put-at-requires-2 c κs = omega (arith, c .before .before .before .before .before .before .before .before .pre .ready .long, c .before .before .before .before .before .before .before .before .pre .place, c .before .before .before .put-at .kept .0)
+put-u32-requires : tie.Need-put-u32-requires
+put-u32-requires c κs = omega (arith, c .before .before .before .before .before .before .before .before .pre .ready .long, c .before .before .before .before .before .before .before .before .pre .place, c .before .before .before .put-u64 .kept .0)
 
 write-requires : tie.Need-write-requires
 write-requires c κs =
     let p = c .before .before .before .before .before .before .before .before .before .before .before .before .pre in
-    ((p .place, omega (arith, p .ready .long, c .before .before .before .put-at2 .kept .0, c .before .before .before .before .before .before .before .put-at .kept .0)), (omega (arith, p .len), (p .expected, p .follows)))
+    ((p .place, omega (arith, p .ready .long, c .before .before .before .put-u32 .kept .0, c .before .before .before .before .before .before .before .put-u64 .kept .0)), (omega (arith, p .len), (p .expected, p .follows)))
 
 same-length : tie.Need-same-length
 same-length c = search needs
@@ -36,7 +36,7 @@ returns c =
     let a = c .before .before .before .before .before .before .before .before .before .before .before .before .before .before .before .args in
     let p = c .before .before .before .before .before .before .before .before .before .before .before .before .before .before .before .pre in
     let o = octets-all (a .state .now) (λ i. omega (arith, c .before .before .before .before .before .before .before .before .before .before .before .before .before .before .slice-known .given i)) in
-    waits (a .state .now) _ _ _ (a .i) (a .k) (a .c) (c .before .before .before .before .before .before .before .before .before .before .before .before .free-after .result) (c .before .before .before .before .before .before .before .before .before .before .before .before .free-after .ensures) (c .before .before .before .before .before .before .before .before .before .before .put-at .ensures) (c .before .before .before .before .before .before .put-at2 .ensures) (c .before .before .write .ensures)
+    waits (a .state .now) _ _ _ (a .i) (a .k) (a .c) (c .before .before .before .before .before .before .before .before .before .before .before .before .free-after .result) (c .before .before .before .before .before .before .before .before .before .before .before .before .free-after .ensures) (c .before .before .before .before .before .before .before .before .before .before .put-u64 .ensures) (c .before .before .before .before .before .before .put-u32 .ensures) (c .before .before .write .ensures)
     ∙ waited (a .state .now) (a .i) (a .k) (a .c) o (search needs) (search needs) p
 
 pub wait-spec : {M : Type 1} → statement M
@@ -44,10 +44,10 @@ wait-spec =
     tie.close
     (tie.spec
     free-after-requires
-    put-at-requires
-    mul-put-at
-    add-put-at
-    put-at-requires-2
+    put-u64-requires
+    mul-put-u32
+    add-put-u32
+    put-u32-requires
     write-requires
     same-length
     returns)

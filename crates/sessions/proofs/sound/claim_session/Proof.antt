@@ -18,14 +18,17 @@ mul-at c = search needs
 add-at : tie.Need-add-at
 add-at c = search needs
 
-get-at-requires : tie.Need-get-at-requires
-get-at-requires c κs = search needs
+get-u16-requires : tie.Need-get-u16-requires
+get-u16-requires c κs = search needs
 
-add-get-at : tie.Need-add-get-at
-add-get-at c = search needs
+cast-n : tie.Need-cast-n
+cast-n c = search needs
 
-get-at-requires-2 : tie.Need-get-at-requires-2
-get-at-requires-2 c κs = search needs
+add-get-u16 : tie.Need-add-get-u16
+add-get-u16 c = search needs
+
+get-u16-requires-2 : tie.Need-get-u16-requires-2
+get-u16-requires-2 c κs = search needs
 
 idle-fits-requires : tie.Need-idle-fits-requires
 idle-fits-requires c κs = search needs
@@ -36,8 +39,8 @@ returns c =
     let a = c .before .before .before .before .before .before .args in
     let m = a .state .now in
     let o = octets-all m (λ j. omega (arith, c .before .before .before .before .before .shared-slice-known .given j)) in
-    let g = c .before .before .before .before .get-at in
-    let h = c .before .before .before .get-at2 in
+    let g = c .before .before .before .before .get-u16 in
+    let h = c .before .before .before .get-u162 in
     idle-claimed m (a .i) (a .seen) (g .result) (g .ensures) (c .before .before .if1 .taken) (sym (idle-is m (a .i) (g .result) (h .result) o (omega arith) (omega arith) (g .ensures) (h .ensures) (c .before .before .if1 .taken)) ∙ sym (c .before .idle-fits .ensures) ∙ c .if2 .taken)
 
 returns-2 : tie.Need-returns-2
@@ -46,8 +49,8 @@ returns-2 c =
     let a = c .before .before .before .before .before .before .args in
     let m = a .state .now in
     let o = octets-all m (λ j. omega (arith, c .before .before .before .before .before .shared-slice-known .given j)) in
-    let g = c .before .before .before .before .get-at in
-    let h = c .before .before .before .get-at2 in
+    let g = c .before .before .before .before .get-u16 in
+    let h = c .before .before .before .get-u162 in
     unfit-claimed m (a .i) (a .seen) (sym (idle-is m (a .i) (g .result) (h .result) o (omega arith) (omega arith) (g .ensures) (h .ensures) (c .before .before .if1 .taken)) ∙ sym (c .before .idle-fits .ensures) ∙ c .if2 .left)
 
 busy-fits-requires : tie.Need-busy-fits-requires
@@ -58,8 +61,8 @@ needed-requires c κs = few-claimed _ _ (sym (c .before .busy-fits .ensures) ∙
 
 claim-requires : tie.Need-claim-requires
 claim-requires c κs =
-    let x = c .before .before .before .before .get-at2 .result in
-    let few = few-claimed (c .before .before .before .before .before .get-at .result) (ltb (x % 256) 32 && ltb x 1536) (sym (c .before .before .busy-fits .ensures) ∙ c .before .if3 .taken) in
+    let x = c .before .before .before .before .get-u162 .result in
+    let few = few-claimed (c .before .before .before .before .before .get-u16 .result) (ltb (x % 256) 32 && ltb x 1536) (sym (c .before .before .busy-fits .ensures) ∙ c .before .if3 .taken) in
     (c .before .before .before .before .before .before .before .pre, omega (arith, c .needed .ensures, few))
 
 returns-3 : tie.Need-returns-3
@@ -68,8 +71,8 @@ returns-3 c =
     let a = c .before .before .before .before .before .before .before .before .args in
     let m = a .state .now in
     let o = octets-all m (λ j. omega (arith, c .before .before .before .before .before .before .before .shared-slice-known .given j)) in
-    let g = c .before .before .before .before .before .before .get-at in
-    let h = c .before .before .before .before .before .get-at2 in
+    let g = c .before .before .before .before .before .before .get-u16 in
+    let h = c .before .before .before .before .before .get-u162 in
     c .claim .ensures
     ∙ some-claimed m (a .i) (a .seen) (g .result) (g .ensures) (sym (busy-is m (a .i) (g .result) (h .result) o (omega arith) (omega arith) (g .ensures) (h .ensures) (c .before .before .before .before .if1 .left)) ∙ sym (c .before .before .before .busy-fits .ensures) ∙ c .before .before .if3 .taken)
     (c .before .needed .result) (c .before .needed .ensures)
@@ -80,8 +83,8 @@ returns-4 c =
     let a = c .before .before .before .before .before .before .args in
     let m = a .state .now in
     let o = octets-all m (λ j. omega (arith, c .before .before .before .before .before .shared-slice-known .given j)) in
-    let g = c .before .before .before .before .get-at in
-    let h = c .before .before .before .get-at2 in
+    let g = c .before .before .before .before .get-u16 in
+    let h = c .before .before .before .get-u162 in
     unfit-claimed m (a .i) (a .seen) (sym (busy-is m (a .i) (g .result) (h .result) o (omega arith) (omega arith) (g .ensures) (h .ensures) (c .before .before .if1 .left)) ∙ sym (c .before .busy-fits .ensures) ∙ c .if3 .left)
 
 pub claim-session-spec : {M : Type 1} → statement M
@@ -90,9 +93,10 @@ claim-session-spec =
     (tie.spec
     mul-at
     add-at
-    get-at-requires
-    add-get-at
-    get-at-requires-2
+    get-u16-requires
+    cast-n
+    add-get-u16
+    get-u16-requires-2
     idle-fits-requires
     returns
     returns-2

@@ -1,0 +1,4 @@
+pub mod Fits
+pub mod One
+pub mod Turns
+pub mod Calls

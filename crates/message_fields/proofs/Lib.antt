@@ -1,0 +1,3 @@
+mod Floats
+mod Values
+mod Reals

@@ -1,0 +1,10 @@
+pub mod NodeStatus
+pub mod GetNodeInfo
+pub mod Allocation
+pub mod KeyValue
+pub mod LogMessage
+pub mod BatteryInfo
+pub mod RawCommand
+pub mod GetSet
+pub mod ExecuteOpcode
+pub mod inside
