@@ -14,17 +14,17 @@
  * Rules for the caller, which no call can check:
  *
  * - Pointer and length belong together: that many bytes may be read and, where the pointer is not const, written.
- * - The buffers of one call do not overlap.
+ * - The buffers of one call do not overlap. Only those that are const may, with each other: two lists of a message may be the same bytes.
  * - One call at a time on one state or map. Calls on different ones do not touch each other.
  * - From setup on, nothing but the library writes the state or the map. Neither holds pointers, so a copy of the whole works as well.
  *
- * Answer 20 helps where the last rule is broken. tecelume_receive, tecelume_send and tecelume_allocate first check that the state or map is
- * long enough, that no value in it is out of range, that no session has toggle 1 with nothing gathered, that no two entries are alike, that
- * each block of a receiver is free or in one session, and that an allocator's table is in order. If the check fails they refuse and leave it
- * as it was. So no call reaches outside the lent buffers, whatever was written there. A write that leaves all this in order is not noticed:
- * it counts as what was received, sent or handed out before. A stream recovers from it at its next start that is taken; the own ID and the
- * subscriptions do not recover, nor does an allocator's table. Memory of zeros that was never set up answers 20 as a state; as a map it is
- * one without entries, and as an allocator's state one with an empty table.
+ * Answer 20 helps where the last rule is broken. tecelume_receive, tecelume_receive_many, tecelume_send and tecelume_allocate first check that
+ * the state or map is long enough, that no value in it is out of range, that no session has toggle 1 with nothing gathered, that no two
+ * entries are alike, that each block of a receiver is free or in one session, and that an allocator's table is in order. If the check fails
+ * they refuse and leave it as it was. So no call reaches outside the lent buffers, whatever was written there. A write that leaves all this
+ * in order is not noticed: it counts as what was received, sent or handed out before. A stream recovers from it at its next start that is
+ * taken; the own ID and the subscriptions do not recover, nor does an allocator's table. Memory of zeros that was never set up answers 20 as
+ * a state; as a map it is one without entries, and as an allocator's state one with an empty table.
  *
  * docs/RULES.md in the repository has all rules in numbered sections; "RULES 4.5" below is one of them. */
 #ifndef TECELUME_H
@@ -179,7 +179,8 @@ uint32_t tecelume_version(void);
  *  43   signatures: more than 8 definitions, a text over 4096 bytes, lengths     give fewer, cut comments, give each name once
  *       past the source, or a name twice
  *
- * tecelume_judge also gives 2 to 5 and 7 as tecelume_receive does, for the frame that it names.
+ * tecelume_judge also gives 2 to 5 and 7 as tecelume_receive does, for the frame that it names. tecelume_receive_many itself gives 0 or 20; each
+ * frame has a number as from tecelume_receive in its own result.
  *
  * Under 2 to 9, 13 to 20, 22, 23, 25, 27, 31 to 34 and 40 to 43 a call leaves state, map, records, structs and out byte for byte as they were.
  * Under 11, 12, 26 and 30 tecelume_receive leaves out as it was. Of the sessions it changes the one of the frame's stream, under 30 only an
@@ -272,9 +273,9 @@ static inline const char *tecelume_text(uint32_t number)
 
 /* ---- results ---- */
 
-/* What tecelume_receive, tecelume_send, tecelume_patch, tecelume_allocate, tecelume_signatures, tecelume_capture, tecelume_uncapture,
- * tecelume_judge and the functions that encode messages give. It is a struct so that a comparison with a number does not compile: the number
- * answered is only a part of it. The functions below read it. */
+/* What tecelume_receive, tecelume_receive_many, tecelume_send, tecelume_patch, tecelume_allocate, tecelume_signatures, tecelume_capture,
+ * tecelume_uncapture, tecelume_judge and the functions that encode messages give. It is a struct so that a comparison with a number does not
+ * compile: the number answered is only a part of it. The functions below read it. */
 typedef struct {
     uint64_t word;
 } tecelume_result;
@@ -447,21 +448,23 @@ static inline uint8_t *tecelume_arrival(uint8_t *record, uint32_t id, const uint
 uint64_t tecelume_receive_many_word(uint8_t *state, size_t state_len, const uint8_t *records, size_t records_len, uint8_t *results,
                                     size_t results_len, uint8_t *out, size_t out_len);
 
-/* Receives frames one after the other, each as a call of tecelume_receive would, with one check of the state for all of them. It gives a
- * tecelume_result too.
+/* Receives frames one after the other, each as a call of tecelume_receive would, with one check of the state for all of them.
  *
  * Takes    state    as setup and earlier calls left it
  *          records  the frames in the order in which they came, as from tecelume_arrival. Bytes after the last whole record are not read
  *          results  TECELUME_RESULT_SIZE bytes for each record; with fewer, fewer records are used up
- *          out      at least TECELUME_OUTPUT_SIZE bytes, better more: see below
- * Gives    0: tecelume_used says how many records were used up, from the first on, perhaps none. tecelume_result_at gives the result of each,
- *          as tecelume_receive would have given it. The payloads of those that answer 1 are in out, one after the other from the front,
- *          each as long as its result says; bytes after them stay, and so do results after the last.
+ *          out      at least TECELUME_OUTPUT_SIZE bytes, better more: see below. With fewer, records are used up all the same, and their
+ *                   frames answer 8 where they get so far
+ * Gives    a result: 0, and tecelume_used of it says how many records were used up, from the first on: at least one, if there is one and room
+ *          for its result. tecelume_result_at gives the result of each, as tecelume_receive would have given it. The payloads of those that
+ *          answer 1 are in out, one after the other from the front, each as long as its result says; bytes after them stay, and so do
+ *          results after the last.
  *          The call ends with records left when a payload leaves fewer than TECELUME_OUTPUT_SIZE bytes of out: use the payloads, and call
  *          again with the rest. So with TECELUME_OUTPUT_SIZE bytes it ends at each payload that is not empty. To hear 32 single frames in
  *          one call, lend 32 * 7 bytes more. It also ends after TECELUME_RECORDS_MAX records.
  * Refuses  20: no record is used up, and nothing is written. What is wrong with a frame is in its own result.
- * Costs    the check for 20 once; then of each frame what tecelume_receive does after it. */
+ * Costs    the check for 20 once; then of each frame what tecelume_receive does after it. In libtecelume.a at most 2048 bytes of stack, besides
+ *          what memcpy and its like take. */
 static inline tecelume_result tecelume_receive_many(uint8_t *state, size_t state_len, const uint8_t *records, size_t records_len,
                                                     uint8_t *results, size_t results_len, uint8_t *out, size_t out_len)
 {
@@ -476,7 +479,7 @@ static inline size_t tecelume_used(tecelume_result result)
     return (size_t)(result.word >> 8);
 }
 
-/* The result of record i, of those used up. */
+/* The result of record i, of those used up. It is read as one of tecelume_receive is. */
 static inline tecelume_result tecelume_result_at(const uint8_t *results, size_t i)
 {
     const uint8_t *r = results + i * TECELUME_RESULT_SIZE;
@@ -626,17 +629,18 @@ static inline const uint8_t *tecelume_record_data(const uint8_t *record)
  * several fields is put together bit by bit: if out was never set, a memory checker may complain of it later, without cause.
  *
  * - A number that its field does not hold is written as the nearest that it holds (RULES 9.14): health 5 as 3, node ID 200 as 127. Members
- *   have 32 bits or more, so that C cuts no number before that.
+ *   have 32 bits or more, so that C cuts no number of 32 bits before that. C makes a large number of one below 0 in an unsigned member:
+ *   health -1 is written as 3, too.
  * - A list of bytes is a pointer and a length; no call copies it, and no zero ends it. Reading points into the payload, so what it gives is
  *   good as long as the payload is: of one from tecelume_receive, until the next call with the same out. In writing an empty list may be
- *   (NULL, 0).
+ *   (NULL, 0), and no list may overlap out: what was read is not written back into the payload's own buffer.
  * - A float of 16 bits is read exactly and written as the nearest there is, at most 65504; each NaN is read as the bits 0x7FC00000 and written
  *   as 0x7E00 (RULES 9.12). A float of 32 bits keeps its bits both ways, those of a NaN too.
  *
  * All are reentrant and need no state. On a Cortex-M4 they take up to 1,400 bytes of stack, most of them under 500. A linker leaves out what is
  * not called (-Wl,--gc-sections). */
 
-/* Data type IDs, of messages and then of services. */
+/* Data type IDs. A message and a service may have the same: tecelume_transfer_type tells them apart. */
 enum tecelume_type {
     TECELUME_NODE_STATUS = 341,
     TECELUME_ALLOCATION = 1,
@@ -644,7 +648,7 @@ enum tecelume_type {
     TECELUME_LOG_MESSAGE = 16383,
     TECELUME_BATTERY_INFO = 1092,
     TECELUME_RAW_COMMAND = 1030,
-    TECELUME_GET_NODE_INFO = 1,
+    TECELUME_GET_NODE_INFO = 1, /* this and the next two: services */
     TECELUME_GET_SET = 11,
     TECELUME_EXECUTE_OPCODE = 10
 };
@@ -687,6 +691,17 @@ enum tecelume_node_status_times {
     TECELUME_MIN_BROADCASTING_PERIOD_MS = 2,
     TECELUME_OFFLINE_TIMEOUT_MS = 3000
 };
+
+enum tecelume_allocation_times {
+    TECELUME_MAX_REQUEST_PERIOD_MS = 1000,
+    TECELUME_MIN_REQUEST_PERIOD_MS = 600,
+    TECELUME_MAX_FOLLOWUP_DELAY_MS = 400,
+    TECELUME_MIN_FOLLOWUP_DELAY_MS = 0,
+    TECELUME_FOLLOWUP_TIMEOUT_MS = 500
+};
+
+#define TECELUME_MAX_LENGTH_OF_UNIQUE_ID_IN_REQUEST 6
+#define TECELUME_ANY_NODE_ID 0
 
 enum tecelume_optional_field_flag {
     TECELUME_OPTIONAL_FIELD_FLAG_VCS_COMMIT = 1,
@@ -778,7 +793,7 @@ typedef struct {
 
 /* Message 1. Reading answers 15 and 16. */
 typedef struct {
-    uint32_t node_id;                 /* 0 to 127 */
+    uint32_t node_id;                 /* 0 to 127, TECELUME_ANY_NODE_ID */
     uint32_t first_part_of_unique_id; /* 0 or 1 */
     tecelume_bytes unique_id;         /* up to 16 bytes */
 } tecelume_allocation;
@@ -820,8 +835,8 @@ typedef struct {
     int32_t cmd[TECELUME_COMMANDS_MAX]; /* -8192 to 8191 */
 } tecelume_raw_command;
 
-/* The value of a parameter: the member that the tag names, and no other. Reading leaves the others 0 or empty, writing does not look at them.
- * A tag that no case has answers 27, in writing before any other refusal. */
+/* The value of a parameter: the member that the tag names, and no other. Reading leaves the others 0 or empty; writing does not look at them,
+ * so they need not be set. A tag that no case has answers 27, in writing before any other refusal. */
 typedef struct {
     uint32_t tag; /* enum tecelume_param_tag */
     int64_t integer_value;
@@ -1237,6 +1252,12 @@ static inline void tecelume_param_value_to(const tecelume_param_value *value, ui
         fields[1] = value->boolean_value;
 }
 
+/* Of a value that is no text, no bytes. */
+static inline tecelume_bytes tecelume_param_text(const tecelume_param_value *value)
+{
+    return value->tag == TECELUME_PARAM_STRING_VALUE ? value->string_value : tecelume_list(NULL, 0);
+}
+
 static inline uint32_t tecelume_decode_get_set_request(const uint8_t *payload, size_t payload_len, tecelume_get_set_request *message)
 {
     uint64_t fields[TECELUME_GET_SET_REQUEST_FIELDS];
@@ -1251,12 +1272,12 @@ static inline uint32_t tecelume_decode_get_set_request(const uint8_t *payload, s
 
 static inline tecelume_result tecelume_encode_get_set_request(const tecelume_get_set_request *message, uint8_t *out, size_t out_len)
 {
-    const tecelume_bytes *text = &message->value.string_value;
+    const tecelume_bytes text = tecelume_param_text(&message->value);
     uint64_t fields[TECELUME_GET_SET_REQUEST_FIELDS] = {0};
     tecelume_result result;
     fields[0] = message->index;
     tecelume_param_value_to(&message->value, fields + 1);
-    result.word = tecelume_encode_get_set_request_fields(fields, TECELUME_GET_SET_REQUEST_FIELDS, text->at, text->len, message->name.at,
+    result.word = tecelume_encode_get_set_request_fields(fields, TECELUME_GET_SET_REQUEST_FIELDS, text.at, text.len, message->name.at,
                                                          message->name.len, out, out_len);
     return result;
 }
@@ -1277,7 +1298,7 @@ static inline uint32_t tecelume_decode_get_set_response(const uint8_t *payload, 
 
 static inline tecelume_result tecelume_encode_get_set_response(const tecelume_get_set_response *message, uint8_t *out, size_t out_len)
 {
-    const tecelume_bytes *text = &message->value.string_value, *default_text = &message->default_value.string_value;
+    const tecelume_bytes text = tecelume_param_text(&message->value), default_text = tecelume_param_text(&message->default_value);
     const tecelume_param_numeric_value *max = &message->max_value, *min = &message->min_value;
     uint64_t fields[TECELUME_GET_SET_RESPONSE_FIELDS] = {0};
     tecelume_result result;
@@ -1285,9 +1306,8 @@ static inline tecelume_result tecelume_encode_get_set_response(const tecelume_ge
     tecelume_param_value_to(&message->default_value, fields + 4);
     tecelume_param_number_to(max->tag, max->integer_value, &max->real_value, fields + 8);
     tecelume_param_number_to(min->tag, min->integer_value, &min->real_value, fields + 10);
-    result.word = tecelume_encode_get_set_response_fields(fields, TECELUME_GET_SET_RESPONSE_FIELDS, text->at, text->len,
-                                                          default_text->at, default_text->len, message->name.at, message->name.len, out,
-                                                          out_len);
+    result.word = tecelume_encode_get_set_response_fields(fields, TECELUME_GET_SET_RESPONSE_FIELDS, text.at, text.len, default_text.at,
+                                                          default_text.len, message->name.at, message->name.len, out, out_len);
     return result;
 }
 
@@ -1541,7 +1561,7 @@ static inline uint32_t tecelume_line(tecelume_result result)
 /* Of a record: the length of the form in bytes. */
 static inline size_t tecelume_form_length(const uint8_t *record)
 {
-    return (size_t)record[0] | (size_t)record[1] << 8 | (size_t)record[2] << 16 | (size_t)record[3] << 24;
+    return (size_t)((uint32_t)record[0] | (uint32_t)record[1] << 8 | (uint32_t)record[2] << 16 | (uint32_t)record[3] << 24);
 }
 
 /* Of a record: the signature. */

@@ -860,11 +860,13 @@ static const struct {
     {"longest_messages", longest_messages},
     {"numbers_clipped", numbers_clipped},
     {"lists_in_the_payload", lists_in_the_payload},
+    {"lists_shared", lists_shared},
     {"empty_lists", empty_lists},
     {"floats_of_messages", floats_of_messages},
     {"sub_mode_is_zero", sub_mode_is_zero},
     {"names_of_nodes", names_of_nodes},
     {"cases_of_a_value", cases_of_a_value},
+    {"members_never_set", members_never_set},
     {"refused_messages", refused_messages},
     {"rows_of_numbers", rows_of_numbers},
 };

@@ -128,6 +128,8 @@ void numbers_clipped(void)
     commands.cmd[0] = 40000;
     commands.cmd[1] = -40000;
     CHECK(tecelume_length(tecelume_encode_node_status(&status, out, sizeof out)) == 7 && out[4] == (3 << 6 | 7 << 3) && out[5] == 255 && out[6] == 255);
+    status.health = (uint32_t)-1;
+    CHECK(tecelume_length(tecelume_encode_node_status(&status, out, sizeof out)) == 7 && out[4] >> 6 == 3);
     CHECK(tecelume_length(tecelume_encode_allocation(&allocation, out, sizeof out)) == 1 && out[0] == 127 << 1);
     CHECK(tecelume_length(tecelume_encode_raw_command(&commands, out, sizeof out)) == 4);
     CHECK(tecelume_decode_raw_command(out, 4, &commands) == TECELUME_SUCCESS);
@@ -151,6 +153,15 @@ void lists_in_the_payload(void)
     CHECK(read.name.at == out + 47 && is_text(read.name, "org.example.node"));
     CHECK(tecelume_decode_log_message(line, sizeof line, &log) == TECELUME_SUCCESS && log.level == TECELUME_LOG_LEVEL_WARNING);
     CHECK(log.source.at == line + 1 && is_text(log.source, "ab") && log.text.at == line + 3 && is_text(log.text, "hot"));
+}
+
+/* Two lists may be the same bytes. */
+void lists_shared(void)
+{
+    tecelume_get_set_response set = parameter();
+    set.value.tag = set.default_value.tag = TECELUME_PARAM_STRING_VALUE;
+    set.value.string_value = set.default_value.string_value = set.name = text("on");
+    CHECK(tecelume_length(tecelume_encode_get_set_response(&set, out, sizeof out)) == 12 && memcmp(out, "\4\2on\4\2on\0\0on", 12) == 0);
 }
 
 /* An empty list may be (NULL, 0), and what is read of it has no bytes. */
@@ -244,6 +255,25 @@ void cases_of_a_value(void)
     CHECK(tecelume_number(tecelume_encode_get_set_response(&set, out, 0)) == TECELUME_OUTPUT_TOO_SMALL);
     out[0] = 5;
     CHECK(tecelume_decode_get_set_response(out, length, &read) == TECELUME_NO_SUCH_CASE);
+}
+
+/* The members that a tag does not name need not be set: no compiler finds one used that never was. */
+void members_never_set(void)
+{
+    tecelume_get_set_request get;
+    tecelume_get_set_response set;
+    get.index = 1;
+    get.value.tag = TECELUME_PARAM_BOOLEAN_VALUE;
+    get.value.boolean_value = 2;
+    get.name = text("gain");
+    CHECK(tecelume_length(tecelume_encode_get_set_request(&get, out, sizeof out)) == 3 + 4 && memcmp(out, "\1\3\2gain", 7) == 0);
+    set.value.tag = TECELUME_PARAM_INTEGER_VALUE;
+    set.value.integer_value = -1;
+    set.default_value.tag = set.max_value.tag = TECELUME_PARAM_EMPTY;
+    set.min_value.tag = TECELUME_PARAM_REAL_VALUE;
+    set.min_value.real_value = 0;
+    set.name = text("g");
+    CHECK(tecelume_length(tecelume_encode_get_set_response(&set, out, sizeof out)) == 9 + 1 + 1 + 5 + 1 && out[0] == 1 && out[8] == 255 && out[11] == 2);
 }
 
 /* A refusal leaves a struct as it was; more than 20 commands are refused; bits left over have to be zero. */

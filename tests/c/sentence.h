@@ -79,11 +79,13 @@ void verdict_without_a_frame(void);
 void longest_messages(void);
 void numbers_clipped(void);
 void lists_in_the_payload(void);
+void lists_shared(void);
 void empty_lists(void);
 void floats_of_messages(void);
 void sub_mode_is_zero(void);
 void names_of_nodes(void);
 void cases_of_a_value(void);
+void members_never_set(void);
 void refused_messages(void);
 void rows_of_numbers(void);
 

@@ -29,7 +29,7 @@ pub fn run(words: Vec<OsString>) -> Result<(), Failure> {
         left_out: 0,
         out: Vec::new(),
     };
-    input::run(&source, &reading, &mut candump)?;
+    input::run(source.open()?, &reading, &mut candump)?;
     candump.end()
 }
 
@@ -71,6 +71,11 @@ impl Sink for Candump {
         self.left_out += 1;
         eprintln!("line {line} left out: {}", fault.sentence());
         Ok(())
+    }
+
+    fn capture(&mut self) -> Result<(), Failure> {
+        let told = "this is a capture, not a recording: tecelume uncapture makes a log of it";
+        Err(Failure::Refused(format!("tecelume: {told}")))
     }
 
     fn interface(&mut self, name: &str) -> Result<(), Failure> {

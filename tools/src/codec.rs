@@ -3,7 +3,7 @@
 
 use crate::failure::Failure;
 use crate::input::lines::Lines;
-use crate::input::{self, Source};
+use crate::input::{Opened, Source};
 use crate::library::sentence;
 use crate::messages::{Given, Type, TYPES};
 use crate::options::{unknown, Words};
@@ -13,6 +13,7 @@ use std::ffi::{OsStr, OsString};
 use std::io::{BufRead, BufReader, Write};
 use std::process::{Child, ChildStdin, ChildStdout, Command, Stdio};
 
+const VALUE_NOT_ALLOWED: u32 = 17;
 /// The longest line of the program below.
 const LONGEST: usize = 8192;
 
@@ -29,7 +30,10 @@ pub fn run(words: Vec<OsString>) -> Result<(), Failure> {
     let source = Source::of_words(&words.plain)?;
     let below = below
         .ok_or_else(|| Failure::Words("--below, the proved program, is missing".to_string()))?;
-    let mut lines = Lines::new(input::file(&source)?, LONGEST + 1);
+    let Opened::File(file) = source.open()? else {
+        unreachable!("words name no interface");
+    };
+    let mut lines = Lines::new(file, LONGEST + 1);
     let mut codec = Codec::start(&below, as_text)?;
     while let Some(block) = lines.next().map_err(|_| Failure::reading())? {
         let block = &block[..block.len() - 1];
@@ -108,7 +112,10 @@ impl Codec {
             Some(0) if self.as_text => told(&mut self.out, asked, &answer),
             Some(0) => self.out.extend_from_slice(answer.as_bytes()),
             Some(number) => {
-                put!(&mut self.out, "{answer} {}", sentence(number))
+                put!(&mut self.out, "{answer} {}", sentence(number));
+                if number == VALUE_NOT_ALLOWED {
+                    self.out.extend_from_slice(not_float(asked).as_bytes());
+                }
             }
         }
         if number.is_some() {
@@ -182,7 +189,7 @@ fn value_of(value: &[u8], given: Option<Given>) -> Result<Vec<u8>, String> {
             text::hex(&mut out, &letters(value)?);
             Ok(out)
         }
-        Some(Given::Float) if !value.iter().all(|byte| matches!(byte, b'-' | b'0'..=b'9')) => {
+        Some(Given::Float) if !is_integer(value) => {
             let number: f32 = told
                 .parse()
                 .map_err(|_| format!("{} is no decimal number", named(&told)))?;
@@ -194,6 +201,12 @@ fn value_of(value: &[u8], given: Option<Given>) -> Result<Vec<u8>, String> {
         }
         _ => Ok(value.to_vec()),
     }
+}
+
+/// Digits and signs are for the program below, so that +1 is not 1.0 where 1 is the number of a float's bits.
+fn is_integer(value: &[u8]) -> bool {
+    let is_part = |byte: &u8| matches!(byte, b'+' | b'-' | b'0'..=b'9');
+    value.iter().all(is_part)
 }
 
 /// The bytes of a text in quotes, with the escapes that `show` prints.
@@ -255,6 +268,20 @@ fn escape<'a>(rest: &'a [u8], out: &mut Vec<u8>) -> Result<&'a [u8], String> {
     Ok(rest)
 }
 
+/// Of a line that 17 refuses: the first number that is not one of a float's bits, and what may have been meant; empty if there is none.
+fn not_float(line: &[u8]) -> String {
+    let fields = type_in(line).map(Type::given).unwrap_or_default();
+    let line = String::from_utf8_lossy(line);
+    let is_float = |name: &str| fields.contains(&(name.to_string(), Given::Float));
+    let words = line.split(' ').filter_map(|word| word.split_once('='));
+    let is_bits = |value: &str| value.parse().is_ok_and(|bits: i64| bits >> 32 == 0);
+    let mut wrong = words.filter(|(name, value)| is_float(name) && !is_bits(value));
+    wrong.next().map_or(String::new(), |(name, value)| {
+        let value = named(value);
+        format!(": {name} is {value}, not the number of a float's 32 bits; a decimal has a dot, as -25.0")
+    })
+}
+
 /// What is wrong with a line at which the program below prints `?`.
 fn fault(line: &[u8]) -> String {
     fault_in(line).unwrap_or_else(|| "this is no line of the form that --help tells".to_string())
@@ -309,6 +336,9 @@ fn fields_fault(of: &Type, words: &[&str]) -> Option<String> {
     let Some((room, words)) = words.split_first() else {
         return Some("the room, a number of bytes, is missing; 512 is always enough".to_string());
     };
+    if room.contains('=') {
+        return Some("the room, a number of bytes, is missing before the fields".to_string());
+    }
     if !is_digits(room) {
         return Some(format!(
             "the room is a number of bytes, and {} is none",
@@ -438,6 +468,7 @@ mod tests {
             "encode KeyValue 512 value=25 key=74",
             " x  y ",
             "encode KeyValue 512 value=-25 value",
+            "encode KeyValue 512 value=+1",
             "frob a=\"b\"",
         ] {
             assert_eq!(of(line).as_deref(), Ok(line));
@@ -492,6 +523,27 @@ mod tests {
         ] {
             let refused = of(&format!("encode KeyValue 9 {value}")).unwrap_err();
             assert!(refused.contains(reason), "{value}: {refused}");
+        }
+    }
+
+    #[test]
+    fn reasons() {
+        let fault = |line: &str| fault(line.as_bytes());
+        assert_eq!(
+            fault("encode KeyValue key=61"),
+            "the room, a number of bytes, is missing before the fields"
+        );
+        assert_eq!(
+            fault("encode NodeStatus 7 health=\"OK\""),
+            "health is a decimal number, and '\"OK\"' is not"
+        );
+        let not_float = |line: &str| not_float(line.as_bytes());
+        for value in ["-25", "4294967296", "99999999999999999999"] {
+            let told = not_float(&format!("encode KeyValue 9 value={value}"));
+            assert!(told.contains(&format!("value is '{value}', not")), "{told}");
+        }
+        for line in ["value=-0", "value=4294967295", "key=-25", ""] {
+            assert_eq!(not_float(&format!("encode KeyValue 9 {line}")), "");
         }
     }
 

@@ -41,6 +41,13 @@ impl<'a> Object<'a> {
         text::json(self.field(name), bytes.as_ref());
     }
 
+    /// A text of the bus that a person will read: what does not print is escaped as `show` does, so that it neither hides nor turns letters.
+    pub fn letters(&mut self, name: &str, bytes: &[u8]) {
+        let mut letters = Vec::new();
+        text::escaped(&mut letters, bytes);
+        self.text(name, letters);
+    }
+
     /// Digits, two a byte.
     pub fn hex(&mut self, name: &str, bytes: &[u8]) {
         let out = self.field(name);

@@ -1,16 +1,16 @@
 //! `page`: all that a bus said, as one page that needs nothing else.
 
 use crate::failure::Failure;
-use crate::input;
+use crate::input::{self, Opened};
 use crate::model::Model;
 use crate::options::{unknown, Listening, Words};
 use crate::sha256;
 use crate::text;
-use std::ffi::OsString;
+use std::ffi::{OsStr, OsString};
 use std::fs;
 use std::io::Write;
 use std::os::unix::fs::MetadataExt;
-use std::path::Path;
+use std::path::{Path, PathBuf};
 
 const PAGE: &str = include_str!("page/page.html");
 const STYLE: &str = include_str!("page/page.css");
@@ -31,13 +31,14 @@ pub fn run(words: Vec<OsString>) -> Result<(), Failure> {
     };
     let source = listening.source(std::slice::from_ref(from))?;
     let to = Path::new(to);
-    if let input::Source::File(from) = &source {
-        input::open(from)?;
-        refuse_same(from, to)?;
+    let opened = source.open()?;
+    if let Opened::File(file) = &opened {
+        refuse_same(file, from, to)?;
     }
+    aside(to)?;
     let reading = listening.reading;
     let mut model = Model::new(source.name(), listening)?;
-    input::run(&source, &reading, &mut model)?;
+    input::run(opened, &reading, &mut model)?;
     let mut data = Vec::new();
     model.json(&mut data);
     put(to, &page(&data, false))
@@ -77,24 +78,22 @@ pub fn page(data: &[u8], live: bool) -> Vec<u8> {
 }
 
 /// The page must not take the place of what it is made of.
-fn refuse_same(from: &Path, to: &Path) -> Result<(), Failure> {
-    let file = |path: &Path| {
-        fs::metadata(path)
-            .ok()
-            .map(|about| (about.dev(), about.ino()))
-    };
-    match file(to).is_some() && file(from) == file(to) {
-        true => Err(Failure::Words(format!(
-            "{} and {} are one file",
-            text::path(from),
-            text::path(to)
-        ))),
-        false => Ok(()),
+fn refuse_same(file: &fs::File, from: &OsStr, to: &Path) -> Result<(), Failure> {
+    let place = |about: fs::Metadata| (about.dev(), about.ino());
+    let place_of_to = fs::metadata(to).ok().map(place);
+    if place_of_to.is_none() || file.metadata().ok().map(place) != place_of_to {
+        return Ok(());
     }
+    let from = match from.to_str() {
+        Some("-") => "standard input".to_string(),
+        _ => text::path(Path::new(from)),
+    };
+    let to = text::path(to);
+    Err(Failure::Words(format!("{from} and {to} are one file")))
 }
 
-/// Writes a file aside and moves it into place when it is whole.
-fn put(to: &Path, bytes: &[u8]) -> Result<(), Failure> {
+/// The name under which a file is written before it is moved into place; or why it cannot be written, as far as that is seen beforehand.
+fn aside(to: &Path) -> Result<PathBuf, Failure> {
     if to.exists() && !to.is_file() {
         return Err(Failure::Writing(format!(
             "{} is there, and not a file",
@@ -107,11 +106,25 @@ fn put(to: &Path, bytes: &[u8]) -> Result<(), Failure> {
     let mut aside = name.to_os_string();
     aside.push(format!(".{}", std::process::id()));
     let aside = to.with_file_name(aside);
+    let folder = aside.parent().filter(|folder| *folder != Path::new(""));
+    match folder.is_none_or(Path::is_dir) {
+        true => Ok(aside),
+        false => Err(cannot_write(to)),
+    }
+}
+
+fn cannot_write(to: &Path) -> Failure {
+    Failure::Writing(format!("cannot write {}", text::path(to)))
+}
+
+/// Writes a file aside and moves it into place when it is whole.
+fn put(to: &Path, bytes: &[u8]) -> Result<(), Failure> {
+    let aside = aside(to)?;
     let written = fs::File::create_new(&aside)
         .and_then(|mut file| file.write_all(bytes).and_then(|()| file.sync_all()))
         .and_then(|()| fs::rename(&aside, to));
     written.map_err(|_| {
         let _ = fs::remove_file(&aside);
-        Failure::Writing(format!("cannot write {}", text::path(to)))
+        cannot_write(to)
     })
 }

@@ -40,8 +40,10 @@ pub fn run(words: Vec<OsString>) -> Result<(), Failure> {
         interfaces: Vec::new(),
         out: Vec::with_capacity(2 * output::GATHERED),
     };
+    // to wait for the other end of a pipe is ended by Ctrl-C as usual
+    let opened = source.open()?;
     interrupt::catch();
-    input::run(&source, &listening.reading, &mut show)?;
+    input::run(opened, &listening.reading, &mut show)?;
     (show.teller.end)(&mut show.out, &show.types, &show.counts);
     show.pause()
 }

@@ -12,17 +12,20 @@ macro_rules! put {
 /// Bytes in quotes. What does not print is escaped: `\n`, `\u{1b}`, and `\xFF` for a byte that is not UTF-8.
 pub fn quoted(out: &mut Vec<u8>, bytes: &[u8]) {
     out.push(b'"');
-    escaped(out, bytes);
+    for (place, part) in bytes.split(|byte| *byte == b'"').enumerate() {
+        if place > 0 {
+            out.extend_from_slice(b"\\\"");
+        }
+        escaped(out, part);
+    }
     out.push(b'"');
 }
 
-/// The same without the quotes around it.
+/// The same without the quotes around it, so that a quote stands for itself.
 pub fn escaped(out: &mut Vec<u8>, bytes: &[u8]) {
     for chunk in bytes.utf8_chunks() {
         for letter in chunk.valid().chars() {
-            if letter == '\'' {
-                out.push(b'\'');
-            } else if (' '..='~').contains(&letter) && letter != '"' && letter != '\\' {
+            if (' '..='~').contains(&letter) && letter != '\\' {
                 out.push(letter as u8);
             } else {
                 letter.escape_debug().for_each(|one| push(out, one));
@@ -182,6 +185,11 @@ mod tests {
             of(quoted, b"\xff \xc2\x9b \xe2\x80\xae \xc3\xa9"),
             "\"\\xFF \\u{9b} \\u{202e} \u{e9}\""
         );
+    }
+
+    #[test]
+    fn without_quotes() {
+        assert_eq!(of(escaped, b"it's \"5\" \\ \x1b"), r#"it's "5" \\ \u{1b}"#);
     }
 
     #[test]

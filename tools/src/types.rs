@@ -129,6 +129,8 @@ struct Definition {
     text: Vec<u8>,
 }
 
+/// With line 0, the name is at fault.
+const NOT_IN_GRAMMAR: u32 = 40;
 /// The most files that are looked at.
 const FILES_MAX: usize = 4096;
 const DEPTH_MAX: usize = 32;
@@ -138,6 +140,12 @@ fn definitions(folder: &Path) -> Result<Vec<Subscribed>, Failure> {
     let mut all = Vec::new();
     walk(folder, "", 0, &mut all)?;
     all.sort_by(|one, other| one.full_name.cmp(&other.full_name));
+    if all.iter().all(|one| one.type_id.is_none()) {
+        return Err(Failure::Words(format!(
+            "no definition with an ID, as acme/20000.Zoom.uavcan, is under {}",
+            text::path(folder)
+        )));
+    }
     let with_id = all.iter().filter(|one| one.type_id.is_some());
     with_id.map(|one| one.subscribed(&all)).collect()
 }
@@ -180,7 +188,10 @@ impl Definition {
             Some((digits, name)) => (Some(digits), name),
             None => (None, name),
         };
-        let type_id: Option<u32> = digits.and_then(|digits| digits.parse().ok());
+        let is_number = |digits: &&str| digits.bytes().all(|digit| digit.is_ascii_digit());
+        let type_id: Option<u32> = digits
+            .filter(is_number)
+            .and_then(|digits| digits.parse().ok());
         if type_id.is_some() != digits.is_some() || name.contains('.') || namespace.is_empty() {
             let form = "NAMESPACE/[ID.]NAME.uavcan does";
             return Err(Failure::Words(format!(
@@ -261,11 +272,15 @@ impl Definition {
             let at_fault = family
                 .get(refusal.definition.saturating_sub(1))
                 .unwrap_or(&self);
-            let (mut place, line) = (text::bare_path(&at_fault.path), refusal.line);
-            if line > 0 {
-                place.push_str(&format!(":{line}"));
-            }
-            Failure::Refused(format!("{number} {place}: {}", sentence(number)))
+            let place = text::bare_path(&at_fault.path);
+            Failure::Refused(match (number, refusal.line) {
+                (NOT_IN_GRAMMAR, 0) => {
+                    let name = text::path(Path::new(&at_fault.full_name));
+                    format!("{number} {place}: {name} is no full name: names of letters, digits and _, joined by dots, at most 80 characters")
+                }
+                (_, 0) => format!("{number} {place}: {}", sentence(number)),
+                (_, line) => format!("{number} {place}:{line}: {}", sentence(number)),
+            })
         })?;
         let (service, type_id) = (self.is_service(), self.type_id.expect("it has one"));
         let most = if service { 255 } else { 65535 };
@@ -421,6 +436,10 @@ mod tests {
             of("dots", &[("acme/20000.A.B.uavcan", "")]).contains("does not tell the full name")
         );
         assert!(of("letters", &[("acme/x.A.uavcan", "")]).contains("does not tell the full name"));
+        assert!(of("sign", &[("acme/+5.A.uavcan", "")]).contains("does not tell the full name"));
+        assert!(of("hyphen", &[("my-acme/20000.A.uavcan", "")])
+            .contains("A.uavcan: 'my-acme.A' is no full name"));
+        assert!(of("nothing", &[("acme/A.uavcan", "")]).contains("no definition with an ID"));
         assert!(of("large", &[("acme/65536.A.uavcan", "")]).contains("the ID is over 65535"));
         assert!(of("service", &[("acme/256.A.uavcan", "---")]).contains("the ID is over 255"));
         assert!(of(

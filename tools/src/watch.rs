@@ -18,6 +18,9 @@ use std::time::{Duration, Instant};
 const CLIENTS_MAX: usize = 8;
 const REQUEST_MAX: usize = 8192;
 const PATIENCE: Duration = Duration::from_secs(5);
+/// For a client that is turned away; others wait meanwhile.
+const BRIEFLY: Duration = Duration::from_millis(100);
+const FULL: &str = "<title>Tecelume</title><p>This page is open eight times already: close one, and load it again.";
 /// The least time between two events; with large tables it is as many times what they take to write.
 const EVERY: Duration = Duration::from_millis(40);
 const REST: u32 = 10;
@@ -36,9 +39,7 @@ pub fn run(words: Vec<OsString>) -> Result<(), Failure> {
         }
     }
     let source = listening.source(&words.plain)?;
-    if let input::Source::File(path) = &source {
-        input::open(path)?;
-    }
+    let opened = source.open()?;
     let reading = listening.reading;
     let shared = Arc::new(Shared {
         model: Mutex::new(Model::new(source.name(), listening)?),
@@ -57,7 +58,7 @@ pub fn run(words: Vec<OsString>) -> Result<(), Failure> {
         let shared = Arc::clone(&shared);
         thread::spawn(move || serve(&listener, port, &shared))
     };
-    input::run(&source, &reading, &mut Watched(&shared))?;
+    input::run(opened, &reading, &mut Watched(&shared))?;
     eprintln!("tecelume: the input has ended; the page stays until this program is stopped");
     server.join().map_err(|_| Failure::writing())
 }
@@ -106,7 +107,7 @@ fn serve(listener: &TcpListener, port: u16, shared: &Arc<Shared>) {
         let shared = Arc::clone(shared);
         if shared.clients.fetch_add(1, Ordering::SeqCst) >= CLIENTS_MAX {
             shared.clients.fetch_sub(1, Ordering::SeqCst);
-            let _ = answer(&stream, "503 Service Unavailable", b"");
+            let _ = turn_away(&stream);
             continue;
         }
         // a client that does not speak or listen is left; what it got is its own concern
@@ -115,6 +116,14 @@ fn serve(listener: &TcpListener, port: u16, shared: &Arc<Shared>) {
             shared.clients.fetch_sub(1, Ordering::SeqCst);
         });
     }
+}
+
+/// What the client asks is read first: where a connection is closed with bytes unread, the answer may be lost.
+fn turn_away(mut stream: &TcpStream) -> io::Result<()> {
+    stream.set_read_timeout(Some(BRIEFLY))?;
+    stream.set_write_timeout(Some(BRIEFLY))?;
+    let _ = stream.read(&mut [0; REQUEST_MAX]);
+    answer(stream, "503 Service Unavailable", FULL.as_bytes())
 }
 
 fn client(stream: &TcpStream, port: u16, shared: &Shared) -> io::Result<()> {
@@ -167,8 +176,12 @@ fn requested(request: &[u8], port: u16) -> Requested {
     let host = hosts
         .next()
         .map(|(_, host)| host.trim().to_ascii_lowercase());
-    let own = ["127.0.0.1", "localhost"].map(|name| format!("{name}:{port}"));
-    if !host.is_some_and(|host| own.contains(&host)) || hosts.next().is_some() {
+    // a browser leaves out the port that is the usual one
+    let named = |host: &str| match host.strip_suffix(&format!(":{port}")) {
+        None if port == 80 => matches!(host, "127.0.0.1" | "localhost"),
+        name => matches!(name, Some("127.0.0.1" | "localhost")),
+    };
+    if !host.is_some_and(|host| named(&host)) || hosts.next().is_some() {
         return Requested::Nothing("403 Forbidden");
     }
     match (method, path) {
@@ -242,6 +255,15 @@ mod tests {
                 Requested::Nothing("403 Forbidden"),
                 "{host}"
             );
+        }
+        for (host, asked) in [
+            ("127.0.0.1", Requested::Page),
+            ("localhost:80", Requested::Page),
+            ("127.0.0.1:8000", Requested::Nothing("403 Forbidden")),
+            ("example.org", Requested::Nothing("403 Forbidden")),
+        ] {
+            let request = format!("GET / HTTP/1.1\r\nHost: {host}\r\n\r\n");
+            assert_eq!(requested(request.as_bytes(), 80), asked, "{host}");
         }
         assert_eq!(
             of("GET / HTTP/1.1\r\n\r\n"),

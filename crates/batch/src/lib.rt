@@ -32,7 +32,7 @@ pub enum Progress {
 }
 
 impl Progress {
-    // Internal. The number answered.
+    // The number answered.
     pub fn number(self) -> u32
         ensures { λ r. ⌜ r ≡ numberOf self ⌝ }
     {
@@ -42,7 +42,7 @@ impl Progress {
         }
     }
 
-    // Internal. The records used up; none under a fault.
+    // The records used up; none under a fault.
     pub fn used(self) -> usize
         ensures { λ r. ⌜ r ≡ usedIn self ⌝ }
     {

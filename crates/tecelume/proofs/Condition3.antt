@@ -8,7 +8,7 @@ use Rattle.tecelume.specs.Entry.{packed}
 use Rattle.answers.proofs.Words.{told-fits}
 use Rattle.answers.specs.Word.{wordOf}
 use Rattle.batch.proofs.Fits.{received-fits}
-use Rattle.tecelume.proofs.Words.{read-back}
+use Rattle.words.proofs.Words.{read-back}
 use Rattle.answers.proofs.Reception.{told-number}
 use Rattle.answers.specs.Reception.{told}
 use Rattle.guarantees.proofs.Condition3.{view}

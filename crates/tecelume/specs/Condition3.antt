@@ -3,7 +3,7 @@ use mathlib.Core.List.{List}
 use Prim.Native.Nat.{ℕ}
 use lib.ListN.{take}
 use Rattle.tecelume.specs.Entry.{Called, packed}
-use Rattle.tecelume.specs.Word.{numberIn, lengthIn}
+use Rattle.words.specs.Word.{numberIn, lengthIn}
 use Rattle.answers.specs.Reception.{told}
 use Rattle.answers.specs.Word.{wordOf}
 use Rattle.guarantees.specs.Condition3.{Lent}

@@ -3,7 +3,7 @@ use mathlib.Core.List.{List}
 use Prim.Native.Nat.{ℕ, _+_, _*_, _^_}
 use Rattle.answers.specs.Setup.{numberOf}
 use Rattle.answers.specs.Word.{wordOf}
-use Rattle.tecelume.specs.Word.{manyWord, sentWord, allocationWord, signaturesWord, conversionWord}
+use Rattle.words.specs.Word.{manyWord, sentWord, allocationWord, signaturesWord, conversionWord}
 use Rattle.allocator.specs.Allocate as allocate
 use Rattle.allocator.specs.Setup as allocator
 use Rattle.batch.specs.Many as many

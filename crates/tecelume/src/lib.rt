@@ -1,6 +1,5 @@
 // The C interface: extern "C" entry points around the proved calls. include/tecelume.h documents them.
 mod messages;
-mod word;
 
 use allocator::Request;
 use allocator_table::free::Reserved;
@@ -9,7 +8,6 @@ ghost use mathlib.Core.Path.{_≡_};
 ghost use Prim.Native.Nat.{_%_};
 ghost use Rattle.tecelume.specs.Condition3.{wordBytes};
 ghost use Rattle.tecelume.specs.Entry.{version, numbered, numberedMap, numberedAllocator, entry, packed, packedMany, packedSend, packedAllocation, signed, packedSignatures, packedConversion};
-ghost use Rattle.tecelume.specs.Word.{patchWord, verdictWord, WordLaws, ManyWordLaws, PatchWordLaws, AllocationWordLaws, SignaturesWordLaws, ConversionWordLaws, VerdictWordLaws};
 ghost use Rattle.allocator.specs.Allocate.{allocated};
 ghost use Rattle.allocator.specs.Setup as allocator;
 ghost use Rattle.allocator_table.specs.Layout as table;
@@ -27,6 +25,7 @@ ghost use Rattle.sender.specs.Send.{sends};
 ghost use Rattle.setup.specs.Setup.{afterSetup};
 ghost use Rattle.state.specs.Layout.{size};
 ghost use Rattle.types.specs.Types.{signatureOf};
+ghost use Rattle.words.specs.Word.{patchWord, verdictWord};
 
 // The version of the library: major, minor and patch in bits 16 up, 8 to 15 and 0 to 7.
 #[no_mangle]
@@ -77,7 +76,7 @@ pub extern "C" fn tecelume_receive_many_word(
 ) -> u64
     ensures { λ r. ⌜ record { word = r; state = now (state .exit); results = now (results .exit); out = now (out .exit) } ≡ packedMany (receivedMany (now (state .entry)) (now (records .entry)) (now (results .entry)) (now (out .entry))) ⌝ }
 {
-    word::of_progress(transport::receive_many(state, records, results, out))
+    words::of_progress(transport::receive_many(state, records, results, out))
 }
 
 // The bytes of a transfer-ID map.
@@ -125,7 +124,7 @@ pub extern "C" fn tecelume_send_word(
         transfer_id,
         discriminator,
     };
-    word::of_sent(transport::send(map, c, payload, out))
+    words::of_sent(transport::send(map, c, payload, out))
 }
 
 // A transfer's checksum after a byte of its payload was rewritten: the number and, from bit 8 on, the corrected checksum. No number refuses a
@@ -134,7 +133,7 @@ pub extern "C" fn tecelume_send_word(
 pub extern "C" fn tecelume_patch_word(checksum: u32, old: u32, new: u32, after: u64) -> u64
     ensures { λ r. ⌜ r ≡ patchWord (patches (checksum % 65536) (old % 256) (new % 256) after) ⌝ }
 {
-    word::of_patched(transport::patch(
+    words::of_patched(transport::patch(
         (checksum % 65536) as u16,
         (old % 256) as u8,
         (new % 256) as u8,
@@ -190,7 +189,7 @@ pub extern "C" fn tecelume_allocate_word(
         source,
         time,
     };
-    word::of_allocation(allocator::allocate(state, q, payload, out))
+    words::of_allocation(allocator::allocate(state, q, payload, out))
 }
 
 // Signatures of type definitions: the result word, the forms in `out`, a record of 12 bytes for each.
@@ -203,7 +202,7 @@ pub extern "C" fn tecelume_signatures_word(
 ) -> u64
     ensures { λ r. ⌜ signed r (now (out .exit)) (now (records .exit)) ≡ packedSignatures (signatures (now (source .entry)) (now (lengths .entry)) (now (out .entry)) (now (records .entry))) ⌝ }
 {
-    word::of_signatures(dsdl_signature::call::signatures(source, lengths, out, records))
+    words::of_signatures(dsdl_signature::call::signatures(source, lengths, out, records))
 }
 
 // A log as a capture: the number and, from bit 8 on, its length.
@@ -211,7 +210,7 @@ pub extern "C" fn tecelume_signatures_word(
 pub extern "C" fn tecelume_capture_word(log: &[u8], out: &mut [u8]) -> u64
     ensures { λ r. ⌜ record { word = r; out = now (out .exit) } ≡ packedConversion (captured (now (log .entry)) (now (out .entry))) ⌝ }
 {
-    word::of_converted(capture_convert::capture(log, out))
+    words::of_converted(capture_convert::capture(log, out))
 }
 
 // A capture as a log: the number and, from bit 8 on, its length.
@@ -219,7 +218,7 @@ pub extern "C" fn tecelume_capture_word(log: &[u8], out: &mut [u8]) -> u64
 pub extern "C" fn tecelume_uncapture_word(capture: &[u8], out: &mut [u8]) -> u64
     ensures { λ r. ⌜ record { word = r; out = now (out .exit) } ≡ packedConversion (uncaptured (now (capture .entry)) (now (out .entry))) ⌝ }
 {
-    word::of_converted(capture_convert::uncapture(capture, out))
+    words::of_converted(capture_convert::uncapture(capture, out))
 }
 
 // A capture judged under subscriptions: the number and, from bit 8 on, the frame that it is for.
@@ -227,43 +226,8 @@ pub extern "C" fn tecelume_uncapture_word(capture: &[u8], out: &mut [u8]) -> u64
 pub extern "C" fn tecelume_judge_word(subscriptions: &[u8], capture: &[u8]) -> u64
     ensures { λ r. ⌜ r ≡ verdictWord (judges (now (subscriptions .entry)) (now (capture .entry))) ⌝ }
 {
-    word::of_verdict(judge_capture::judge(subscriptions, capture))
+    words::of_verdict(judge_capture::judge(subscriptions, capture))
 }
-
-// What the result word of a reception holds: a number of RULES 4.10 or 20; and every value that is handed out fits its field and is read back from it.
-pub fn word_fields()
-    ensures { λ _. ⌜ WordLaws ⌝ }
-{}
-
-// What the result word of several receptions holds, the same way.
-pub fn many_word_fields()
-    ensures { λ _. ⌜ ManyWordLaws ⌝ }
-{}
-
-// What the result word of a correction holds, the same way.
-pub fn patch_word_fields()
-    ensures { λ _. ⌜ PatchWordLaws ⌝ }
-{}
-
-// What the result word of an allocator holds, the same way.
-pub fn allocation_word_fields()
-    ensures { λ _. ⌜ AllocationWordLaws ⌝ }
-{}
-
-// What the result word of signatures holds, the same way.
-pub fn signatures_word_fields()
-    ensures { λ _. ⌜ SignaturesWordLaws ⌝ }
-{}
-
-// What the result word of a conversion holds, the same way.
-pub fn conversion_word_fields()
-    ensures { λ _. ⌜ ConversionWordLaws ⌝ }
-{}
-
-// What the result word of a verdict holds, the same way.
-pub fn verdict_word_fields()
-    ensures { λ _. ⌜ VerdictWordLaws ⌝ }
-{}
 
 // RULES 14.14: condition 3, of what a C program reads.
 pub fn condition3_words()

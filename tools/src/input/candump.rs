@@ -6,6 +6,9 @@ use std::time::Instant;
 /// No line has so many bytes; one of a log has far fewer.
 pub const LONGEST: usize = 512;
 pub const NOT_CANDUMP: &str = "not a line of candump";
+pub const SHORT_ID: &str = "an 11-bit ID";
+pub const REMOTE_FRAME: &str = "a remote frame";
+pub const ERROR_FRAME: &str = "an error frame";
 
 /// The most digits of a log's seconds.
 const LAST_SECOND: u64 = 999_999_999;
@@ -80,7 +83,7 @@ fn recorded<'a>(
         return Err("a CAN FD frame");
     }
     if data.starts_with('R') {
-        return Err("a remote frame");
+        return Err(REMOTE_FRAME);
     }
     let id = identifier(id)?;
     // eight bytes sent with a length code above 8 have it behind an underscore
@@ -139,13 +142,13 @@ fn data_on_screen<'a>(
     for _ in 0..count {
         let word = words.next().ok_or("not 0 to 8 data bytes")?;
         if word == "remote" {
-            return Err("a remote frame");
+            return Err(REMOTE_FRAME);
         }
         data.push(byte(word)?);
     }
     match words.next() {
         None => Ok(data),
-        Some("remote") => Err("a remote frame"),
+        Some("remote") => Err(REMOTE_FRAME),
         Some(text) if text.starts_with('\'') => Ok(data),
         Some(_) => Err(NOT_CANDUMP),
     }
@@ -153,12 +156,12 @@ fn data_on_screen<'a>(
 
 fn identifier(digits: &str) -> Result<u32, &'static str> {
     match digits.len() {
-        3 => Err("an 11-bit ID"),
+        3 => Err(SHORT_ID),
         8 => {
             let id = u32::from_str_radix(digits, 16).map_err(|_| NOT_CANDUMP)?;
             match id & ERROR_FLAG {
                 0 => Ok(id),
-                _ => Err("an error frame"),
+                _ => Err(ERROR_FRAME),
             }
         }
         _ => Err(NOT_CANDUMP),
@@ -308,22 +311,28 @@ pub struct Names(Vec<String>);
 
 /// The most names that are told apart.
 const NAMES_MAX: usize = 16;
+const FURTHER: &str = "further ones";
 
 impl Names {
     pub fn new() -> Names {
         Names(Vec::new())
     }
 
-    /// The number of an interface, and whether its name is new. All names beyond the most share the last number.
-    pub fn number(&mut self, name: &str) -> (u32, bool) {
+    /// The number of an interface, and its name if that is new. All beyond the most have one number and one name, which is none of an interface.
+    pub fn number<'a>(&mut self, name: &'a str) -> (u32, Option<&'a str>) {
         if let Some(known) = self.0.iter().position(|known| known == name) {
-            return (known as u32, false);
+            return (known as u32, None);
         }
-        if self.0.len() == NAMES_MAX {
-            return (NAMES_MAX as u32 - 1, false);
+        if self.0.len() > NAMES_MAX {
+            return (NAMES_MAX as u32, None);
         }
+        let name = if self.0.len() == NAMES_MAX {
+            FURTHER
+        } else {
+            name
+        };
         self.0.push(name.to_string());
-        (self.0.len() as u32 - 1, true)
+        (self.0.len() as u32 - 1, Some(name))
     }
 }
 
@@ -476,12 +485,17 @@ mod tests {
     #[test]
     fn names() {
         let mut names = Names::new();
-        assert_eq!(names.number("can0"), (0, true));
-        assert_eq!(names.number("can1"), (1, true));
-        assert_eq!(names.number("can0"), (0, false));
-        let last = (0..100)
-            .map(|number| names.number(&format!("vcan{number}")))
-            .last();
-        assert_eq!(last, Some((NAMES_MAX as u32 - 1, false)));
+        assert_eq!(names.number("can0"), (0, Some("can0")));
+        assert_eq!(names.number("can1"), (1, Some("can1")));
+        assert_eq!(names.number("can0"), (0, None));
+        for number in 2..NAMES_MAX as u32 {
+            let name = format!("can{number}");
+            assert_eq!(names.number(&name), (number, Some(name.as_str())));
+        }
+        let beyond = NAMES_MAX as u32;
+        assert_eq!(names.number("vcan0"), (beyond, Some(FURTHER)));
+        assert_eq!(names.number("vcan0"), (beyond, None));
+        assert_eq!(names.number("vcan1"), (beyond, None));
+        assert_eq!(names.number("can15"), (15, None));
     }
 }

@@ -4,6 +4,7 @@ use super::progress::Progress;
 use super::Sink;
 use crate::failure::Failure;
 use crate::frame::Frame;
+use crate::interrupt;
 use crate::library::header::{STAMPED_SIZE, TRAILER_SIZE};
 use crate::library::{sentence, NOT_CARRIED, NO_CAPTURE};
 use std::fs::File;
@@ -81,6 +82,9 @@ fn judge(file: &mut (impl Read + Seek), trailer: &Trailer) -> Result<(), Failure
         refused = refused.or(wrong.map(|place| first + place as u64 + 1));
         Ok(())
     })?;
+    if interrupt::came() {
+        return Ok(());
+    }
     if checksum != trailer.checksum {
         return Err(Failure::Refused(format!(
             "{NO_CAPTURE} {}",
@@ -95,7 +99,7 @@ fn judge(file: &mut (impl Read + Seek), trailer: &Trailer) -> Result<(), Failure
     })
 }
 
-/// Each block of whole records, with the number of records before it.
+/// Each block of whole records, with the number of records before it; none after Ctrl-C.
 fn each_block(
     file: &mut (impl Read + Seek),
     trailer: &Trailer,
@@ -105,7 +109,7 @@ fn each_block(
         .map_err(|_| Failure::reading())?;
     let mut block = vec![0; BLOCK];
     let (mut first, all) = (0, trailer.count);
-    while first < all {
+    while first < all && !interrupt::came() {
         let count = (all - first).min((BLOCK / STAMPED_SIZE) as u64);
         let records = &mut block[..count as usize * STAMPED_SIZE];
         file.read_exact(records).map_err(|_| Failure::reading())?;

@@ -31,6 +31,11 @@ pub trait Sink {
         Ok(())
     }
 
+    /// The input is a capture.
+    fn capture(&mut self) -> Result<(), Failure> {
+        Ok(())
+    }
+
     /// A new name of an interface in a recording; frames by it have the number of names before it.
     fn interface(&mut self, _name: &str) -> Result<(), Failure> {
         Ok(())
@@ -81,6 +86,12 @@ pub enum Source {
     Can(Vec<String>),
 }
 
+/// A source that is open. It is opened once: a pipe that is closed again has lost its writer.
+pub enum Opened<'a> {
+    File(File),
+    Can(&'a [String]),
+}
+
 /// How lines are read.
 #[derive(Clone, Copy)]
 pub struct Reading {
@@ -101,6 +112,18 @@ impl Source {
         }
     }
 
+    pub fn open(&self) -> Result<Opened<'_>, Failure> {
+        match self {
+            Source::Can(names) => Ok(Opened::Can(names)),
+            Source::File(path) => open(path).map(Opened::File),
+            Source::Standard => {
+                let owned = io::stdin().as_fd().try_clone_to_owned();
+                let file = owned.map(File::from).map_err(|_| Failure::reading())?;
+                Ok(Opened::File(file))
+            }
+        }
+    }
+
     /// For people.
     pub fn name(&self) -> String {
         match self {
@@ -116,17 +139,18 @@ impl Source {
 }
 
 /// Hands all frames of the source over.
-pub fn run(source: &Source, reading: &Reading, sink: &mut dyn Sink) -> Result<(), Failure> {
-    if let Source::Can(names) = source {
-        return socketcan::run(names, sink);
-    }
-    let mut file = file(source)?;
+pub fn run(opened: Opened, reading: &Reading, sink: &mut dyn Sink) -> Result<(), Failure> {
+    let mut file = match opened {
+        Opened::Can(names) => return socketcan::run(names, sink),
+        Opened::File(file) => file,
+    };
     let kind = file.metadata().map_err(|_| Failure::reading())?;
     if kind.is_dir() {
         return Err(Failure::reading());
     }
     if kind.is_file() {
         if let Some(trailer) = capture::trailer(&mut file)? {
+            sink.capture()?;
             return capture::run(&mut file, &trailer, sink);
         }
     }
@@ -134,18 +158,7 @@ pub fn run(source: &Source, reading: &Reading, sink: &mut dyn Sink) -> Result<()
     Text::new(reading, !kind.is_file()).run(file, progress, sink)
 }
 
-/// The file of a source that is no interface.
-pub fn file(source: &Source) -> Result<File, Failure> {
-    match source {
-        Source::File(path) => open(path),
-        _ => {
-            let owned = io::stdin().as_fd().try_clone_to_owned();
-            owned.map(File::from).map_err(|_| Failure::reading())
-        }
-    }
-}
-
-pub fn open(path: &Path) -> Result<File, Failure> {
+fn open(path: &Path) -> Result<File, Failure> {
     if path.is_dir() {
         return Err(Failure::Reading(format!(
             "{} is a directory",
@@ -163,6 +176,8 @@ struct Text {
     count: u64,
     clock: Clock,
     names: Names,
+    /// A carriage return was told of.
+    told_return: bool,
     /// Room for the records of a block's lines.
     records: Vec<u8>,
 }
@@ -175,6 +190,7 @@ impl Text {
             count: 0,
             clock: Clock::new(live, reading.offset),
             names: Names::new(),
+            told_return: false,
             records: Vec::new(),
         }
     }
@@ -199,7 +215,11 @@ impl Text {
         if rest.is_empty() || self.form != Some(Form::Log) && self.candump(rest, sink)? {
             return Ok(());
         }
-        self.fault(rest, sink)
+        self.fault(rest, sink)?;
+        match frames_of_lines(&[rest, b"\n"].concat(), 1, &mut self.records) {
+            Some(_) => sink.note("the last line has no line feed, and may be cut"),
+            None => Ok(()),
+        }
     }
 
     /// Whole lines.
@@ -269,9 +289,9 @@ impl Text {
         };
         self.count += 1;
         self.form = Some(Form::Candump);
-        let (interface, is_new) = self.names.number(recorded.interface);
-        if is_new {
-            sink.interface(recorded.interface)?;
+        let (interface, new) = self.names.number(recorded.interface);
+        if let Some(name) = new {
+            sink.interface(name)?;
         }
         let time = self.clock.time(recorded.stamp);
         if let Some(note) = self.clock.note() {
@@ -286,9 +306,15 @@ impl Text {
 
     fn fault(&mut self, line: &[u8], sink: &mut dyn Sink) -> Result<(), Failure> {
         self.count += 1;
-        match self.form {
-            Some(Form::Candump) => sink.fault(self.count, &Fault::LeftOut(candump::NOT_CANDUMP)),
-            _ => sink.fault(self.count, &Fault::not_well_formed(line)),
+        if self.form == Some(Form::Candump) {
+            return sink.fault(self.count, &Fault::LeftOut(candump::NOT_CANDUMP));
+        }
+        sink.fault(self.count, &Fault::not_well_formed(line))?;
+        // what is wrong with such a line is not seen
+        let returns = line.ends_with(b"\r") && !std::mem::replace(&mut self.told_return, true);
+        match returns {
+            true => sink.note("lines of a log end with a line feed alone; here a carriage return is before it, which tr -d '\\r' takes out"),
+            false => Ok(()),
         }
     }
 }

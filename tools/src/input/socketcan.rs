@@ -17,6 +17,8 @@ pub use linux::run;
 mod linux {
     use super::*;
     use crate::frame::Frame;
+    use crate::input::candump::{ERROR_FRAME, REMOTE_FRAME, SHORT_ID};
+    use crate::input::Fault;
     use crate::interrupt;
     use std::ffi::{c_char, c_int, c_uint, c_ulong, c_void, CString};
     use std::fs::File;
@@ -30,8 +32,10 @@ mod linux {
     const CAN_RAW: c_int = 1;
     const POLLIN: i16 = 1;
     /// Flags in a frame's ID: of 29 bits, remote, error.
-    const FLAGS: u32 = 0xE0000000;
     const EXTENDED: u32 = 0x80000000;
+    const REMOTE: u32 = 0x40000000;
+    const ERROR: u32 = 0x20000000;
+    const FLAGS: u32 = EXTENDED | REMOTE | ERROR;
 
     /// struct sockaddr_can: the family, and an address of which raw sockets have the interface alone.
     #[repr(C)]
@@ -65,6 +69,7 @@ mod linux {
             );
         }
         let start = Instant::now();
+        let mut count = 0;
         while !interrupt::came() {
             for interface in ready(&sockets).map_err(|_| Failure::reading())? {
                 // struct can_frame: ID and flags, length, three bytes, data
@@ -76,19 +81,31 @@ mod linux {
                     _ => return Err(Failure::reading()),
                 }
                 let id = u32::from_ne_bytes(bytes[..4].try_into().expect("4 bytes"));
-                if id & FLAGS == EXTENDED {
-                    sink.frame(&Frame {
+                count += 1;
+                match left_out(id) {
+                    Some(reason) => sink.fault(count, &Fault::LeftOut(reason))?,
+                    None => sink.frame(&Frame {
                         time: start.elapsed().as_micros() as u64,
                         id: id & !FLAGS,
                         interface: interface as u32,
                         length: bytes[4].min(8),
                         bytes: bytes[8..].try_into().expect("8 bytes"),
-                    })?;
+                    })?,
                 }
             }
             sink.pause()?;
         }
         Ok(())
+    }
+
+    /// Why a frame is none for a receiver, by the flags in its ID.
+    fn left_out(id: u32) -> Option<&'static str> {
+        match id & FLAGS {
+            EXTENDED => None,
+            flags if flags & ERROR != 0 => Some(ERROR_FRAME),
+            flags if flags & REMOTE != 0 => Some(REMOTE_FRAME),
+            _ => Some(SHORT_ID),
+        }
     }
 
     fn open(name: &str) -> io::Result<File> {

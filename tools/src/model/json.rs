@@ -41,7 +41,7 @@ impl Tables {
             "version",
             format!("{VERSION_MAJOR}.{VERSION_MINOR}.{VERSION_PATCH}"),
         );
-        page.text("source", &self.source);
+        page.letters("source", self.source.as_bytes());
         match self.own {
             Own::Node(node) => page.number("own", node),
             Own::Every => page.null("own"),
@@ -146,13 +146,13 @@ impl Tables {
             object.time("time", Some(one.time));
             object.number("node", one.node);
             object.text("level", told(one.level, LEVEL));
-            object.text("source", &one.source);
-            object.text("text", &one.text);
+            object.letters("source", &one.source);
+            object.letters("text", &one.text);
         });
         page.number("log_message_count", self.log_message_count);
         page.objects("keys", &self.keys, |object, ((node, name), key)| {
             object.number("node", *node);
-            object.text("key", name);
+            object.letters("key", name);
             float(object.field("value"), key.value);
             object.number("count", key.count);
             object.time("last", Some(key.last));
@@ -186,7 +186,7 @@ impl Battery {
     fn json(&self, object: &mut Object) {
         object.number("node", self.node);
         object.number("battery_id", self.battery_id);
-        object.text("model_name", &self.model_name);
+        object.letters("model_name", &self.model_name);
         object.number("count", self.count);
         object.number("samples", self.samples);
         let range = |out: &mut Vec<u8>, range: Range| {

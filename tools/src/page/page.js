@@ -295,8 +295,8 @@
       points: one.bits.map((bits, at) => [origin + at * width, percent(bits), percent(bits)]),
     }));
     plot(parent, "bus load over time", series, { name: "% of the bus", zero: true });
-    const span = width === 1 ? "second" : `${width} seconds`;
-    add(parent, "p", { class: "faint" }, `Each point is one ${span}; bits with stuff bits and the space between frames, at ${grouped(rate)} bit/s (--bitrate).`);
+    const span = width === 1 ? "one second" : `${width} seconds`;
+    add(parent, "p", { class: "faint" }, `Each point is ${span}; bits with stuff bits and the space between frames, at ${grouped(rate)} bit/s (--bitrate).`);
     const rows = interfaces.flatMap((one, index) => one.frames.map((frames, at) => ({ interface: index, at: origin + at * width, frames, bits: one.bits[at] })));
     const columns = [
       number("from second", (row) => row.at),

@@ -1,7 +1,7 @@
 -- `tecelume_judge_word` meets its contract: the proved call, its answer as a word.
 use mathlib.Core.Path.{ap, _∙_}
 use borrow.Author.Needs.{needs}
-use Rattle.tecelume.specs.Word.{verdictWord}
+use Rattle.words.specs.Word.{verdictWord}
 use Rattle.tecelume.proofs.tecelume_judge_word.Statement.{statement}
 use Rattle.tecelume.proofs.tecelume_judge_word.Tie as tie
 

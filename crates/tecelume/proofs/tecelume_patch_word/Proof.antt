@@ -1,6 +1,6 @@
 -- `tecelume_patch_word` meets its contract: the proved call on the low bits, its answer as a word.
 use mathlib.Core.Path.{ap, _∙_}
-use Rattle.tecelume.specs.Word.{patchWord}
+use Rattle.words.specs.Word.{patchWord}
 use borrow.Author.Needs.{needs}
 use Rattle.tecelume.proofs.tecelume_patch_word.Statement.{statement}
 use Rattle.tecelume.proofs.tecelume_patch_word.Tie as tie

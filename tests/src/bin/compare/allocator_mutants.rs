@@ -7,13 +7,14 @@ use reference::allocator::{
     LONGEST_REPLY, TIMEOUT, UNIQUE_ID,
 };
 
-pub const ALL: [(&str, Allocate); 24] = [
+pub const ALL: [(&str, Allocate); 25] = [
     ("id-given-twice", id_given_twice),
     ("marked-id-given", marked_id_given),
     ("own-id-given", own_id_given),
     ("preferred-126-as-it-is", preferred_126_as_it_is),
     ("preferred-0-as-1", preferred_0_as_1),
     ("search-down-first", search_down_first),
+    ("lowest-below-given", lowest_below_given),
     ("entry-replaced", entry_replaced),
     ("marked-entry-replaced", marked_entry_replaced),
     ("timeout-at-500000", timeout_at_500_000),
@@ -127,6 +128,14 @@ fn search_down_first(call: &mut Question) -> u64 {
     giving(call, |before, request, preferred| {
         let free = |node_id: &u8| before.is_free(request, *node_id);
         (1..=preference(preferred)).rev().find(free)
+    })
+}
+
+fn lowest_below_given(call: &mut Question) -> u64 {
+    giving(call, |before, request, preferred| {
+        let free = |node_id: &u8| before.is_free(request, *node_id);
+        let none_above = !(preference(preferred)..=LAST_ID).any(|node_id| free(&node_id));
+        none_above.then(|| (1..preference(preferred)).find(free))?
     })
 }
 

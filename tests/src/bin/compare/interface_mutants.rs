@@ -8,7 +8,7 @@ use reference::receive::{Answer, INTERFACES, PLACES};
 use reference::session::{Piece, Reason, Restart, Session, FAR_AHEAD, SWITCH_DELAY};
 use reference::state;
 
-pub const ALL: [(&str, Receive); 10] = [
+pub const ALL: [(&str, Receive); 11] = [
     ("switch-at-one-second", switch_at_one_second),
     ("switch-16-ahead", switch_16_ahead),
     ("switch-distance-reversed", switch_distance_reversed),
@@ -16,6 +16,7 @@ pub const ALL: [(&str, Receive); 10] = [
     ("restart-keeps-interface", restart_keeps_interface),
     ("passed-over-switches", passed_over_switches),
     ("other-interface-taken", other_interface_taken),
+    ("interface-checked-before-3", interface_checked_before_3),
     ("interface-checked-after-4", interface_checked_after_4),
     ("interface-3-accepted", interface_3_accepted),
     ("state-follows-interface-3", state_follows_interface_3),
@@ -133,6 +134,13 @@ fn other_interface_taken(call: &mut Arrival) -> u64 {
         }
     }
     receive(call)
+}
+
+fn interface_checked_before_3(call: &mut Arrival) -> u64 {
+    match receive(call) {
+        3 if call.interface >= INTERFACES.into() => 19,
+        word => word,
+    }
 }
 
 fn interface_checked_after_4(call: &mut Arrival) -> u64 {

@@ -4,7 +4,7 @@ use crate::calls::{Buffers, Call};
 use reference::dsdl::call::{given, told, RECORD_SIZE};
 use reference::dsdl::{Rules, RULES};
 
-pub const ALL: [(&str, Call); 12] = [
+pub const ALL: [(&str, Call); 13] = [
     ("definitions-counted-from-0", |buffers| {
         match call(buffers) {
             word if word & 255 == 40 => word - (1 << 8),
@@ -15,6 +15,7 @@ pub const ALL: [(&str, Call); 12] = [
     ("last-definition-decides", last_definition_decides),
     ("text-before-name", text_before_name),
     ("40-before-43", fault_first),
+    ("41-before-40", nested_first),
     ("42-before-41", chain_first),
     ("8-before-41", |buffers| match call(buffers) {
         41 if buffers.out.length() == 0 => 8,
@@ -94,6 +95,21 @@ fn fault_first(buffers: &mut Buffers) -> u64 {
     match call(buffers) {
         43 => faults(buffers).first().map_or(43, |&word| word),
         word => word,
+    }
+}
+
+/// Takes a text at fault for an empty one while nested types are looked at.
+fn nested_first(buffers: &mut Buffers) -> u64 {
+    let word = call(buffers);
+    let given = given(buffers.source.content(), buffers.lengths.content()).unwrap_or_default();
+    let readable = |(name, text)| match RULES.definition(name, text) {
+        Ok(_) => (name, text),
+        Err(_) => (name, &[][..]),
+    };
+    let given: Vec<_> = given.into_iter().map(readable).collect();
+    match RULES.signatures(&given) {
+        Err(refusal) if word & 255 == 40 && refusal.number == 41 => 41,
+        _ => word,
     }
 }
 
