@@ -4,8 +4,6 @@
 #[path = "bytewise.rs"]
 #[allow(dead_code)]
 mod bytewise;
-#[path = "parameters.rs"]
-mod parameters;
 
 use bytewise::{Battery, Status};
 use std::slice::{from_raw_parts, from_raw_parts_mut};

@@ -7,7 +7,7 @@
 #include "frames.h"
 #include "tecelume.h"
 
-enum { MESSAGES = 64, TURNS = 100, ROUNDS = 1001, ROOM = TECELUME_GET_SET_RESPONSE_SIZE };
+enum { MESSAGES = 64, TURNS = 100, ROUNDS = 1001, ROOM = 64 };
 
 uint32_t by_hand_decode_node_status_fields(const uint8_t *payload, size_t length, uint64_t *fields, size_t places);
 uint64_t by_hand_encode_node_status_fields(const uint64_t *fields, size_t count, uint8_t *out, size_t room);
@@ -18,30 +18,20 @@ uint64_t by_hand_encode_battery_info_fields(const uint64_t *fields, size_t count
                                             size_t room);
 uint32_t by_hand_decode_battery_info(const uint8_t *payload, size_t length, tecelume_battery_info *message);
 uint64_t by_hand_encode_battery_info(const tecelume_battery_info *message, uint8_t *out, size_t room);
-uint32_t by_hand_decode_get_set_response_fields(const uint8_t *payload, size_t length, uint64_t *fields, size_t places);
-uint64_t by_hand_encode_get_set_response_fields(const uint64_t *fields, size_t count, const uint8_t *text, size_t text_len,
-                                                const uint8_t *other, size_t other_len, const uint8_t *name, size_t name_len, uint8_t *out,
-                                                size_t room);
-uint32_t by_hand_decode_get_set_response(const uint8_t *payload, size_t length, tecelume_get_set_response *message);
-uint64_t by_hand_encode_get_set_response(const tecelume_get_set_response *message, uint8_t *out, size_t room);
 
 static const char name[] = "org.example.pack-of-six_cells-7";
 
 static struct {
     tecelume_node_status status;
     tecelume_battery_info battery;
-    tecelume_get_set_response parameter;
-    uint64_t status_row[TECELUME_NODE_STATUS_FIELDS], battery_row[TECELUME_BATTERY_INFO_FIELDS],
-        parameter_row[TECELUME_GET_SET_RESPONSE_FIELDS];
-    uint8_t status_payload[TECELUME_NODE_STATUS_SIZE], battery_payload[TECELUME_BATTERY_INFO_SIZE],
-        parameter_payload[TECELUME_GET_SET_RESPONSE_SIZE];
-    size_t battery_length, parameter_length;
+    uint64_t status_row[TECELUME_NODE_STATUS_FIELDS], battery_row[TECELUME_BATTERY_INFO_FIELDS];
+    uint8_t status_payload[TECELUME_NODE_STATUS_SIZE], battery_payload[TECELUME_BATTERY_INFO_SIZE];
+    size_t battery_length;
 } m[MESSAGES];
 
 /* What the calls fill. The compiler must think that all of it is used. */
 static tecelume_node_status status;
 static tecelume_battery_info battery;
-static tecelume_get_set_response parameter;
 static uint64_t row[32];
 static uint8_t out[ROOM];
 
@@ -62,38 +52,9 @@ static float below(uint32_t end)
     return (float)(next_random() % (end * 1000)) / 1000;
 }
 
-static void fill_number(tecelume_param_numeric_value *value, uint32_t tag)
-{
-    value->tag = tag;
-    value->integer_value = (int64_t)next_random() - INT32_MAX;
-    value->real_value = below(1000);
-}
-
-/* A parameter as they are on a bus: mostly integers and reals, each with a default value of the same case; of these with limits. */
-static void fill_parameter(tecelume_get_set_response *p)
-{
-    static const uint32_t tags[] = {1, 2, 1, 2, 3, 4, 1, 2};
-    uint32_t tag = tags[next_random() % 8];
-    tecelume_param_value *value = &p->value;
-    value->tag = tag;
-    value->integer_value = (int64_t)next_random() - INT32_MAX;
-    value->real_value = below(1000);
-    value->boolean_value = next_random() % 2;
-    value->string_value = tecelume_list(name, 4 + next_random() % 12);
-    p->default_value = *value;
-    fill_number(&p->max_value, tag < 3 ? tag : TECELUME_PARAM_EMPTY);
-    fill_number(&p->min_value, tag < 3 ? tag : TECELUME_PARAM_EMPTY);
-    p->name = tecelume_list(name, 8 + next_random() % 16);
-}
-
 static void fill(size_t i)
 {
     tecelume_battery_info *b = &m[i].battery;
-    fill_parameter(&m[i].parameter);
-    m[i].parameter_length =
-        (size_t)(by_hand_encode_get_set_response(&m[i].parameter, m[i].parameter_payload, TECELUME_GET_SET_RESPONSE_SIZE) >> 8);
-    by_hand_decode_get_set_response_fields(m[i].parameter_payload, m[i].parameter_length, m[i].parameter_row,
-                                           TECELUME_GET_SET_RESPONSE_FIELDS);
     m[i].status.uptime_sec = next_random();
     m[i].status.health = next_random() % 4;
     m[i].status.mode = next_random() % 8;
@@ -205,48 +166,6 @@ static uint64_t battery_written_by_hand(size_t i)
     return by_hand_encode_battery_info(&m[i].battery, out, ROOM);
 }
 
-static uint64_t parameter_row_read(size_t i)
-{
-    return tecelume_decode_get_set_response_fields(m[i].parameter_payload, m[i].parameter_length, row, 14);
-}
-
-static uint64_t parameter_row_read_by_hand(size_t i)
-{
-    return by_hand_decode_get_set_response_fields(m[i].parameter_payload, m[i].parameter_length, row, 14);
-}
-
-static uint64_t parameter_row_written(size_t i)
-{
-    const tecelume_bytes *t = &m[i].parameter.value.string_value, *n = &m[i].parameter.name;
-    return tecelume_encode_get_set_response_fields(m[i].parameter_row, 14, t->at, t->len, t->at, t->len, n->at, n->len, out, ROOM);
-}
-
-static uint64_t parameter_row_written_by_hand(size_t i)
-{
-    const tecelume_bytes *t = &m[i].parameter.value.string_value, *n = &m[i].parameter.name;
-    return by_hand_encode_get_set_response_fields(m[i].parameter_row, 14, t->at, t->len, t->at, t->len, n->at, n->len, out, ROOM);
-}
-
-static uint64_t parameter_read(size_t i)
-{
-    return tecelume_decode_get_set_response(m[i].parameter_payload, m[i].parameter_length, &parameter);
-}
-
-static uint64_t parameter_read_by_hand(size_t i)
-{
-    return by_hand_decode_get_set_response(m[i].parameter_payload, m[i].parameter_length, &parameter);
-}
-
-static uint64_t parameter_written(size_t i)
-{
-    return tecelume_encode_get_set_response(&m[i].parameter, out, ROOM).word;
-}
-
-static uint64_t parameter_written_by_hand(size_t i)
-{
-    return by_hand_encode_get_set_response(&m[i].parameter, out, ROOM);
-}
-
 /* ---- measuring ---- */
 
 /* A round of a call that the compiler sees, so that what is inline stays so. */
@@ -282,10 +201,6 @@ ROUND(battery_row_read)
 ROUND(battery_row_written)
 ROUND(battery_read)
 ROUND(battery_written)
-ROUND(parameter_row_read)
-ROUND(parameter_row_written)
-ROUND(parameter_read)
-ROUND(parameter_written)
 
 static const struct {
     const char *name;
@@ -301,45 +216,20 @@ static const struct {
      battery_row_written_by_hand},
     {"BatteryInfo, struct, decode", round_battery_read, round_battery_read_by_hand, battery_read, battery_read_by_hand},
     {"BatteryInfo, struct, encode", round_battery_written, round_battery_written_by_hand, battery_written, battery_written_by_hand},
-    {"GetSet response, row, decode", round_parameter_row_read, round_parameter_row_read_by_hand, parameter_row_read,
-     parameter_row_read_by_hand},
-    {"GetSet response, row, encode", round_parameter_row_written, round_parameter_row_written_by_hand, parameter_row_written,
-     parameter_row_written_by_hand},
-    {"GetSet response, struct, decode", round_parameter_read, round_parameter_read_by_hand, parameter_read, parameter_read_by_hand},
-    {"GetSet response, struct, encode", round_parameter_written, round_parameter_written_by_hand, parameter_written,
-     parameter_written_by_hand},
 };
 enum { ROWS = sizeof rows / sizeof rows[0] };
-
-/* The members of the struct, without what is between them. */
-static void copy_parameter(uint8_t *to)
-{
-    const tecelume_param_value *values[] = {&parameter.value, &parameter.default_value};
-    const tecelume_param_numeric_value *limits[] = {&parameter.max_value, &parameter.min_value};
-    for (size_t i = 0; i < 2; i++) {
-        const int64_t numbers[] = {values[i]->tag, values[i]->integer_value, values[i]->boolean_value, limits[i]->tag,
-                                   limits[i]->integer_value};
-        memcpy(to, numbers, sizeof numbers);
-        memcpy(to + sizeof numbers, &values[i]->real_value, sizeof(float));
-        memcpy(to + sizeof numbers + sizeof(float), &limits[i]->real_value, sizeof(float));
-        memcpy(to + sizeof numbers + 2 * sizeof(float), &values[i]->string_value, sizeof(tecelume_bytes));
-        to += sizeof numbers + 2 * sizeof(float) + sizeof(tecelume_bytes);
-    }
-    memcpy(to, &parameter.name, sizeof parameter.name);
-}
 
 /* Both give the same number or word, and leave the same row, struct and output. */
 static int alike(size_t k, size_t i)
 {
-    static uint8_t first[sizeof row + sizeof out + sizeof status + sizeof battery + sizeof parameter], second[sizeof first];
-    uint64_t one = 0, other = 0;
+    static uint8_t first[sizeof row + sizeof out + sizeof status + sizeof battery], second[sizeof first];
+    uint64_t one, other;
     for (int side = 0; side < 2; side++) {
         uint8_t *left = side == 0 ? first : second;
         memset(row, 0, sizeof row);
         memset(out, 0, sizeof out);
         memset(&status, 0, sizeof status);
         memset(&battery, 0, sizeof battery);
-        memset(&parameter, 0, sizeof parameter);
         if (side == 0)
             one = rows[k].first(i);
         else
@@ -351,7 +241,6 @@ static int alike(size_t k, size_t i)
         memcpy(left, &battery.temperature, 28);
         left[28] = (uint8_t)battery.state_of_charge_pct;
         left[29] = (uint8_t)battery.model_name.len;
-        copy_parameter(left + sizeof battery);
     }
     return one == other && memcmp(first, second, sizeof first) == 0;
 }

@@ -2,7 +2,7 @@
  * messages, and the allocator, node 1, answers each. Its second and third answer take several frames and a checksum. The receiver is set
  * up as node 1: it hears both sides, since a message is for everyone, its sender included.
  *
- *     gcc -std=c99 -Idist -o receive examples/receive.c dist/tecelume.c && ./receive
+ *     gcc -std=c99 -Iinclude -o receive examples/receive.c target/staticlib/libtecelume.a && ./receive
  *
  * receive.expected holds what this prints. */
 #include <stdio.h>
@@ -52,11 +52,11 @@ static uint32_t setup(void)
 {
     uint8_t list[TYPES * TECELUME_SUBSCRIPTION_SIZE];
     uint8_t *next = list;
-    next = subscribe(next, TECELUME_KIND_MESSAGE, TECELUME_NODE_STATUS);
-    next = subscribe(next, TECELUME_KIND_MESSAGE, TECELUME_ALLOCATION);
-    next = subscribe(next, TECELUME_KIND_MESSAGE, TECELUME_KEY_VALUE);
-    next = subscribe(next, TECELUME_KIND_MESSAGE, TECELUME_LOG_MESSAGE);
-    next = subscribe(next, TECELUME_KIND_SERVICE, TECELUME_GET_NODE_INFO);
+    next = subscribe(next, TECELUME_KIND_MESSAGE, 341);    /* NodeStatus */
+    next = subscribe(next, TECELUME_KIND_MESSAGE, 1);      /* Allocation */
+    next = subscribe(next, TECELUME_KIND_MESSAGE, 16370);  /* KeyValue */
+    next = subscribe(next, TECELUME_KIND_MESSAGE, 16383);  /* LogMessage */
+    next = subscribe(next, TECELUME_KIND_SERVICE, 1);      /* GetNodeInfo */
     return tecelume_setup(state, sizeof state, OWN_ID, list, (size_t)(next - list));
 }
 

@@ -1,7 +1,7 @@
 /* Works out the signatures of two types of a vendor's own, one nested in the other, from their definitions, and shows the fault of a
  * definition that is not in the grammar.
  *
- *     gcc -std=c99 -Idist -o signatures examples/signatures.c dist/tecelume.c && ./signatures
+ *     gcc -std=c99 -Iinclude -o signatures examples/signatures.c target/staticlib/libtecelume.a && ./signatures
  *
  * signatures.expected holds what this prints. */
 #include <stdio.h>

@@ -38,15 +38,6 @@
 extern "C" {
 #endif
 
-/* Before each call that answers by a number or a result: asks the compiler to warn where the answer is not looked at. */
-#if (defined(__cplusplus) && __cplusplus >= 201703L) || (defined(__STDC_VERSION__) && __STDC_VERSION__ >= 202311L)
-#define TECELUME_NODISCARD [[nodiscard]]
-#elif defined(__GNUC__)
-#define TECELUME_NODISCARD __attribute__((warn_unused_result))
-#else
-#define TECELUME_NODISCARD
-#endif
-
 /* ---- version ---- */
 
 #define TECELUME_VERSION_MAJOR 0
@@ -77,11 +68,6 @@ uint32_t tecelume_version(void);
 /* The output buffer of tecelume_send for a payload of n bytes, at most TECELUME_PAYLOAD_MAX. It is a constant if n is one, and evaluates n
  * more than once. */
 #define TECELUME_SEND_SIZE(n) (TECELUME_RECORD_SIZE * ((size_t)(n) > 7 ? ((size_t)(n) + 8) / 7 : 1))
-
-/* An output buffer that does for tecelume_signatures: of a definition whose text has n bytes, to be added up over the definitions of a call; and of
- * any call. */
-#define TECELUME_FORM_SIZE(n) (TECELUME_NAME_MAX + 30 * ((size_t)(n) + 1))
-#define TECELUME_FORMS_SIZE (TECELUME_DEFINITIONS_MAX * TECELUME_FORM_SIZE(TECELUME_TEXT_MAX))
 
 /* The output buffer of tecelume_capture for a log of n lines, and one that does for tecelume_uncapture of a capture of n records. */
 #define TECELUME_CAPTURE_SIZE(n) (TECELUME_STAMPED_SIZE * (size_t)(n) + TECELUME_TRAILER_SIZE)
@@ -125,7 +111,7 @@ uint32_t tecelume_version(void);
  *   8   receive: out has under TECELUME_OUTPUT_SIZE bytes                        call again with more room
  *       send: out has under TECELUME_SEND_SIZE(payload_len) bytes                the same
  *       allocate: the reply is longer than out                                   the same; TECELUME_REPLY_SIZE bytes always do
- *       signatures: the forms are longer than out, or too few records            the same; TECELUME_FORMS_SIZE bytes always do
+ *       signatures: the forms are longer than out, or too few records            the same
  *       encode: the payload is longer than out                                   the same; see the sizes of messages, below
  *       decode into a row: the row has fewer places than the type has numbers    the same
  *       capture, uncapture: what is to be written is longer than out             the same; see TECELUME_CAPTURE_SIZE, TECELUME_LOG_SIZE
@@ -189,8 +175,7 @@ uint32_t tecelume_version(void);
  *       definition and the line, or line 0 if the name is no full name
  *  41   signatures: a nested type is not among the definitions, or is a          give its definition as well
  *       service
- *  42   signatures: types are nested in a circle, or five or more in a chain     a circle cannot be; a longer chain is legal, but
- *                                                                                more than this call takes
+ *  42   signatures: types are nested in a circle, or more than 4 deep            nothing: such types cannot be
  *  43   signatures: more than 8 definitions, a text over 4096 bytes, lengths     give fewer, cut comments, give each name once
  *       past the source, or a name twice
  *
@@ -346,13 +331,13 @@ uint64_t tecelume_receiver_size(void);
  *
  * Takes    state          at least TECELUME_RECEIVER_SIZE bytes, with any content
  *          own            the own node ID, 1 to 127, or 0 for none yet: then no service frame is for this node
- *          subscriptions  records one after another, at most TECELUME_SUBSCRIPTIONS_MAX, or none. Their order changes no answer.
+ *          subscriptions  records one after another, at most TECELUME_SUBSCRIPTIONS_MAX, or none. Their order changes no answer; but
+ *                         where proofs speak of equal setups (RULES 14.2), the order counts
  * Gives    0: the first TECELUME_RECEIVER_SIZE bytes of state are a receiver without sessions; bytes after them stay.
  * Refuses  20, state too short; then
  *          13, own over 127, a length that is no multiple of 13, too many records, a kind other than 0 and 1, a type ID over 65535
  *          (of a service over 255), or one kind and type twice, with equal or different signatures.
  * Costs    writes the whole state once and compares each two records. */
-TECELUME_NODISCARD
 uint32_t tecelume_setup(uint8_t *state, size_t state_len, uint32_t own, const uint8_t *subscriptions, size_t subscriptions_len);
 
 /* ---- time ---- */
@@ -409,7 +394,6 @@ uint32_t tecelume_setup(uint8_t *state, size_t state_len, uint32_t own, const ui
  * 0.1 passed it over. */
 
 /* Receives one frame as a result word (RULES 13.3), for callers in other languages. C programs call tecelume_receive. */
-TECELUME_NODISCARD
 uint64_t tecelume_receive_word(uint8_t *state, size_t state_len, uint32_t id, const uint8_t *frame, size_t frame_len,
                                uint32_t interface_number, uint64_t time, uint8_t *out, size_t out_len);
 
@@ -431,7 +415,6 @@ uint64_t tecelume_receive_word(uint8_t *state, size_t state_len, uint32_t id, co
  *          0.
  * Costs    the check for 20, which grows with the subscriptions and sessions in use; a look at the session; the checksum, once, at the
  *          end of a transfer of several frames. In libtecelume.a at most 2048 bytes of stack, besides what memcpy and its like take. */
-TECELUME_NODISCARD
 static inline tecelume_result tecelume_receive(uint8_t *state, size_t state_len, uint32_t id, const uint8_t *frame, size_t frame_len,
                                                uint32_t interface_number, uint64_t time, uint8_t *out, size_t out_len)
 {
@@ -462,7 +445,6 @@ static inline uint8_t *tecelume_arrival(uint8_t *record, uint32_t id, const uint
 }
 
 /* Receives several frames as a result word (RULES 13.3), for callers in other languages. C programs call tecelume_receive_many. */
-TECELUME_NODISCARD
 uint64_t tecelume_receive_many_word(uint8_t *state, size_t state_len, const uint8_t *records, size_t records_len, uint8_t *results,
                                     size_t results_len, uint8_t *out, size_t out_len);
 
@@ -483,7 +465,6 @@ uint64_t tecelume_receive_many_word(uint8_t *state, size_t state_len, const uint
  * Refuses  20: no record is used up, and nothing is written. What is wrong with a frame is in its own result.
  * Costs    the check for 20 once; then of each frame what tecelume_receive does after it. In libtecelume.a at most 2048 bytes of stack, besides
  *          what memcpy and its like take. */
-TECELUME_NODISCARD
 static inline tecelume_result tecelume_receive_many(uint8_t *state, size_t state_len, const uint8_t *records, size_t records_len,
                                                     uint8_t *results, size_t results_len, uint8_t *out, size_t out_len)
 {
@@ -569,11 +550,9 @@ uint64_t tecelume_map_size(void);
  * Gives    0: the first TECELUME_MAP_SIZE bytes of map are a map without entries; bytes after them stay.
  * Refuses  20, map too short; it stays as it was.
  * Costs    writes the map once. */
-TECELUME_NODISCARD
 uint32_t tecelume_map_setup(uint8_t *map, size_t map_len);
 
 /* Sends as a result word (RULES 13.3), for callers in other languages. C programs call tecelume_send. */
-TECELUME_NODISCARD
 uint64_t tecelume_send_word(uint8_t *map, size_t map_len, uint32_t own, uint32_t transfer_type, uint32_t type_id, uint32_t destination,
                             uint32_t priority, const uint8_t *payload, size_t payload_len, uint64_t signature, uint64_t time,
                             uint32_t transfer_id, uint32_t discriminator, uint8_t *out, size_t out_len);
@@ -597,7 +576,6 @@ uint64_t tecelume_send_word(uint8_t *map, size_t map_len, uint32_t own, uint32_t
  * Refuses  first match of 20, 14, 11, 8 and 9 (RULES 7.3). All leave map and out as they were, and no transfer ID is used up.
  * Costs    the check for 20, which grows with the entries in use; a search of the map; the checksum and a copy of the payload. In
  *          libtecelume.a at most 1024 bytes of stack, besides what memcpy and its like take. */
-TECELUME_NODISCARD
 static inline tecelume_result tecelume_send(uint8_t *map, size_t map_len, uint32_t own, uint32_t transfer_type, uint32_t type_id,
                                             uint32_t destination, uint32_t priority, const uint8_t *payload, size_t payload_len,
                                             uint64_t signature, uint64_t time, uint32_t transfer_id, uint32_t discriminator, uint8_t *out,
@@ -647,9 +625,8 @@ static inline const uint8_t *tecelume_record_data(const uint8_t *record)
  * field that fails, 15, 16, 25, 27 or 17 (RULES 9.6).
  *
  * Writing gives a result. 0: tecelume_length of it bytes are at the front of out, bytes after them stay. Otherwise out stays as it was, and
- * the number is the first match of 27, 17 and 8 (RULES 9.7). Look at it before you send: the length is 0 then, and tecelume_send sends a
- * payload of 0 bytes, too. SIZE bytes of out, by the constants below, do for every message of a type. A byte of several fields is put together
- * bit by bit: if out was never set, a memory checker may complain of it later, without cause.
+ * the number is the first match of 27, 17 and 8 (RULES 9.7). SIZE bytes of out, by the constants below, do for every message of a type. A byte of
+ * several fields is put together bit by bit: if out was never set, a memory checker may complain of it later, without cause.
  *
  * - A number that its field does not hold is written as the nearest that it holds (RULES 9.14): health 5 as 3, node ID 200 as 127. Members
  *   have 32 bits or more, so that C cuts no number of 32 bits before that. C makes a large number of one below 0 in an unsigned member:
@@ -910,8 +887,7 @@ typedef struct {
  *
  * - a number: itself; a signed one in two's complement. In writing, one that the field does not hold is clipped.
  * - a float, of 16 or 32 bits: the 32 bits of a float32. In writing, one of more than 32 bits answers 17.
- * - a list of bytes: its place in the payload, from 0, and its length. A list without bytes has a place within the payload, too, at most its
- *   length. In writing neither is looked at: each list is a slice of its own.
+ * - a list of bytes: its place in the payload, from 0, and its length. In writing neither is looked at: each list is a slice of its own.
  * - the list of RawCommand: its count, and 20 numbers, those past the count 0. In writing these are not looked at.
  * - the value of a parameter: its tag; the integer, float or boolean of its case, or 0; of a Value, not of a NumericValue, then the place and
  *   the length of its text.
@@ -932,65 +908,41 @@ typedef struct {
 #define TECELUME_EXECUTE_OPCODE_REQUEST_FIELDS 2
 #define TECELUME_EXECUTE_OPCODE_RESPONSE_FIELDS 2
 
-TECELUME_NODISCARD
 uint32_t tecelume_decode_node_status_fields(const uint8_t *payload, size_t payload_len, uint64_t *fields, size_t fields_len);
-TECELUME_NODISCARD
 uint64_t tecelume_encode_node_status_fields(const uint64_t *fields, size_t fields_len, uint8_t *out, size_t out_len);
-TECELUME_NODISCARD
 uint32_t tecelume_decode_get_node_info_request_fields(const uint8_t *payload, size_t payload_len, uint64_t *fields, size_t fields_len);
-TECELUME_NODISCARD
 uint64_t tecelume_encode_get_node_info_request_fields(const uint64_t *fields, size_t fields_len, uint8_t *out, size_t out_len);
-TECELUME_NODISCARD
 uint32_t tecelume_decode_get_node_info_response_fields(const uint8_t *payload, size_t payload_len, uint64_t *fields, size_t fields_len);
-TECELUME_NODISCARD
 uint64_t tecelume_encode_get_node_info_response_fields(const uint64_t *fields, size_t fields_len, const uint8_t *unique_id,
                                                        size_t unique_id_len, const uint8_t *certificate_of_authenticity,
                                                        size_t certificate_of_authenticity_len, const uint8_t *name, size_t name_len,
                                                        uint8_t *out, size_t out_len);
-TECELUME_NODISCARD
 uint32_t tecelume_decode_allocation_fields(const uint8_t *payload, size_t payload_len, uint64_t *fields, size_t fields_len);
-TECELUME_NODISCARD
 uint64_t tecelume_encode_allocation_fields(const uint64_t *fields, size_t fields_len, const uint8_t *unique_id, size_t unique_id_len,
                                            uint8_t *out, size_t out_len);
-TECELUME_NODISCARD
 uint32_t tecelume_decode_key_value_fields(const uint8_t *payload, size_t payload_len, uint64_t *fields, size_t fields_len);
-TECELUME_NODISCARD
 uint64_t tecelume_encode_key_value_fields(const uint64_t *fields, size_t fields_len, const uint8_t *key, size_t key_len, uint8_t *out,
                                           size_t out_len);
-TECELUME_NODISCARD
 uint32_t tecelume_decode_log_message_fields(const uint8_t *payload, size_t payload_len, uint64_t *fields, size_t fields_len);
-TECELUME_NODISCARD
 uint64_t tecelume_encode_log_message_fields(const uint64_t *fields, size_t fields_len, const uint8_t *source, size_t source_len,
                                             const uint8_t *text, size_t text_len, uint8_t *out, size_t out_len);
-TECELUME_NODISCARD
 uint32_t tecelume_decode_battery_info_fields(const uint8_t *payload, size_t payload_len, uint64_t *fields, size_t fields_len);
-TECELUME_NODISCARD
 uint64_t tecelume_encode_battery_info_fields(const uint64_t *fields, size_t fields_len, const uint8_t *model_name, size_t model_name_len,
                                              uint8_t *out, size_t out_len);
-TECELUME_NODISCARD
 uint32_t tecelume_decode_raw_command_fields(const uint8_t *payload, size_t payload_len, uint64_t *fields, size_t fields_len);
-TECELUME_NODISCARD
 uint64_t tecelume_encode_raw_command_fields(const uint64_t *fields, size_t fields_len, uint8_t *out, size_t out_len);
-TECELUME_NODISCARD
 uint32_t tecelume_decode_get_set_request_fields(const uint8_t *payload, size_t payload_len, uint64_t *fields, size_t fields_len);
-TECELUME_NODISCARD
 uint64_t tecelume_encode_get_set_request_fields(const uint64_t *fields, size_t fields_len, const uint8_t *string_value,
                                                 size_t string_value_len, const uint8_t *name, size_t name_len, uint8_t *out,
                                                 size_t out_len);
-TECELUME_NODISCARD
 uint32_t tecelume_decode_get_set_response_fields(const uint8_t *payload, size_t payload_len, uint64_t *fields, size_t fields_len);
-TECELUME_NODISCARD
 uint64_t tecelume_encode_get_set_response_fields(const uint64_t *fields, size_t fields_len, const uint8_t *string_value,
                                                  size_t string_value_len, const uint8_t *default_string_value,
                                                  size_t default_string_value_len, const uint8_t *name, size_t name_len, uint8_t *out,
                                                  size_t out_len);
-TECELUME_NODISCARD
 uint32_t tecelume_decode_execute_opcode_request_fields(const uint8_t *payload, size_t payload_len, uint64_t *fields, size_t fields_len);
-TECELUME_NODISCARD
 uint64_t tecelume_encode_execute_opcode_request_fields(const uint64_t *fields, size_t fields_len, uint8_t *out, size_t out_len);
-TECELUME_NODISCARD
 uint32_t tecelume_decode_execute_opcode_response_fields(const uint8_t *payload, size_t payload_len, uint64_t *fields, size_t fields_len);
-TECELUME_NODISCARD
 uint64_t tecelume_encode_execute_opcode_response_fields(const uint64_t *fields, size_t fields_len, uint8_t *out, size_t out_len);
 
 /* A float has 32 bits, as the rules ask. */
@@ -1043,7 +995,6 @@ static inline void tecelume_node_status_to(const tecelume_node_status *message, 
     fields[4] = message->vendor_specific_status_code;
 }
 
-TECELUME_NODISCARD
 static inline uint32_t tecelume_decode_node_status(const uint8_t *payload, size_t payload_len, tecelume_node_status *message)
 {
     uint64_t fields[TECELUME_NODE_STATUS_FIELDS];
@@ -1053,7 +1004,6 @@ static inline uint32_t tecelume_decode_node_status(const uint8_t *payload, size_
     return number;
 }
 
-TECELUME_NODISCARD
 static inline tecelume_result tecelume_encode_node_status(const tecelume_node_status *message, uint8_t *out, size_t out_len)
 {
     uint64_t fields[TECELUME_NODE_STATUS_FIELDS];
@@ -1066,14 +1016,12 @@ static inline tecelume_result tecelume_encode_node_status(const tecelume_node_st
 /* ---- GetNodeInfo ---- */
 
 /* Any byte answers 16. */
-TECELUME_NODISCARD
 static inline uint32_t tecelume_decode_get_node_info_request(const uint8_t *payload, size_t payload_len)
 {
     return tecelume_decode_get_node_info_request_fields(payload, payload_len, NULL, 0);
 }
 
 /* A payload of no bytes. */
-TECELUME_NODISCARD
 static inline tecelume_result tecelume_encode_get_node_info_request(uint8_t *out, size_t out_len)
 {
     tecelume_result result;
@@ -1081,7 +1029,6 @@ static inline tecelume_result tecelume_encode_get_node_info_request(uint8_t *out
     return result;
 }
 
-TECELUME_NODISCARD
 static inline uint32_t tecelume_decode_get_node_info_response(const uint8_t *payload, size_t payload_len,
                                                               tecelume_get_node_info_response *message)
 {
@@ -1104,7 +1051,6 @@ static inline uint32_t tecelume_decode_get_node_info_response(const uint8_t *pay
     return number;
 }
 
-TECELUME_NODISCARD
 static inline tecelume_result tecelume_encode_get_node_info_response(const tecelume_get_node_info_response *message, uint8_t *out,
                                                                      size_t out_len)
 {
@@ -1129,7 +1075,6 @@ static inline tecelume_result tecelume_encode_get_node_info_response(const tecel
 
 /* ---- Allocation ---- */
 
-TECELUME_NODISCARD
 static inline uint32_t tecelume_decode_allocation(const uint8_t *payload, size_t payload_len, tecelume_allocation *message)
 {
     uint64_t fields[TECELUME_ALLOCATION_FIELDS];
@@ -1142,7 +1087,6 @@ static inline uint32_t tecelume_decode_allocation(const uint8_t *payload, size_t
     return number;
 }
 
-TECELUME_NODISCARD
 static inline tecelume_result tecelume_encode_allocation(const tecelume_allocation *message, uint8_t *out, size_t out_len)
 {
     uint64_t fields[TECELUME_ALLOCATION_FIELDS] = {0};
@@ -1156,7 +1100,6 @@ static inline tecelume_result tecelume_encode_allocation(const tecelume_allocati
 
 /* ---- KeyValue ---- */
 
-TECELUME_NODISCARD
 static inline uint32_t tecelume_decode_key_value(const uint8_t *payload, size_t payload_len, tecelume_key_value *message)
 {
     uint64_t fields[TECELUME_KEY_VALUE_FIELDS];
@@ -1168,7 +1111,6 @@ static inline uint32_t tecelume_decode_key_value(const uint8_t *payload, size_t 
     return number;
 }
 
-TECELUME_NODISCARD
 static inline tecelume_result tecelume_encode_key_value(const tecelume_key_value *message, uint8_t *out, size_t out_len)
 {
     uint64_t fields[TECELUME_KEY_VALUE_FIELDS] = {0};
@@ -1180,7 +1122,6 @@ static inline tecelume_result tecelume_encode_key_value(const tecelume_key_value
 
 /* ---- LogMessage ---- */
 
-TECELUME_NODISCARD
 static inline uint32_t tecelume_decode_log_message(const uint8_t *payload, size_t payload_len, tecelume_log_message *message)
 {
     uint64_t fields[TECELUME_LOG_MESSAGE_FIELDS];
@@ -1193,7 +1134,6 @@ static inline uint32_t tecelume_decode_log_message(const uint8_t *payload, size_
     return number;
 }
 
-TECELUME_NODISCARD
 static inline tecelume_result tecelume_encode_log_message(const tecelume_log_message *message, uint8_t *out, size_t out_len)
 {
     uint64_t fields[TECELUME_LOG_MESSAGE_FIELDS] = {0};
@@ -1206,7 +1146,6 @@ static inline tecelume_result tecelume_encode_log_message(const tecelume_log_mes
 
 /* ---- BatteryInfo ---- */
 
-TECELUME_NODISCARD
 static inline uint32_t tecelume_decode_battery_info(const uint8_t *payload, size_t payload_len, tecelume_battery_info *message)
 {
     uint64_t fields[TECELUME_BATTERY_INFO_FIELDS];
@@ -1230,7 +1169,6 @@ static inline uint32_t tecelume_decode_battery_info(const uint8_t *payload, size
     return number;
 }
 
-TECELUME_NODISCARD
 static inline tecelume_result tecelume_encode_battery_info(const tecelume_battery_info *message, uint8_t *out, size_t out_len)
 {
     uint64_t fields[TECELUME_BATTERY_INFO_FIELDS] = {0};
@@ -1255,7 +1193,6 @@ static inline tecelume_result tecelume_encode_battery_info(const tecelume_batter
 
 /* ---- RawCommand ---- */
 
-TECELUME_NODISCARD
 static inline uint32_t tecelume_decode_raw_command(const uint8_t *payload, size_t payload_len, tecelume_raw_command *message)
 {
     uint64_t fields[TECELUME_RAW_COMMAND_FIELDS];
@@ -1269,7 +1206,6 @@ static inline uint32_t tecelume_decode_raw_command(const uint8_t *payload, size_
     return number;
 }
 
-TECELUME_NODISCARD
 static inline tecelume_result tecelume_encode_raw_command(const tecelume_raw_command *message, uint8_t *out, size_t out_len)
 {
     uint64_t fields[TECELUME_RAW_COMMAND_FIELDS] = {0};
@@ -1300,20 +1236,18 @@ static inline void tecelume_param_value_of(const uint8_t *payload, const uint64_
     value->string_value = tecelume_list_of(payload, fields + 2);
 }
 
-/* Of a value whose number is neither an integer nor a real, 0. By pointers, as what the tag does not name may never have been set. */
-static inline void tecelume_param_number_to(uint32_t tag, const int64_t *integer_value, const float *real_value, uint64_t *fields)
+/* Of a value whose number is neither an integer nor a real, 0. */
+static inline void tecelume_param_number_to(uint32_t tag, int64_t integer_value, const float *real_value, uint64_t *fields)
 {
     fields[0] = tag;
-    fields[1] = 0;
-    if (tag == TECELUME_PARAM_INTEGER_VALUE)
-        fields[1] = (uint64_t)*integer_value;
+    fields[1] = tag == TECELUME_PARAM_INTEGER_VALUE ? (uint64_t)integer_value : 0;
     if (tag == TECELUME_PARAM_REAL_VALUE)
         fields[1] = tecelume_bits_of(real_value);
 }
 
 static inline void tecelume_param_value_to(const tecelume_param_value *value, uint64_t *fields)
 {
-    tecelume_param_number_to(value->tag, &value->integer_value, &value->real_value, fields);
+    tecelume_param_number_to(value->tag, value->integer_value, &value->real_value, fields);
     if (value->tag == TECELUME_PARAM_BOOLEAN_VALUE)
         fields[1] = value->boolean_value;
 }
@@ -1324,7 +1258,6 @@ static inline tecelume_bytes tecelume_param_text(const tecelume_param_value *val
     return value->tag == TECELUME_PARAM_STRING_VALUE ? value->string_value : tecelume_list(NULL, 0);
 }
 
-TECELUME_NODISCARD
 static inline uint32_t tecelume_decode_get_set_request(const uint8_t *payload, size_t payload_len, tecelume_get_set_request *message)
 {
     uint64_t fields[TECELUME_GET_SET_REQUEST_FIELDS];
@@ -1337,7 +1270,6 @@ static inline uint32_t tecelume_decode_get_set_request(const uint8_t *payload, s
     return number;
 }
 
-TECELUME_NODISCARD
 static inline tecelume_result tecelume_encode_get_set_request(const tecelume_get_set_request *message, uint8_t *out, size_t out_len)
 {
     const tecelume_bytes text = tecelume_param_text(&message->value);
@@ -1350,7 +1282,6 @@ static inline tecelume_result tecelume_encode_get_set_request(const tecelume_get
     return result;
 }
 
-TECELUME_NODISCARD
 static inline uint32_t tecelume_decode_get_set_response(const uint8_t *payload, size_t payload_len, tecelume_get_set_response *message)
 {
     uint64_t fields[TECELUME_GET_SET_RESPONSE_FIELDS];
@@ -1365,7 +1296,6 @@ static inline uint32_t tecelume_decode_get_set_response(const uint8_t *payload, 
     return number;
 }
 
-TECELUME_NODISCARD
 static inline tecelume_result tecelume_encode_get_set_response(const tecelume_get_set_response *message, uint8_t *out, size_t out_len)
 {
     const tecelume_bytes text = tecelume_param_text(&message->value), default_text = tecelume_param_text(&message->default_value);
@@ -1374,8 +1304,8 @@ static inline tecelume_result tecelume_encode_get_set_response(const tecelume_ge
     tecelume_result result;
     tecelume_param_value_to(&message->value, fields);
     tecelume_param_value_to(&message->default_value, fields + 4);
-    tecelume_param_number_to(max->tag, &max->integer_value, &max->real_value, fields + 8);
-    tecelume_param_number_to(min->tag, &min->integer_value, &min->real_value, fields + 10);
+    tecelume_param_number_to(max->tag, max->integer_value, &max->real_value, fields + 8);
+    tecelume_param_number_to(min->tag, min->integer_value, &min->real_value, fields + 10);
     result.word = tecelume_encode_get_set_response_fields(fields, TECELUME_GET_SET_RESPONSE_FIELDS, text.at, text.len, default_text.at,
                                                           default_text.len, message->name.at, message->name.len, out, out_len);
     return result;
@@ -1383,7 +1313,6 @@ static inline tecelume_result tecelume_encode_get_set_response(const tecelume_ge
 
 /* ---- ExecuteOpcode ---- */
 
-TECELUME_NODISCARD
 static inline uint32_t tecelume_decode_execute_opcode_request(const uint8_t *payload, size_t payload_len,
                                                               tecelume_execute_opcode_request *message)
 {
@@ -1397,7 +1326,6 @@ static inline uint32_t tecelume_decode_execute_opcode_request(const uint8_t *pay
     return number;
 }
 
-TECELUME_NODISCARD
 static inline tecelume_result tecelume_encode_execute_opcode_request(const tecelume_execute_opcode_request *message, uint8_t *out,
                                                                      size_t out_len)
 {
@@ -1409,7 +1337,6 @@ static inline tecelume_result tecelume_encode_execute_opcode_request(const tecel
     return result;
 }
 
-TECELUME_NODISCARD
 static inline uint32_t tecelume_decode_execute_opcode_response(const uint8_t *payload, size_t payload_len,
                                                                tecelume_execute_opcode_response *message)
 {
@@ -1423,7 +1350,6 @@ static inline uint32_t tecelume_decode_execute_opcode_response(const uint8_t *pa
     return number;
 }
 
-TECELUME_NODISCARD
 static inline tecelume_result tecelume_encode_execute_opcode_response(const tecelume_execute_opcode_response *message, uint8_t *out,
                                                                       size_t out_len)
 {
@@ -1450,7 +1376,6 @@ static inline tecelume_result tecelume_encode_execute_opcode_response(const tece
  * afresh. An old byte that is not the one the checksum was made for is not noticed here; the transfer then ends with 12. */
 
 /* Corrects a checksum as a result word (RULES 13.3), for callers in other languages. C programs call tecelume_patch. */
-TECELUME_NODISCARD
 uint64_t tecelume_patch_word(uint32_t checksum, uint32_t old_byte, uint32_t new_byte, uint64_t bytes_after);
 
 /* Corrects a checksum.
@@ -1463,7 +1388,6 @@ uint64_t tecelume_patch_word(uint32_t checksum, uint32_t old_byte, uint32_t new_
  *          signature.
  * Refuses  11, bytes_after over 511.
  * Costs    the same for every number of bytes: 24 steps of a bit. */
-TECELUME_NODISCARD
 static inline tecelume_result tecelume_patch(uint32_t checksum, uint32_t old_byte, uint32_t new_byte, uint64_t bytes_after)
 {
     tecelume_result result;
@@ -1508,7 +1432,6 @@ uint64_t tecelume_allocator_size(void);
  * Gives    0: the first TECELUME_ALLOCATOR_SIZE bytes of state are an allocator without entries; bytes after them stay.
  * Refuses  20, state too short; it stays as it was.
  * Costs    writes the state once. */
-TECELUME_NODISCARD
 uint32_t tecelume_allocator_setup(uint8_t *state, size_t state_len);
 
 /* Marks a node ID as taken by a static node: in marks[0] those up to 63, in marks[1] the others. Begin with both 0. An ID that is never
@@ -1520,7 +1443,6 @@ static inline void tecelume_mark(uint64_t marks[2], uint32_t node_id)
 }
 
 /* Answers an Allocation message as a result word (RULES 13.3), for callers in other languages. C programs call tecelume_allocate. */
-TECELUME_NODISCARD
 uint64_t tecelume_allocate_word(uint8_t *state, size_t state_len, uint32_t own, uint64_t marks_low, uint64_t marks_high, uint32_t source,
                                 const uint8_t *payload, size_t payload_len, uint64_t time, uint8_t *out, size_t out_len);
 
@@ -1541,7 +1463,6 @@ uint64_t tecelume_allocate_word(uint8_t *state, size_t state_len, uint32_t own, 
  *          bytes.
  * Costs    the check for 20, which grows with the table; a search of the table; for a new node, a search for a free ID and moving the entries
  *          after it. In libtecelume.a at most 1024 bytes of stack, besides what memcpy and its like take. */
-TECELUME_NODISCARD
 static inline tecelume_result tecelume_allocate(uint8_t *state, size_t state_len, uint32_t own, uint64_t marks_low, uint64_t marks_high,
                                                 uint32_t source, const uint8_t *payload, size_t payload_len, uint64_t time, uint8_t *out,
                                                 size_t out_len)
@@ -1602,7 +1523,6 @@ static inline uint8_t *tecelume_lengths(uint8_t *lengths, size_t name_len, size_
 }
 
 /* Works out signatures as a result word (RULES 13.3), for callers in other languages. C programs call tecelume_signatures. */
-TECELUME_NODISCARD
 uint64_t tecelume_signatures_word(const uint8_t *source, size_t source_len, const uint8_t *lengths, size_t lengths_len, uint8_t *out,
                                   size_t out_len, uint8_t *records, size_t records_len);
 
@@ -1611,14 +1531,13 @@ uint64_t tecelume_signatures_word(const uint8_t *source, size_t source_len, cons
  * Takes    source   names and texts; bytes after the last text are ignored
  *          lengths  TECELUME_LENGTHS_SIZE bytes a definition, at most TECELUME_DEFINITIONS_MAX; what is left over after the last whole one
  *                   is ignored. None is allowed
- *          out      room for all forms. A form may be longer than its text: TECELUME_FORM_SIZE of each text's length, added up, does
+ *          out      room for all forms. A form may be longer than its text
  *          records  TECELUME_SIGNED_SIZE bytes a definition
  * Gives    a result: 0, with the forms one after another at the front of out, nothing between them, and a record for each definition,
  *          both in the order given. Bytes after them stay.
  * Refuses  first match of 43, 40, 41, 42 and 8 (RULES 17.12). All leave out and records as they were. 40 has the first definition at fault
  *          and its first line at fault: tecelume_definition and tecelume_line.
  * Costs    reads each text a few times, however often its type is nested; an array size of n digits takes work as n times n. */
-TECELUME_NODISCARD
 static inline tecelume_result tecelume_signatures(const uint8_t *source, size_t source_len, const uint8_t *lengths, size_t lengths_len,
                                                   uint8_t *out, size_t out_len, uint8_t *records, size_t records_len)
 {
@@ -1663,9 +1582,7 @@ static inline uint64_t tecelume_form_signature(const uint8_t *record)
 
 /* Turns a log into a capture, or a capture into a log, as a result word (RULES 13.3), for callers in other languages. C programs call
  * tecelume_capture and tecelume_uncapture. */
-TECELUME_NODISCARD
 uint64_t tecelume_capture_word(const uint8_t *log, size_t log_len, uint8_t *out, size_t out_len);
-TECELUME_NODISCARD
 uint64_t tecelume_uncapture_word(const uint8_t *capture, size_t capture_len, uint8_t *out, size_t out_len);
 
 /* Turns a log into a capture.
@@ -1675,7 +1592,6 @@ uint64_t tecelume_uncapture_word(const uint8_t *capture, size_t capture_len, uin
  * Gives    a result: 0, with tecelume_output_length of it bytes at the front of out, the capture. Bytes after it stay.
  * Refuses  first match of 18, 9 and 8 (RULES 18.3); out stays as it was.
  * Costs    reads the log twice. */
-TECELUME_NODISCARD
 static inline tecelume_result tecelume_capture(const uint8_t *log, size_t log_len, uint8_t *out, size_t out_len)
 {
     tecelume_result result;
@@ -1690,7 +1606,6 @@ static inline tecelume_result tecelume_capture(const uint8_t *log, size_t log_le
  * Gives    a result: 0, with tecelume_output_length of it bytes at the front of out, the log. Bytes after it stay.
  * Refuses  first match of 22, 23 and 8 (RULES 18.4); out stays as it was.
  * Costs    reads the records three times. */
-TECELUME_NODISCARD
 static inline tecelume_result tecelume_uncapture(const uint8_t *capture, size_t capture_len, uint8_t *out, size_t out_len)
 {
     tecelume_result result;
@@ -1725,7 +1640,6 @@ static inline uint32_t tecelume_capture_count(const uint8_t *capture, size_t cap
  * A failure names the first frame after which no continuation of the capture could pass. */
 
 /* Judges a capture as a result word (RULES 13.3), for callers in other languages. C programs call tecelume_judge. */
-TECELUME_NODISCARD
 uint64_t tecelume_judge_word(const uint8_t *subscriptions, size_t subscriptions_len, const uint8_t *capture, size_t capture_len);
 
 /* Judges a capture.
@@ -1737,7 +1651,6 @@ uint64_t tecelume_judge_word(const uint8_t *subscriptions, size_t subscriptions_
  *          first match of 2 to 5, 7, 9, 11, 12 and 24 (RULES 19.7). The result tells that frame. Nothing is written.
  * Costs    reads the records twice, for the checksum and for the verdict; looks for the subscription and the stream of each frame. In
  *          libtecelume.a at most 8192 bytes of stack. */
-TECELUME_NODISCARD
 static inline tecelume_result tecelume_judge(const uint8_t *subscriptions, size_t subscriptions_len, const uint8_t *capture, size_t capture_len)
 {
     tecelume_result result;

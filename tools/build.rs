@@ -20,12 +20,8 @@ fn main() {
 }
 
 fn compile(dist: &Path, object: &Path) {
-    // as for make, words may follow the compiler's name
-    let named = env::var("CC").unwrap_or_default();
-    let mut words = named.split_whitespace();
-    let compiler = words.next().unwrap_or("cc");
-    let done = Command::new(compiler)
-        .args(words)
+    let compiler = env::var("CC").unwrap_or_else(|_| "cc".to_string());
+    let done = Command::new(&compiler)
         .args(["-std=c99", "-O3", "-c", "-I"])
         .arg(dist)
         .arg(dist.join("tecelume.c"))

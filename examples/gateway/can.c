@@ -24,40 +24,22 @@
 #include <time.h>
 #include <unistd.h>
 
-enum { LOOK_AGAIN = 250 }; /* milliseconds */
-
 int can_open(const char *interface_name)
 {
     struct sockaddr_can address;
     unsigned index = if_nametoindex(interface_name);
     if (index == 0)
         return -1;
-    int s = socket(PF_CAN, SOCK_RAW | SOCK_CLOEXEC, CAN_RAW);
+    int s = socket(PF_CAN, SOCK_RAW, CAN_RAW);
     if (s < 0)
         return -1;
     memset(&address, 0, sizeof address);
     address.can_family = AF_CAN;
     address.can_ifindex = (int)index;
-    /* an interface that is down can be bound to, and leaves an error */
-    int error = 0;
-    socklen_t length = sizeof error;
-    if (bind(s, (const struct sockaddr *)&address, sizeof address) != 0 || getsockopt(s, SOL_SOCKET, SO_ERROR, &error, &length) != 0)
-        error = errno;
-    if (error == 0)
+    if (bind(s, (const struct sockaddr *)&address, sizeof address) == 0)
         return s;
     close(s);
-    errno = error;
     return -1;
-}
-
-bool can_is_down(void)
-{
-    return errno == ENETDOWN;
-}
-
-void can_close(int socket_number)
-{
-    close(socket_number);
 }
 
 static uint64_t microseconds(void)
@@ -67,32 +49,16 @@ static uint64_t microseconds(void)
     return (uint64_t)t.tv_sec * 1000000 + (uint64_t)t.tv_nsec / 1000;
 }
 
-bool can_look_again(void)
-{
-    static uint64_t looked;
-    uint64_t now = microseconds();
-    if (now - looked < LOOK_AGAIN * 1000)
-        return false;
-    looked = now;
-    return true;
-}
-
 int can_wait(const int *sockets, unsigned count, unsigned last)
 {
     struct pollfd waiting[TECELUME_INTERFACES];
-    int patience = -1;
     for (unsigned i = 0; i < count; i++) {
         waiting[i].fd = sockets[i];
         waiting[i].events = POLLIN;
         waiting[i].revents = 0;
-        if (sockets[i] < 0)
-            patience = LOOK_AGAIN;
     }
-    int came = poll(waiting, count, patience);
-    if (came < 0 && errno != EINTR)
-        return CAN_WAIT_FAILED;
-    if (came <= 0)
-        return CAN_NOTHING;
+    if (poll(waiting, count, -1) <= 0)
+        return -1;
     unsigned i = last;
     do
         i = (i + 1) % count;
@@ -103,12 +69,8 @@ int can_wait(const int *sockets, unsigned count, unsigned last)
 enum can_result can_read(int socket_number, struct frame *f)
 {
     struct can_frame c;
-    ssize_t n = read(socket_number, &c, sizeof c);
-    if (n != (ssize_t)sizeof c) {
-        if (n >= 0)
-            errno = EIO;
-        return n < 0 && errno == EINTR ? CAN_OTHER : CAN_FAILED;
-    }
+    if (read(socket_number, &c, sizeof c) != (ssize_t)sizeof c)
+        return CAN_FAILED;
     if ((c.can_id & (CAN_EFF_FLAG | CAN_RTR_FLAG | CAN_ERR_FLAG)) != CAN_EFF_FLAG || c.can_dlc > sizeof f->data)
         return CAN_OTHER;
     f->time = microseconds();
@@ -137,27 +99,12 @@ int can_open(const char *interface_name)
     return -1;
 }
 
-bool can_is_down(void)
-{
-    return false;
-}
-
-void can_close(int socket_number)
-{
-    (void)socket_number;
-}
-
-bool can_look_again(void)
-{
-    return false;
-}
-
 int can_wait(const int *sockets, unsigned count, unsigned last)
 {
     (void)sockets;
     (void)count;
     (void)last;
-    return CAN_WAIT_FAILED;
+    return -1;
 }
 
 enum can_result can_read(int socket_number, struct frame *f)

@@ -61,24 +61,6 @@ bool line_read(const char *line, size_t length, struct frame *f)
     return true;
 }
 
-enum line_result line_next(FILE *file, struct frame *f)
-{
-    char line[LINE_MAX_LENGTH];
-    size_t length = 0; /* of what is kept; a longer line is one byte longer than any that is well formed */
-    int c;
-    while ((c = getc(file)) != EOF && c != '\n') {
-        if (length < sizeof line)
-            line[length] = (char)c;
-        if (length <= sizeof line)
-            length++;
-    }
-    if (ferror(file))
-        return LINE_FAILED;
-    if (c == EOF)
-        return length == 0 ? LINE_END : LINE_WRONG;
-    return length <= sizeof line && line_read(line, length, f) ? LINE_FRAME : LINE_WRONG;
-}
-
 void line_write(const struct frame *f, char line[LINE_MAX_LENGTH + 2])
 {
     unsigned seconds = (unsigned)(f->time / 1000000 % 1000000000);

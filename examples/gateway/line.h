@@ -4,7 +4,6 @@
 #define LINE_H
 
 #include <stdbool.h>
-#include <stdio.h>
 
 #include "node.h"
 
@@ -12,12 +11,6 @@ enum { LINE_MAX_LENGTH = 46 }; /* without its line feed */
 
 /* The frame of a line without its line feed; false if the line is not well formed. */
 bool line_read(const char *line, size_t length, struct frame *f);
-
-enum line_result { LINE_FRAME, LINE_WRONG, LINE_END, LINE_FAILED };
-
-/* The next line, however long it is and whatever bytes it has: LINE_WRONG if it is not well formed, and so is one without its line feed at the
- * end, which may be cut. LINE_FAILED, with errno set, if reading fails. */
-enum line_result line_next(FILE *file, struct frame *f);
 
 /* Writes the line, a line feed and a zero. Times from 1,000,000,000 seconds on lose their higher digits. */
 void line_write(const struct frame *f, char line[LINE_MAX_LENGTH + 2]);

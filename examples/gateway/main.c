@@ -6,16 +6,13 @@
  *     gateway NAME [NAME [NAME]]             frames come from CAN interfaces of Linux
  *     gateway --allocate FILE ...            the same, and it hands out node IDs; FILE keeps whose they are
  *
- * Interfaces are numbered in this order, from 0. A frame to send goes out as a line on standard output, and by every CAN interface. A CAN
- * interface that goes down or vanishes is told, and taken back when it is there again. The exit status is 1 if anything could not be read or
- * written.
+ * Interfaces are numbered in this order, from 0. A frame to send goes out as a line on standard output, and by every CAN interface.
  *
- * FILE is made with the first ID that is given, and read at every start. No node is told an ID that is not in it, and no two gateways work
- * with one FILE (table.h). IDs of nodes
+ * FILE is made with the first ID that is given, and read at every start. No node is told an ID that is not in it (table.h). IDs of nodes
  * whose NodeStatus was heard are not given to others; which these are is not kept, so give it some seconds to hear them before nodes that
  * want an ID are started.
  *
- * It is built from the C files of this folder and dist/tecelume.c, as examples/run does. node.c has all that concerns the library. A run over
+ * It is built from the C files of this folder and libtecelume.a, as examples/run does. node.c has all that concerns the library. A run over
  * lines is in traffic.input, traffic.sent and traffic.told. Another is in cables.0, cables.1, cables.sent and cables.told: two pipes that
  * carry the same frames, the first with a gap of two seconds. With --allocate it is the allocator of examples/logs/allocation.log; a run
  * after that one is in nodes.input, nodes.sent and nodes.told. */
@@ -33,7 +30,6 @@ static struct node node; /* static, since it is too large for a small stack */
 static int buses[TECELUME_INTERFACES];
 static unsigned bus_count;
 static const char *table_name;
-static bool failed; /* something could not be read or written: the program goes on, and its status says so */
 static size_t kept; /* entries of the table that are in its file; as it only grows, their number says whether all are */
 
 static void tell(void *self, uint32_t source, const tecelume_node_status *s)
@@ -48,8 +44,7 @@ static void send_frame(void *self, const struct frame *f)
     char line[LINE_MAX_LENGTH + 2];
     (void)self;
     line_write(f, line);
-    if (fputs(line, stdout) == EOF)
-        failed = true;
+    fputs(line, stdout);
     for (unsigned i = 0; i < bus_count; i++)
         if (buses[i] != NO_BUS && !can_write(buses[i], f))
             perror("frame not sent");
@@ -59,10 +54,8 @@ static bool keep(void *self, uint32_t node_id, const uint8_t *unique_id)
 {
     size_t entries = tecelume_allocations(node.allocator);
     (void)self;
-    if (entries != kept && !table_store(table_name, node.allocator)) {
-        failed = true;
+    if (entries != kept && !table_store(table_name, node.allocator))
         return false;
-    }
     kept = entries;
     fprintf(stderr, "node ID %u is for ", (unsigned)node_id);
     for (int i = 0; i < TECELUME_UNIQUE_ID_SIZE; i++)
@@ -74,39 +67,49 @@ static bool keep(void *self, uint32_t node_id, const uint8_t *unique_id)
 static void receive(unsigned interface_number, const struct frame *f)
 {
     node_receive(&node, interface_number, f);
-    if (fflush(stdout) != 0)
-        failed = true;
+    fflush(stdout);
 }
 
 /* ---- lines ---- */
 
-/* The frame of the next line that is well formed; false at the end, or if reading fails. */
-static bool read_frame(FILE *file, const char *name, struct frame *f)
+/* One line without its line feed, of which only the first `room` bytes are kept; gives its whole length, -1 at the end of the file. An
+ * unfinished line at the end is longer than any that is well formed. */
+static long read_line(FILE *file, char *line, long room)
 {
+    long length = 0;
     for (;;) {
-        switch (line_next(file, f)) {
-        case LINE_FRAME:
-            return true;
-        case LINE_WRONG:
-            fprintf(stderr, "a line that is not well formed\n");
-            break;
-        case LINE_FAILED:
-            perror(name);
-            failed = true;
-            return false;
-        default:
-            return false;
-        }
+        int c = getc(file);
+        if (c == '\n')
+            return length;
+        if (c == EOF)
+            return length == 0 ? -1 : LINE_MAX_LENGTH + 1;
+        if (length < room)
+            line[length] = (char)c;
+        if (length <= LINE_MAX_LENGTH)
+            length++;
     }
 }
 
+/* The frame of the next line that is well formed; false at the end. */
+static bool read_frame(FILE *file, struct frame *f)
+{
+    char line[LINE_MAX_LENGTH];
+    long length;
+    while ((length = read_line(file, line, LINE_MAX_LENGTH)) >= 0) {
+        if (length <= LINE_MAX_LENGTH && line_read(line, (size_t)length, f))
+            return true;
+        fprintf(stderr, "a line that is not well formed\n");
+    }
+    return false;
+}
+
 /* Of the next lines of all files the one with the earliest time comes first, as it would from buses. */
-static void run_on_lines(FILE *const *files, char *const *names, unsigned count)
+static void run_on_lines(FILE *const *files, unsigned count)
 {
     struct frame next[TECELUME_INTERFACES];
     bool there[TECELUME_INTERFACES];
     for (unsigned i = 0; i < count; i++)
-        there[i] = read_frame(files[i], names[i], &next[i]);
+        there[i] = read_frame(files[i], &next[i]);
     for (;;) {
         unsigned first = count;
         for (unsigned i = 0; i < count; i++)
@@ -115,7 +118,7 @@ static void run_on_lines(FILE *const *files, char *const *names, unsigned count)
         if (first == count)
             return;
         receive(first, &next[first]);
-        there[first] = read_frame(files[first], names[first], &next[first]);
+        there[first] = read_frame(files[first], &next[first]);
     }
 }
 
@@ -129,7 +132,7 @@ static bool open_files(char **names, unsigned count)
             return false; /* the end of the program closes those that are open */
         }
     }
-    run_on_lines(files, names, count);
+    run_on_lines(files, count);
     for (unsigned i = 0; i < count; i++)
         fclose(files[i]);
     return true;
@@ -137,48 +140,21 @@ static bool open_files(char **names, unsigned count)
 
 /* ---- buses ---- */
 
-/* One that fails is closed, and its streams go on by another. */
-static void leave_bus(unsigned i, const char *name)
+/* Until all have failed. One that fails is left out, and its streams go on by another. */
+static void run_on_buses(char **names)
 {
-    perror(name);
-    can_close(buses[i]);
-    buses[i] = NO_BUS;
-}
-
-/* Takes back those that are there again: an interface may go down or vanish, and come again under its name. */
-static void take_back(char **names)
-{
-    for (unsigned i = 0; i < bus_count; i++) {
-        if (buses[i] != NO_BUS)
-            continue;
-        buses[i] = can_open(names[i]);
-        if (buses[i] != NO_BUS)
-            fprintf(stderr, "%s: back\n", names[i]);
-    }
-}
-
-/* Until waiting fails. */
-static bool run_on_buses(char **names)
-{
-    unsigned last = 0;
-    for (;;) {
+    unsigned left = bus_count;
+    int i = 0;
+    while (left > 0 && (i = can_wait(buses, bus_count, (unsigned)i)) >= 0) {
         struct frame f;
-        int i = can_wait(buses, bus_count, last);
-        if (i == CAN_WAIT_FAILED) {
-            perror("waiting for frames");
-            return false;
-        }
-        if (can_look_again())
-            take_back(names);
-        if (i == CAN_NOTHING)
-            continue;
-        last = (unsigned)i;
-        switch (can_read(buses[last], &f)) {
+        switch (can_read(buses[i], &f)) {
         case CAN_DATA:
-            receive(last, &f);
+            receive((unsigned)i, &f);
             break;
         case CAN_FAILED:
-            leave_bus(last, names[last]);
+            perror(names[i]);
+            buses[i] = NO_BUS;
+            left--;
             break;
         default:
             break;
@@ -186,18 +162,17 @@ static bool run_on_buses(char **names)
     }
 }
 
-/* A bus that is down is waited for; a name that no interface has is a mistake. */
 static bool open_buses(char **names, unsigned count)
 {
     for (; bus_count < count; bus_count++) {
         buses[bus_count] = can_open(names[bus_count]);
         if (buses[bus_count] == NO_BUS) {
             perror(names[bus_count]);
-            if (!can_is_down())
-                return false;
+            return false;
         }
     }
-    return run_on_buses(names);
+    run_on_buses(names);
+    return true;
 }
 
 /* ---- all of it ---- */
@@ -214,19 +189,16 @@ static void sum_up(void)
     fprintf(stderr, "\n");
 }
 
-static char standard_input[] = "standard input";
-
 static bool run(char **words, unsigned count)
 {
     FILE *input = stdin;
-    char *input_name[] = {standard_input};
     bool lines = count > 0 && strcmp(words[0], "--lines") == 0;
     if (lines && count > 1 && count - 1 <= TECELUME_INTERFACES)
         return open_files(words + 1, count - 1);
     if (!lines && count > 0 && count <= TECELUME_INTERFACES && words[0][0] != '-')
         return open_buses(words, count);
     if (count == 0) {
-        run_on_lines(&input, input_name, 1);
+        run_on_lines(&input, 1);
         return true;
     }
     fprintf(stderr, "usage: gateway [--allocate FILE] [--lines FILE [FILE [FILE]] | NAME [NAME [NAME]]]\n");
@@ -237,8 +209,7 @@ static bool load(void)
 {
     if (table_name == NULL)
         return true;
-    table_name = table_lock(table_name);
-    if (table_name == NULL || !table_load(table_name, node.allocator))
+    if (!table_load(table_name, node.allocator))
         return false;
     kept = tecelume_allocations(node.allocator);
     return true;
@@ -268,5 +239,5 @@ int main(int count, char **words)
     if (!load() || !run(words + first, (unsigned)(count - first)))
         return 1;
     sum_up();
-    return failed ? 1 : 0;
+    return 0;
 }

@@ -40,10 +40,9 @@ uint32_t node_setup(struct node *n, uint32_t own, const struct owner *owner)
     memset(n, 0, sizeof *n);
     n->owner = *owner;
     n->own = own;
-    uint32_t number = tecelume_map_setup(n->map, sizeof n->map);
-    if (number == TECELUME_SUCCESS)
-        number = tecelume_allocator_setup(n->allocator, sizeof n->allocator);
-    return number == TECELUME_SUCCESS ? setup_receiver(n) : number;
+    tecelume_map_setup(n->map, sizeof n->map); /* it cannot be too short, nor can the allocator's state */
+    tecelume_allocator_setup(n->allocator, sizeof n->allocator);
+    return setup_receiver(n);
 }
 
 /* A node that was heard of has its ID by hand, if it is not in the table. */
@@ -85,15 +84,11 @@ static void send_records(struct node *n, size_t count, uint64_t time)
 static void answer(struct node *n, tecelume_result request, uint64_t time)
 {
     uint8_t payload[TECELUME_GET_NODE_INFO_RESPONSE_SIZE] = {0}; /* for memory checkers: bytes of several fields are put together bit by bit */
-    tecelume_result info = node_info(time, payload, sizeof payload), result;
-    if (tecelume_number(info) != TECELUME_SUCCESS) {
-        n->refused++; /* a response without content is none */
-        return;
-    }
-    result = tecelume_send(n->map, sizeof n->map, n->own, TECELUME_RESPONSE, TECELUME_GET_NODE_INFO, tecelume_source(request),
-                           tecelume_priority(request), payload, tecelume_length(info),
-                           tecelume_signature(TECELUME_KIND_SERVICE, TECELUME_GET_NODE_INFO), time, tecelume_transfer_id(request), 0,
-                           n->records, sizeof n->records);
+    size_t length = tecelume_length(node_info(time, payload, sizeof payload)); /* nothing in it can be refused */
+    tecelume_result result = tecelume_send(n->map, sizeof n->map, n->own, TECELUME_RESPONSE, TECELUME_GET_NODE_INFO,
+                                           tecelume_source(request), tecelume_priority(request), payload, length,
+                                           tecelume_signature(TECELUME_KIND_SERVICE, TECELUME_GET_NODE_INFO), time,
+                                           tecelume_transfer_id(request), 0, n->records, sizeof n->records);
     if (tecelume_number(result) != TECELUME_SUCCESS)
         n->refused++;
     send_records(n, tecelume_frames(result), time);
@@ -156,5 +151,5 @@ void node_receive(struct node *n, uint32_t interface_number, const struct frame 
     if (number == TECELUME_HANDED_OUT)
         take(n, result, f->time);
     else if (number == TECELUME_STATE_FAULT)
-        setup_receiver(n); /* someone else wrote there; it succeeded before with the same arguments */
+        setup_receiver(n); /* someone else wrote there */
 }

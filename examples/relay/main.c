@@ -6,16 +6,17 @@
  * On standard error it tells what it rewrote and what it did not pass on. So that one sees what the other bus gets, a receiver, node 1, takes
  * every frame that goes out, and what it hands out or finds damaged is told too.
  *
- * It is built from the C files of this folder, ../gateway/line.c and dist/tecelume.c, as examples/run does. In traffic.input are a response of
+ * It is built from the C files of this folder, ../gateway/line.c and libtecelume.a, as examples/run does. In traffic.input are a response of
  * 300 bytes with messages between its frames and a frame that comes twice; one that was damaged on the way to the relay; one that is cut
  * short; and one after it. */
 #include <stdio.h>
+#include <string.h>
 
 #include "../gateway/line.h"
 #include "relay.h"
 
-enum { OWN_ID = 1, ONLY_CABLE = 0 };
-enum { STATUS_AT = 4, MODE = 7 << 3, MAINTENANCE = TECELUME_MODE_MAINTENANCE << 3 }; /* byte 4 of a response: health in bits 6 and 7, mode in 3 to 5 */
+enum { GET_NODE_INFO = 1, NODE_STATUS = 341, OWN_ID = 1, ONLY_CABLE = 0 };
+enum { STATUS_AT = 4, MODE = 7 << 3, MAINTENANCE = 2 << 3 }; /* byte 4 of a response: health in bits 6 and 7, mode in 3 to 5 */
 
 static struct relay relay;
 static uint8_t state[TECELUME_RECEIVER_SIZE];
@@ -31,10 +32,9 @@ static uint8_t in_maintenance(uint8_t status)
 static bool setup_receiver(void)
 {
     uint8_t list[2 * TECELUME_SUBSCRIPTION_SIZE], *next = list;
-    uint64_t info = tecelume_signature(TECELUME_KIND_SERVICE, TECELUME_GET_NODE_INFO);
-    uint64_t status = tecelume_signature(TECELUME_KIND_MESSAGE, TECELUME_NODE_STATUS);
-    next = tecelume_subscription(next, TECELUME_KIND_SERVICE, TECELUME_GET_NODE_INFO, info);
-    next = tecelume_subscription(next, TECELUME_KIND_MESSAGE, TECELUME_NODE_STATUS, status);
+    uint64_t info = tecelume_signature(TECELUME_KIND_SERVICE, GET_NODE_INFO), status = tecelume_signature(TECELUME_KIND_MESSAGE, NODE_STATUS);
+    next = tecelume_subscription(next, TECELUME_KIND_SERVICE, GET_NODE_INFO, info);
+    next = tecelume_subscription(next, TECELUME_KIND_MESSAGE, NODE_STATUS, status);
     return info != 0 && status != 0 && tecelume_setup(state, sizeof state, OWN_ID, list, (size_t)(next - list)) == TECELUME_SUCCESS;
 }
 
@@ -78,21 +78,20 @@ static void dropped(void *self, const struct frame *f, const char *why)
 int main(void)
 {
     static const struct relay_owner owner = {sent, told, dropped, NULL};
-    struct frame f;
-    enum line_result result;
+    char line[4 * LINE_MAX_LENGTH];
     if (tecelume_version() != TECELUME_VERSION || !setup_receiver()) {
         fprintf(stderr, "header and library do not go together\n");
         return 1;
     }
-    relay_setup(&relay, TECELUME_GET_NODE_INFO, STATUS_AT, in_maintenance, &owner);
-    while ((result = line_next(stdin, &f)) == LINE_FRAME || result == LINE_WRONG) {
-        if (result == LINE_WRONG)
+    relay_setup(&relay, GET_NODE_INFO, STATUS_AT, in_maintenance, &owner);
+    while (fgets(line, sizeof line, stdin) != NULL) {
+        struct frame f;
+        if (!line_read(line, strcspn(line, "\n"), &f)) {
             fprintf(stderr, "a line that is not well formed\n");
-        else
-            relay_take(&relay, &f);
+            continue;
+        }
+        relay_take(&relay, &f);
         fflush(stdout);
     }
-    if (result == LINE_FAILED)
-        perror("standard input");
-    return result == LINE_FAILED || ferror(stdout) ? 1 : 0;
+    return 0;
 }

@@ -125,8 +125,7 @@ static void setup(struct call *c)
     if (tecelume_setup(c->state.bytes, c->state.length, 1, list, sizeof list) != TECELUME_SUCCESS)
         fail(c, "a setup was refused");
     for (size_t i = 0; i < NODES; i++)
-        if (tecelume_map_setup(nodes[i].map, TECELUME_MAP_SIZE) != TECELUME_SUCCESS)
-            fail(c, "a map was not set up");
+        tecelume_map_setup(nodes[i].map, TECELUME_MAP_SIZE);
 }
 
 static uint8_t *put_frame(uint8_t *to)

@@ -139,44 +139,6 @@ void room_of_forms(void)
     CHECK(tecelume_number(call(length, 2 * TECELUME_SIGNED_SIZE)) == TECELUME_SUCCESS);
 }
 
-/* Writes n fields of the type B, by names of one letter first and then of two; the place after them. */
-static char *fields(char *text, int n)
-{
-    static const char letters[] = "abcdefghijklmnopqrstuvwxyzABCDEFGHIJKLMNOPQRSTUVWXYZ";
-    for (int i = 0; i < n; i++) {
-        *text++ = 'B';
-        *text++ = ' ';
-        *text++ = letters[i % 52];
-        if (i >= 52)
-            *text++ = letters[i / 52 - 1];
-        *text++ = '\n';
-    }
-    return text;
-}
-
-/* The longest form: fields of a short name whose full name is as long as names may be, in two parts. The macros have room for it. */
-void room_for_any_form(void)
-{
-    static char text[TECELUME_TEXT_MAX], name[TECELUME_NAME_MAX];
-    static uint8_t forms[TECELUME_FORMS_SIZE];
-    char *end = fields(text, 52 + 735);
-    memcpy(end, "---\n", 4);
-    end = fields(end + 4, 52);
-    memcpy(end - 1, "aa", 2);
-    CHECK(end + 1 == text + TECELUME_TEXT_MAX);
-    memset(name, 'n', sizeof name);
-    name[TECELUME_NAME_MAX - 2] = '.';
-    source_len = lengths_len = 0;
-    for (int i = 0; i < 2; i++) {
-        name[TECELUME_NAME_MAX - 1] = (char)('A' + i);
-        give_bytes(name, sizeof name, text, i == 0 ? sizeof text : 0);
-    }
-    size_t room = TECELUME_FORM_SIZE(sizeof text) + TECELUME_FORM_SIZE(0);
-    tecelume_result result = tecelume_signatures(source, source_len, lengths, lengths_len, forms, room, records, sizeof records);
-    CHECK(tecelume_number(result) == TECELUME_SUCCESS && tecelume_form_length(records) == 70458);
-    CHECK(sizeof forms == TECELUME_DEFINITIONS_MAX * TECELUME_FORM_SIZE(TECELUME_TEXT_MAX) && room <= sizeof forms);
-}
-
 /* As many definitions as there may be, and one more; a text, a name and a chain as long as they may be, and one more. */
 void limits_of_definitions(void)
 {

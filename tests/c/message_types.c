@@ -65,12 +65,9 @@ static void set_float(float *value, uint64_t number)
     memcpy(value, &bits, sizeof bits);
 }
 
-/* The place of a list in the payload. One that is not within it, a list without bytes too, has none: its pointer is not even one to subtract. */
-static void put_list(uint64_t *row, const uint8_t *payload, size_t payload_len, tecelume_bytes list)
+static void put_list(uint64_t *row, const uint8_t *payload, tecelume_bytes list)
 {
-    uintptr_t first = (uintptr_t)payload, at = (uintptr_t)list.at;
-    bool within = at >= first && at - first <= payload_len && list.len <= payload_len - (at - first);
-    row[0] = within ? (uint64_t)(at - first) : UINT64_MAX;
+    row[0] = (uint64_t)(list.at - payload);
     row[1] = list.len;
 }
 
@@ -148,9 +145,9 @@ static uint32_t read_get_node_info_response(const uint8_t *payload, size_t paylo
     row[9] = one.software_version.image_crc;
     row[10] = one.hardware_version.major;
     row[11] = one.hardware_version.minor;
-    put_list(row + 12, payload, payload_len, one.hardware_version.unique_id);
-    put_list(row + 14, payload, payload_len, one.hardware_version.certificate_of_authenticity);
-    put_list(row + 16, payload, payload_len, one.name);
+    put_list(row + 12, payload, one.hardware_version.unique_id);
+    put_list(row + 14, payload, one.hardware_version.certificate_of_authenticity);
+    put_list(row + 16, payload, one.name);
     return number;
 }
 
@@ -176,7 +173,7 @@ static uint32_t read_allocation(const uint8_t *payload, size_t payload_len, uint
     INTO(allocation, one);
     row[0] = one.node_id;
     row[1] = one.first_part_of_unique_id;
-    put_list(row + 2, payload, payload_len, one.unique_id);
+    put_list(row + 2, payload, one.unique_id);
     return number;
 }
 
@@ -193,7 +190,7 @@ static uint32_t read_key_value(const uint8_t *payload, size_t payload_len, uint6
 {
     INTO(key_value, one);
     row[0] = float_bits(&one.value);
-    put_list(row + 1, payload, payload_len, one.key);
+    put_list(row + 1, payload, one.key);
     return number;
 }
 
@@ -209,8 +206,8 @@ static uint32_t read_log_message(const uint8_t *payload, size_t payload_len, uin
 {
     INTO(log_message, one);
     row[0] = one.level;
-    put_list(row + 1, payload, payload_len, one.source);
-    put_list(row + 3, payload, payload_len, one.text);
+    put_list(row + 1, payload, one.source);
+    put_list(row + 3, payload, one.text);
     return number;
 }
 
@@ -239,7 +236,7 @@ static uint32_t read_battery_info(const uint8_t *payload, size_t payload_len, ui
     row[10] = one.state_of_charge_pct_stdev;
     row[11] = one.battery_id;
     row[12] = one.model_instance_id;
-    put_list(row + 13, payload, payload_len, one.model_name);
+    put_list(row + 13, payload, one.model_name);
     return number;
 }
 
@@ -295,10 +292,10 @@ static void put_number(uint64_t *row, uint32_t tag, int64_t integer, const float
     row[0] = (cases[1] | cases[2] | cases[3]) == 0 ? tag : 255;
 }
 
-static void put_value(uint64_t *row, const uint8_t *payload, size_t payload_len, const tecelume_param_value *one)
+static void put_value(uint64_t *row, const uint8_t *payload, const tecelume_param_value *one)
 {
     put_number(row, one->tag, one->integer_value, &one->real_value, one->boolean_value);
-    put_list(row + 2, payload, payload_len, one->string_value);
+    put_list(row + 2, payload, one->string_value);
 }
 
 static void put_numeric_value(uint64_t *row, const tecelume_param_numeric_value *one)
@@ -334,8 +331,8 @@ static uint32_t read_get_set_request(const uint8_t *payload, size_t payload_len,
 {
     INTO(get_set_request, one);
     row[0] = one.index;
-    put_value(row + 1, payload, payload_len, &one.value);
-    put_list(row + 5, payload, payload_len, one.name);
+    put_value(row + 1, payload, &one.value);
+    put_list(row + 5, payload, one.name);
     return number;
 }
 
@@ -351,11 +348,11 @@ static uint64_t write_get_set_request(const uint64_t *row, const tecelume_bytes 
 static uint32_t read_get_set_response(const uint8_t *payload, size_t payload_len, uint64_t *row)
 {
     INTO(get_set_response, one);
-    put_value(row, payload, payload_len, &one.value);
-    put_value(row + 4, payload, payload_len, &one.default_value);
+    put_value(row, payload, &one.value);
+    put_value(row + 4, payload, &one.default_value);
     put_numeric_value(row + 8, &one.max_value);
     put_numeric_value(row + 10, &one.min_value);
-    put_list(row + 12, payload, payload_len, one.name);
+    put_list(row + 12, payload, one.name);
     return number;
 }
 

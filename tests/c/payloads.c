@@ -155,31 +155,6 @@ void lists_in_the_payload(void)
     CHECK(log.source.at == line + 1 && is_text(log.source, "ab") && log.text.at == line + 3 && is_text(log.text, "hot"));
 }
 
-/* A list without bytes has a place within the payload, too, at most its length: that of a text that is not there ends its value. */
-void lists_without_bytes(void)
-{
-    const uint8_t zeros[TECELUME_KEY_VALUE_SIZE] = {0}, integer[2 + 8] = {0, TECELUME_PARAM_INTEGER_VALUE},
-                  empty_text[3] = {0, TECELUME_PARAM_STRING_VALUE, 0};
-    tecelume_get_set_request get;
-    tecelume_get_set_response set = parameter();
-    tecelume_allocation allocation;
-    tecelume_key_value value;
-    tecelume_log_message log;
-    memset(&get, 0, sizeof get);
-    memset(&allocation, 0, sizeof allocation);
-    memset(&value, 0, sizeof value);
-    memset(&log, 0, sizeof log);
-    CHECK(tecelume_decode_get_set_request(zeros, 2, &get) == TECELUME_SUCCESS && get.value.string_value.len == 0 && get.name.len == 0);
-    CHECK(get.value.string_value.at == zeros + 2 && get.name.at == zeros + 2);
-    CHECK(tecelume_decode_get_set_request(integer, 10, &get) == TECELUME_SUCCESS && get.value.string_value.at == integer + 10);
-    CHECK(tecelume_decode_get_set_request(empty_text, 3, &get) == TECELUME_SUCCESS && get.value.string_value.at == empty_text + 3);
-    CHECK(tecelume_decode_get_set_response(zeros, 4, &set) == TECELUME_SUCCESS && set.value.string_value.at == zeros + 1);
-    CHECK(set.default_value.string_value.at == zeros + 2 && set.name.at == zeros + 4);
-    CHECK(tecelume_decode_allocation(zeros, 1, &allocation) == TECELUME_SUCCESS && allocation.unique_id.at == zeros + 1);
-    CHECK(tecelume_decode_key_value(zeros, 4, &value) == TECELUME_SUCCESS && value.key.at == zeros + 4);
-    CHECK(tecelume_decode_log_message(zeros, 1, &log) == TECELUME_SUCCESS && log.source.at == zeros + 1 && log.text.at == zeros + 1);
-}
-
 /* Two lists may be the same bytes. */
 void lists_shared(void)
 {

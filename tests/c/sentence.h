@@ -46,7 +46,6 @@ void given_and_ignored(void);
 void definition_and_line(void);
 void refused_definitions(void);
 void room_of_forms(void);
-void room_for_any_form(void);
 void limits_of_definitions(void);
 void lengths_that_are_too_large(void);
 
@@ -80,7 +79,6 @@ void verdict_without_a_frame(void);
 void longest_messages(void);
 void numbers_clipped(void);
 void lists_in_the_payload(void);
-void lists_without_bytes(void);
 void lists_shared(void);
 void empty_lists(void);
 void floats_of_messages(void);

@@ -655,8 +655,6 @@ static uint32_t refused_texts(const struct texts *t)
         return TECELUME_DEFINITIONS_TOO_LARGE;
     if (is("room-looked-at-first") && t->out_len == 0 && t->lengths_len > 0)
         return TECELUME_OUTPUT_TOO_SMALL;
-    if (is("more-room-for-long-forms") && t->source_len > TECELUME_TEXT_MAX && t->out_len < TECELUME_FORMS_SIZE)
-        return TECELUME_OUTPUT_TOO_SMALL;
     if (is("more-room-for-forms") && t->out_len < 200 && t->lengths_len > 0)
         return TECELUME_OUTPUT_TOO_SMALL;
     return OTHER;

@@ -13,11 +13,9 @@ PROGRAM = "chromium"
 
 
 def wanted(who):
-    """Where there is no Chromium, the tests in it are left out with a word. In CI nothing is left out: there it is installed from Debian's packages, which
-    is said first, or the tests fail."""
+    """Installs Chromium from Debian's packages where that is allowed. Where it is not, the tests in it are left out with a word; in CI they fail."""
     said = b""
-    if shutil.which(PROGRAM) is None and os.environ.get("CI") and os.getuid() == 0 and shutil.which("apt-get"):
-        print(f"{who}: CI is set: installs the package {PROGRAM} by apt-get", flush=True)
+    if shutil.which(PROGRAM) is None and os.getuid() == 0 and shutil.which("apt-get"):
         environment = dict(os.environ, DEBIAN_FRONTEND="noninteractive")
         patient = ["apt-get", "-o", "DPkg::Lock::Timeout=300", "-o", "Acquire::Retries=3"]
         for words in (["update"], ["install", "-y", "--no-install-recommends", PROGRAM]):
@@ -26,7 +24,7 @@ def wanted(who):
         text = f"{who}: the tests in a browser need the package {PROGRAM}"
         if os.environ.get("CI"):
             sys.exit(f"{text}: {said.decode()[-500:]}")
-        print(f"{text} (apt-get install {PROGRAM}); left out")
+        print(f"{text}; left out")
         sys.exit()
 
 

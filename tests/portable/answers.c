@@ -324,8 +324,7 @@ static void record_any(void)
     uint32_t sort = below(8);
     uint32_t count = sort == 0 ? 1 : below(4);
     uint64_t time = now;
-    if (tecelume_map_setup(map, sizeof map) != TECELUME_SUCCESS)
-        return;
+    tecelume_map_setup(map, sizeof map);
     for (uint32_t i = 0; i < count; i++) {
         uint32_t kind = below(3);
         uint32_t type_id = below(TYPES);

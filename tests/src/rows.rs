@@ -92,13 +92,12 @@ pub fn row(message: &Message, payload: &[u8]) -> Vec<u64> {
         }
         Message::GetSetRequest(one) => {
             row.plain(&[one.index]);
-            row.value(&one.value, 1 + size(&one.value));
+            row.value(&one.value, 3);
             row.list(one.name);
         }
         Message::GetSetResponse(one) => {
-            let end = size(&one.value);
-            row.value(&one.value, end);
-            row.value(&one.default, end + size(&one.default));
+            row.value(&one.value, 2);
+            row.value(&one.default, size(&one.value) + 2);
             row.number(&one.highest);
             row.number(&one.lowest);
             row.list(one.name);
@@ -172,11 +171,10 @@ impl Row<'_> {
         self.plain(&[value.tag, number]);
     }
 
-    /// With the place of its text and its length: the text ends where the value does, one that is not there too.
-    fn value(&mut self, value: &Parameter, end: usize) {
+    /// With the place of its text, whatever the case is, and its length.
+    fn value(&mut self, value: &Parameter, place: usize) {
         self.number(value);
-        let length = value.text.len();
-        self.numbers.extend([(end - length) as u64, length as u64]);
+        self.numbers.extend([place as u64, value.text.len() as u64]);
     }
 }
 

@@ -69,7 +69,7 @@ impl Sink for Candump {
 
     fn fault(&mut self, line: u64, fault: &Fault) -> Result<(), Failure> {
         self.left_out += 1;
-        tell!("line {line} left out: {}", fault.sentence());
+        eprintln!("line {line} left out: {}", fault.sentence());
         Ok(())
     }
 
@@ -116,11 +116,11 @@ impl Candump {
             .collect();
         let (told, names) = match &self.only {
             Some(only) => (
-                format!("only frames by {} are in the log", text::shown(only)),
+                format!("only frames by {only} are in the log"),
                 "there were",
             ),
             None => ("a log has no interfaces".to_string(), "its frames came by"),
         };
-        tell!("tecelume: {told}; {names} {}", counts.join(", "));
+        eprintln!("tecelume: {told}; {names} {}", counts.join(", "));
     }
 }

@@ -78,11 +78,6 @@ impl Codec {
     }
 
     fn line(&mut self, line: &[u8]) -> Result<(), Failure> {
-        // of a longer one this may be the front alone
-        if line.len() > LONGEST {
-            self.wrong("the line has over 8,192 bytes");
-            return Ok(());
-        }
         match translated(line) {
             Ok(asked) if asked.len() <= LONGEST => {
                 let answer = self.ask(&asked)?;

@@ -25,7 +25,7 @@ impl Failure {
     pub fn end(self) -> ExitCode {
         match self {
             Failure::Refused(text) => {
-                tell!("{text}");
+                eprintln!("{text}");
                 ExitCode::from(1)
             }
             Failure::Words(text) => told(2, &text),
@@ -36,6 +36,6 @@ impl Failure {
 }
 
 fn told(status: u8, text: &str) -> ExitCode {
-    tell!("tecelume: {text}");
+    eprintln!("tecelume: {text}");
     ExitCode::from(status)
 }

@@ -3,9 +3,6 @@
 
 #[macro_use]
 mod text;
-#[macro_use]
-mod output;
-mod aside;
 mod bus;
 mod candump;
 mod codec;
@@ -18,6 +15,7 @@ mod library;
 mod messages;
 mod model;
 mod options;
+mod output;
 mod page;
 mod refusals;
 mod sha256;
@@ -43,6 +41,10 @@ fn main() -> ExitCode {
         library::is_of_header(),
         "dist/tecelume.c and its header go together"
     );
+    // all but a server end silently when nobody reads their output any more
+    if command != "watch" {
+        interrupt::end_with_reader();
+    }
     let done = match command.as_ref() {
         "show" => show::run(words),
         "page" => page::run(words),

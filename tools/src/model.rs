@@ -3,7 +3,7 @@
 use crate::bus::{Bus, Own};
 use crate::failure::Failure;
 use crate::frame::{Frame, Stream};
-use crate::input::{Cable, Fault, Sink};
+use crate::input::{Fault, Sink};
 use crate::library::{sentence, Answer, Transfer, LINE_NOT_WELL_FORMED};
 use crate::messages::Message;
 use crate::options::Listening;
@@ -44,9 +44,7 @@ pub struct Tables {
     bit_rate: u64,
     types: Types,
     notes: Vec<String>,
-    interfaces: Vec<Interface>,
-    /// What became of interfaces, counted.
-    events: u64,
+    interfaces: Vec<String>,
     lines: u64,
     taken: u64,
     transfers: u64,
@@ -69,15 +67,6 @@ pub struct Tables {
     log_message_count: u64,
     keys: BTreeMap<(u8, Vec<u8>), Key>,
     keys_beyond: u64,
-}
-
-/// One with a name.
-struct Interface {
-    name: String,
-    /// Frames that the system dropped.
-    lost: u64,
-    /// Since when and why, while it is.
-    gone: Option<(u64, String)>,
 }
 
 #[derive(Clone, Default)]
@@ -213,14 +202,8 @@ impl Model {
     }
 
     /// It changes with all that comes.
-    pub fn version(&self) -> (u64, u64, usize) {
-        let tables = &self.tables;
-        (tables.lines, tables.events, tables.notes.len())
-    }
-
-    pub fn interface_name(&self, number: usize) -> Option<&str> {
-        let interface = self.tables.interfaces.get(number);
-        interface.map(|one| one.name.as_str())
+    pub fn version(&self) -> (u64, usize) {
+        (self.tables.lines, self.tables.notes.len())
     }
 
     pub fn json(&self, out: &mut Vec<u8>) {
@@ -237,7 +220,6 @@ impl Tables {
             types: listening.types,
             notes: Vec::new(),
             interfaces: Vec::new(),
-            events: 0,
             lines: 0,
             taken: 0,
             transfers: 0,
@@ -519,23 +501,7 @@ impl Sink for Model {
     }
 
     fn interface(&mut self, name: &str) -> Result<(), Failure> {
-        self.tables.interfaces.push(Interface {
-            name: name.to_string(),
-            lost: 0,
-            gone: None,
-        });
-        Ok(())
-    }
-
-    fn cable(&mut self, interface: usize, time: u64, what: &Cable) -> Result<(), Failure> {
-        self.tables.events += 1;
-        if let Some(one) = self.tables.interfaces.get_mut(interface) {
-            match what {
-                Cable::Gone(why) => one.gone = Some((time, why.clone())),
-                Cable::Back => one.gone = None,
-                Cable::Lost(count) => one.lost += count,
-            }
-        }
+        self.tables.interfaces.push(name.to_string());
         Ok(())
     }
 
@@ -642,35 +608,6 @@ mod tests {
         assert_eq!((axis.width, parts), (8000, vec![5, 1, 1]));
         axis.origin = 10_000;
         assert_eq!(axis.part(5), (0, 0));
-    }
-
-    /// An interface is in the load if it has a name, or if a later one was heard.
-    #[test]
-    fn silent_interfaces() {
-        let loads = |names: &[&str], heard: u32| {
-            let mut model = model();
-            for name in names {
-                model.interface(name).unwrap();
-            }
-            let one = frame(0, 0x1001552A, &[1, 0, 0, 0, 0, 0, 0, 0xC0]);
-            model
-                .frame(&Frame {
-                    interface: heard,
-                    ..one
-                })
-                .unwrap();
-            let mut out = Vec::new();
-            model.json(&mut out);
-            let text = String::from_utf8(out).unwrap();
-            let frames = text.split(r#""frames":["#).skip(1);
-            let told = frames.map(|rest| rest.split(']').next().unwrap_or_default().to_string());
-            told.collect::<Vec<_>>()
-        };
-        assert_eq!(loads(&[], 0), ["1"]);
-        assert_eq!(loads(&[], 2), ["", "", "1"]);
-        assert_eq!(loads(&["can0", "can1"], 0), ["1", ""]);
-        assert_eq!(loads(&["can0", "can1"], 1), ["", "1"]);
-        assert_eq!(loads(&["a", "b", "c", "d"], 0), ["1", "", ""]);
     }
 
     #[test]

@@ -138,7 +138,7 @@ impl Listening {
         self.types = types;
         if !left_out.is_empty() {
             let names = left_out.join(", ");
-            tell!("tecelume: a receiver subscribes to 64 types at most; left out: {names}");
+            eprintln!("tecelume: a receiver subscribes to 64 types at most; left out: {names}");
         }
         Ok(())
     }

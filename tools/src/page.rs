@@ -1,6 +1,5 @@
 //! `page`: all that a bus said, as one page that needs nothing else.
 
-use crate::aside;
 use crate::failure::Failure;
 use crate::input::{self, Opened};
 use crate::model::Model;
@@ -9,8 +8,9 @@ use crate::sha256;
 use crate::text;
 use std::ffi::{OsStr, OsString};
 use std::fs;
+use std::io::Write;
 use std::os::unix::fs::MetadataExt;
-use std::path::Path;
+use std::path::{Path, PathBuf};
 
 const PAGE: &str = include_str!("page/page.html");
 const STYLE: &str = include_str!("page/page.css");
@@ -35,14 +35,13 @@ pub fn run(words: Vec<OsString>) -> Result<(), Failure> {
     if let Opened::File(file) = &opened {
         refuse_same(file, from, to)?;
     }
-    refuse_place(to)?;
+    aside(to)?;
     let reading = listening.reading;
     let mut model = Model::new(source.name(), listening)?;
     input::run(opened, &reading, &mut model)?;
     let mut data = Vec::new();
     model.json(&mut data);
-    refuse_place(to)?;
-    aside::put(to, &page(&data, false)).map_err(|_| cannot_write(to))
+    put(to, &page(&data, false))
 }
 
 /// The page over these tables; of a live page they come later.
@@ -93,24 +92,39 @@ fn refuse_same(file: &fs::File, from: &OsStr, to: &Path) -> Result<(), Failure> 
     Err(Failure::Words(format!("{from} and {to} are one file")))
 }
 
-/// Why it cannot be written, as far as that is seen beforehand.
-fn refuse_place(to: &Path) -> Result<(), Failure> {
-    let place = text::path(to);
+/// The name under which a file is written before it is moved into place; or why it cannot be written, as far as that is seen beforehand.
+fn aside(to: &Path) -> Result<PathBuf, Failure> {
     if to.exists() && !to.is_file() {
         return Err(Failure::Writing(format!(
-            "{place} is there, and not a file"
+            "{} is there, and not a file",
+            text::path(to)
         )));
     }
-    if to.file_name().is_none() {
-        return Err(Failure::Words(format!("{place} is no name of a file")));
-    }
-    let folder = to.parent().filter(|folder| *folder != Path::new(""));
+    let name = to
+        .file_name()
+        .ok_or_else(|| Failure::Words(format!("{} is no name of a file", text::path(to))))?;
+    let mut aside = name.to_os_string();
+    aside.push(format!(".{}", std::process::id()));
+    let aside = to.with_file_name(aside);
+    let folder = aside.parent().filter(|folder| *folder != Path::new(""));
     match folder.is_none_or(Path::is_dir) {
-        true => Ok(()),
+        true => Ok(aside),
         false => Err(cannot_write(to)),
     }
 }
 
 fn cannot_write(to: &Path) -> Failure {
     Failure::Writing(format!("cannot write {}", text::path(to)))
+}
+
+/// Writes a file aside and moves it into place when it is whole.
+fn put(to: &Path, bytes: &[u8]) -> Result<(), Failure> {
+    let aside = aside(to)?;
+    let written = fs::File::create_new(&aside)
+        .and_then(|mut file| file.write_all(bytes).and_then(|()| file.sync_all()))
+        .and_then(|()| fs::rename(&aside, to));
+    written.map_err(|_| {
+        let _ = fs::remove_file(&aside);
+        cannot_write(to)
+    })
 }

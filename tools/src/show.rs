@@ -6,13 +6,12 @@ mod plain;
 use crate::bus::Bus;
 use crate::failure::Failure;
 use crate::frame::Frame;
-use crate::input::{self, Cable, Fault, Sink};
+use crate::input::{self, Fault, Sink};
 use crate::interrupt;
 use crate::library::{Answer, Transfer, LINE_NOT_WELL_FORMED};
 use crate::options::{unknown, Listening, Words};
 use crate::output;
 use crate::refusals::{Group, Place, Refusals, GROUPS_MAX};
-use crate::text;
 use crate::types::Types;
 use std::collections::BTreeMap;
 use std::ffi::OsString;
@@ -67,8 +66,6 @@ struct Counts {
     refusals: Refusals,
     /// Lines of candump that give no frame, by reason.
     left_out: BTreeMap<&'static str, u64>,
-    /// Frames that the system dropped: of which interfaces, and how many.
-    lost: BTreeMap<String, u64>,
 }
 
 struct Show {
@@ -79,7 +76,7 @@ struct Show {
     teller: &'static Teller,
     counts: Counts,
     told_beyond: bool,
-    /// Names, by number.
+    /// The names of a recording's interfaces.
     interfaces: Vec<String>,
     out: Vec<u8>,
 }
@@ -120,29 +117,12 @@ impl Sink for Show {
     fn interface(&mut self, name: &str) -> Result<(), Failure> {
         let number = self.interfaces.len();
         self.interfaces.push(name.to_string());
-        let (first, name) = (&self.interfaces[0], text::shown(name));
+        let first = &self.interfaces[0];
         match number {
             0 => Ok(()),
-            1 => self.note(&format!(
-                "{} is interface 0, {name} interface 1",
-                text::shown(first)
-            )),
+            1 => self.note(&format!("{first} is interface 0, {name} interface 1")),
             _ => self.note(&format!("{name} is interface {number}")),
         }
-    }
-
-    /// Of losses the first is told at once, and others when there are twice as many; the end has them all.
-    fn cable(&mut self, interface: usize, time: u64, what: &Cable) -> Result<(), Failure> {
-        let name = &self.interfaces[interface];
-        let told = what.told(name, time);
-        if let Cable::Lost(more) = what {
-            let all = self.counts.lost.entry(text::shown(name)).or_default();
-            let before = std::mem::replace(all, *all + more);
-            if before > 0 && all.ilog2() == before.ilog2() {
-                return Ok(());
-            }
-        }
-        self.note(&told)
     }
 
     fn pause(&mut self) -> Result<(), Failure> {

@@ -151,13 +151,6 @@ pub fn counted(number: u64, what: &str) -> String {
     format!("{} {what}{plural}", grouped(number))
 }
 
-/// A word of a user's, with what does not print escaped.
-pub fn shown(word: &str) -> String {
-    let mut out = Vec::new();
-    escaped(&mut out, word.as_bytes());
-    String::from_utf8_lossy(&out).into_owned()
-}
-
 /// The name of a file, in quotes.
 pub fn path(path: &Path) -> String {
     format!("'{}'", bare_path(path))

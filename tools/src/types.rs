@@ -6,10 +6,8 @@ use crate::library::header::{DEFINITIONS_MAX, SUBSCRIPTIONS_MAX, TEXT_MAX};
 use crate::library::{sentence, signature, signatures, subscription};
 use crate::messages::{Type, TYPES};
 use crate::text;
-use std::collections::HashSet;
-use std::fs::{self, DirEntry, File};
-use std::io::{self, ErrorKind, Read};
-use std::os::unix::fs::{MetadataExt, OpenOptionsExt};
+use std::fs::{self, File};
+use std::io::Read;
 use std::path::{Path, PathBuf};
 
 /// A type that is subscribed to.
@@ -133,16 +131,15 @@ struct Definition {
 
 /// With line 0, the name is at fault.
 const NOT_IN_GRAMMAR: u32 = 40;
-/// The most definitions, and the most folders, that are looked at.
+/// The most files that are looked at.
 const FILES_MAX: usize = 4096;
 const DEPTH_MAX: usize = 32;
 
 /// The types with an ID under a folder, in which root namespaces are.
 fn definitions(folder: &Path) -> Result<Vec<Subscribed>, Failure> {
-    let mut walk = Walk::default();
-    walk.enter(folder, "", 0)?;
-    let mut all = walk.found;
-    all.sort_by(|one, other| (&one.full_name, &one.path).cmp(&(&other.full_name, &other.path)));
+    let mut all = Vec::new();
+    walk(folder, "", 0, &mut all)?;
+    all.sort_by(|one, other| one.full_name.cmp(&other.full_name));
     if all.iter().all(|one| one.type_id.is_none()) {
         return Err(Failure::Words(format!(
             "no definition with an ID, as acme/20000.Zoom.uavcan, is under {}",
@@ -153,72 +150,35 @@ fn definitions(folder: &Path) -> Result<Vec<Subscribed>, Failure> {
     with_id.map(|one| one.subscribed(&all)).collect()
 }
 
-#[derive(Default)]
-struct Walk {
-    found: Vec<Definition>,
-    /// Folders that were entered, by device and number, so that links lead nowhere twice.
-    entered: HashSet<(u64, u64)>,
-}
-
-fn unreadable(path: &Path) -> Failure {
-    Failure::Reading(format!("cannot read {}", text::path(path)))
-}
-
-impl Walk {
-    fn enter(&mut self, folder: &Path, namespace: &str, depth: usize) -> Result<(), Failure> {
-        let about = fs::metadata(folder).map_err(|_| unreadable(folder))?;
-        if !self.entered.insert((about.dev(), about.ino())) {
-            return Ok(());
-        }
-        self.bounded(self.entered.len(), "folders", folder)?;
-        let entries: Result<Vec<_>, _> = fs::read_dir(folder)
-            .map_err(|_| unreadable(folder))?
-            .collect();
-        let mut entries = entries.map_err(|_| unreadable(folder))?;
-        // in one order, links last: a folder is entered under its own name if it can be
-        let is_link = |entry: &DirEntry| entry.file_type().is_ok_and(|kind| kind.is_symlink());
-        entries.sort_by_cached_key(|entry| (is_link(entry), entry.file_name()));
-        for entry in entries {
-            let (path, name) = (entry.path(), entry.file_name());
-            let name = name.to_string_lossy();
-            if path.is_dir() {
-                if depth < DEPTH_MAX && !name.starts_with('.') {
-                    self.enter(&path, &format!("{namespace}{name}."), depth + 1)?;
-                }
-            } else if let Some(name) = name.strip_suffix(".uavcan") {
-                self.bounded(self.found.len() + 1, "definitions", folder)?;
-                self.found.push(Definition::read(&path, namespace, name)?);
+fn walk(
+    folder: &Path,
+    namespace: &str,
+    depth: usize,
+    all: &mut Vec<Definition>,
+) -> Result<(), Failure> {
+    let unreadable = || Failure::Reading(format!("cannot read {}", text::path(folder)));
+    for entry in fs::read_dir(folder).map_err(|_| unreadable())? {
+        let path = entry.map_err(|_| unreadable())?.path();
+        let name = path
+            .file_name()
+            .unwrap_or_default()
+            .to_string_lossy()
+            .into_owned();
+        if path.is_dir() {
+            if depth < DEPTH_MAX && !name.starts_with('.') {
+                walk(&path, &format!("{namespace}{name}."), depth + 1, all)?;
             }
-        }
-        Ok(())
-    }
-
-    fn bounded(&self, count: usize, what: &str, folder: &Path) -> Result<(), Failure> {
-        match count <= FILES_MAX {
-            true => Ok(()),
-            false => Err(Failure::Words(format!(
-                "more than {FILES_MAX} {what} under {}",
-                text::path(folder)
-            ))),
+        } else if let Some(name) = name.strip_suffix(".uavcan") {
+            if all.len() == FILES_MAX {
+                return Err(Failure::Words(format!(
+                    "more than {FILES_MAX} definitions under {}",
+                    text::path(folder)
+                )));
+            }
+            all.push(Definition::read(&path, namespace, name)?);
         }
     }
-}
-
-/// The front of a regular file, a byte more than a text may have, which is enough to be refused. Nothing else is opened: a pipe would be waited for.
-fn front(path: &Path) -> io::Result<Vec<u8>> {
-    const O_NONBLOCK: i32 = if cfg!(target_os = "linux") { 0o4000 } else { 4 };
-    if !fs::metadata(path)?.is_file() {
-        return Err(ErrorKind::InvalidInput.into());
-    }
-    // it may be another by now, and is not waited for either
-    let mut options = File::options();
-    let file = options.read(true).custom_flags(O_NONBLOCK).open(path)?;
-    if !file.metadata()?.is_file() {
-        return Err(ErrorKind::InvalidInput.into());
-    }
-    let mut text = Vec::new();
-    file.take(TEXT_MAX as u64 + 1).read_to_end(&mut text)?;
-    Ok(text)
+    Ok(())
 }
 
 impl Definition {
@@ -239,12 +199,11 @@ impl Definition {
                 text::path(path)
             )));
         }
-        let text = front(path).map_err(|error| match error.kind() {
-            ErrorKind::InvalidInput => {
-                Failure::Reading(format!("{} is not a file", text::path(path)))
-            }
-            _ => unreadable(path),
-        })?;
+        // a byte more than a text may have is enough to be refused
+        let mut text = Vec::new();
+        let read =
+            File::open(path).and_then(|file| file.take(TEXT_MAX as u64 + 1).read_to_end(&mut text));
+        read.map_err(|_| Failure::Reading(format!("cannot read {}", text::path(path))))?;
         Ok(Definition {
             path: path.to_path_buf(),
             full_name: format!("{namespace}{name}"),
@@ -268,36 +227,33 @@ impl Definition {
         self.lines().any(|words| words == [b"---"])
     }
 
-    /// The full name of each line's type, if it is one of a definition. The proved call reads the texts and judges; this only chooses which of them
-    /// it is given.
-    fn nested(&self) -> impl Iterator<Item = String> + '_ {
+    /// Whether a line's type is the other one, by its full name or by its name in this namespace. The proved call reads the texts and judges; this
+    /// only chooses which of them it is given.
+    fn nests(&self, other: &Definition) -> bool {
         let (namespace, _) = self.full_name.rsplit_once('.').unwrap_or_default();
-        self.lines().filter_map(move |words| {
+        self.lines().any(|words| {
             let cast = matches!(words.first(), Some(&b"saturated" | &b"truncated"));
-            let word = words.get(usize::from(cast))?;
+            let Some(word) = words.get(usize::from(cast)) else {
+                return false;
+            };
             let base = word.split(|byte| *byte == b'[').next().unwrap_or_default();
             let base = String::from_utf8_lossy(base);
-            Some(match base.contains('.') {
-                true => base.into_owned(),
-                false => format!("{namespace}.{base}"),
-            })
+            match base.contains('.') {
+                true => base == other.full_name,
+                false => other.full_name == format!("{namespace}.{base}"),
+            }
         })
     }
 
-    /// This one and all that it nests, of all by their names; one more than there may be is enough to be refused.
+    /// This one and all that it nests.
     fn family<'a>(&'a self, all: &'a [Definition]) -> Vec<&'a Definition> {
         let mut family = vec![self];
         let mut next = 0;
         while next < family.len() && family.len() <= DEFINITIONS_MAX {
-            for name in family[next].nested() {
-                let at = all.partition_point(|one| one.full_name < name);
-                let other = all.get(at).filter(|one| one.full_name == name);
-                let is_known = family.iter().any(|one| one.full_name == name);
-                match other {
-                    Some(other) if !is_known && family.len() <= DEFINITIONS_MAX => {
-                        family.push(other)
-                    }
-                    _ => (),
+            for other in all {
+                let known = family.iter().any(|one| one.full_name == other.full_name);
+                if !known && family[next].nests(other) {
+                    family.push(other);
                 }
             }
             next += 1;

@@ -2,27 +2,23 @@
 
 use crate::failure::Failure;
 use crate::frame::Frame;
-use crate::input::{self, Cable, Fault, Sink};
+use crate::input::{self, Fault, Sink};
 use crate::model::Model;
 use crate::options::{unknown, Listening, Words};
-use crate::output;
 use crate::page;
 use std::ffi::OsString;
-use std::io::{self, ErrorKind, Read, Write};
+use std::io::{self, Read, Write};
 use std::net::{Ipv4Addr, TcpListener, TcpStream};
 use std::sync::atomic::{AtomicUsize, Ordering};
-use std::sync::{Arc, Condvar, Mutex, MutexGuard, PoisonError};
+use std::sync::{Arc, Condvar, Mutex, MutexGuard};
 use std::thread;
 use std::time::{Duration, Instant};
 
 /// Browsers, or parts of them, that are answered at once.
-const READERS_MAX: usize = 8;
-/// The same, and those that have not said yet what they want: these keep nobody out.
-const CONNECTIONS_MAX: usize = 64;
+const CLIENTS_MAX: usize = 8;
 const REQUEST_MAX: usize = 8192;
-/// For a request, an answer and an event, each as a whole.
 const PATIENCE: Duration = Duration::from_secs(5);
-/// Before another client is waited for, when that failed.
+/// For a client that is turned away; others wait meanwhile.
 const BRIEFLY: Duration = Duration::from_millis(100);
 const FULL: &str = "<title>Tecelume</title><p>This page is open eight times already: close one, and load it again.";
 /// The least time between two events; with large tables it is as many times what they take to write.
@@ -48,34 +44,36 @@ pub fn run(words: Vec<OsString>) -> Result<(), Failure> {
     let shared = Arc::new(Shared {
         model: Mutex::new(Model::new(source.name(), listening)?),
         came: Condvar::new(),
-        connections: AtomicUsize::new(0),
-        readers: AtomicUsize::new(0),
+        clients: AtomicUsize::new(0),
     });
     let cannot = |error: io::Error| {
         Failure::Writing(format!("cannot serve port {port} of 127.0.0.1: {error}"))
     };
     let listener = TcpListener::bind((Ipv4Addr::LOCALHOST, port)).map_err(cannot)?;
     let port = listener.local_addr().map_err(cannot)?.port();
-    output::write(&mut format!("http://127.0.0.1:{port}/\n").into_bytes())?;
+    let told =
+        writeln!(io::stdout(), "http://127.0.0.1:{port}/").and_then(|()| io::stdout().flush());
+    told.map_err(|_| Failure::writing())?;
     let server = {
         let shared = Arc::clone(&shared);
         thread::spawn(move || serve(&listener, port, &shared))
     };
     input::run(opened, &reading, &mut Watched(&shared))?;
-    tell!("tecelume: the input has ended; the page stays until this program is stopped");
+    eprintln!("tecelume: the input has ended; the page stays until this program is stopped");
     server.join().map_err(|_| Failure::writing())
 }
 
 struct Shared {
     model: Mutex<Model>,
     came: Condvar,
-    connections: AtomicUsize,
-    readers: AtomicUsize,
+    clients: AtomicUsize,
 }
 
 impl Shared {
     fn model(&self) -> MutexGuard<'_, Model> {
-        self.model.lock().unwrap_or_else(PoisonError::into_inner)
+        self.model
+            .lock()
+            .expect("no thread ends in the midst of a model")
     }
 }
 
@@ -94,18 +92,6 @@ impl Sink for Watched<'_> {
         self.0.model().interface(name)
     }
 
-    fn cable(&mut self, interface: usize, time: u64, what: &Cable) -> Result<(), Failure> {
-        let mut model = self.0.model();
-        // of losses the page has the count, which may grow with every frame
-        match (what, model.interface_name(interface)) {
-            (Cable::Gone(_) | Cable::Back, Some(name)) => {
-                tell!("tecelume: {}", what.told(name, time))
-            }
-            _ => (),
-        }
-        model.cable(interface, time, what)
-    }
-
     fn note(&mut self, text: &str) -> Result<(), Failure> {
         self.0.model().note(text)
     }
@@ -117,102 +103,51 @@ impl Sink for Watched<'_> {
 }
 
 fn serve(listener: &TcpListener, port: u16, shared: &Arc<Shared>) {
-    for stream in listener.incoming() {
-        let Ok(stream) = stream else {
-            // as when there are no descriptors left: the one that asks waits, and so does this
-            thread::sleep(BRIEFLY);
-            continue;
-        };
-        let Some(place) = Place::among(shared, |shared| &shared.connections, CONNECTIONS_MAX)
-        else {
-            continue;
-        };
+    for stream in listener.incoming().flatten() {
         let shared = Arc::clone(shared);
-        // a client that does not speak or listen is left, and so is one for which there is no thread; what it got is its own concern
-        let _ = thread::Builder::new().spawn(move || {
-            let _place = place;
+        if shared.clients.fetch_add(1, Ordering::SeqCst) >= CLIENTS_MAX {
+            shared.clients.fetch_sub(1, Ordering::SeqCst);
+            let _ = turn_away(&stream);
+            continue;
+        }
+        // a client that does not speak or listen is left; what it got is its own concern
+        thread::spawn(move || {
             let _ = client(&stream, port, &shared);
+            shared.clients.fetch_sub(1, Ordering::SeqCst);
         });
     }
 }
 
-/// One of so many that there may be at once, as long as it is kept.
-struct Place {
-    shared: Arc<Shared>,
-    of: fn(&Shared) -> &AtomicUsize,
+/// What the client asks is read first: where a connection is closed with bytes unread, the answer may be lost.
+fn turn_away(mut stream: &TcpStream) -> io::Result<()> {
+    stream.set_read_timeout(Some(BRIEFLY))?;
+    stream.set_write_timeout(Some(BRIEFLY))?;
+    let _ = stream.read(&mut [0; REQUEST_MAX]);
+    answer(stream, "503 Service Unavailable", FULL.as_bytes())
 }
 
-impl Place {
-    fn among(shared: &Arc<Shared>, of: fn(&Shared) -> &AtomicUsize, most: usize) -> Option<Place> {
-        let place = Place {
-            shared: Arc::clone(shared),
-            of,
-        };
-        let others = of(shared).fetch_add(1, Ordering::SeqCst);
-        (others < most).then_some(place)
-    }
-}
-
-impl Drop for Place {
-    fn drop(&mut self) {
-        (self.of)(&self.shared).fetch_sub(1, Ordering::SeqCst);
-    }
-}
-
-fn client(stream: &TcpStream, port: u16, shared: &Arc<Shared>) -> io::Result<()> {
+fn client(stream: &TcpStream, port: u16, shared: &Shared) -> io::Result<()> {
+    stream.set_read_timeout(Some(PATIENCE))?;
+    stream.set_write_timeout(Some(PATIENCE))?;
     stream.set_nodelay(true)?;
-    let asked = requested(&request(stream)?, port);
-    if let Requested::Nothing(status) = asked {
-        return answer(stream, status, b"");
-    }
-    let Some(_place) = Place::among(shared, |shared| &shared.readers, READERS_MAX) else {
-        return answer(stream, "503 Service Unavailable", FULL.as_bytes());
-    };
-    match asked {
+    match requested(&request(stream)?, port) {
+        Requested::Page => answer(stream, "200 OK", &page::page(b"null", true)),
         Requested::Events => events(stream, shared),
-        _ => answer(stream, "200 OK", &page::page(b"null", true)),
+        Requested::Nothing(status) => answer(stream, status, b""),
     }
 }
 
-/// What is left of the time for one thing; an error when there is none.
-fn left(until: Instant) -> io::Result<Option<Duration>> {
-    let left = until.saturating_duration_since(Instant::now());
-    match left.is_zero() {
-        true => Err(ErrorKind::TimedOut.into()),
-        false => Ok(Some(left)),
-    }
-}
-
-/// Lines up to the empty one, or as many bytes as are looked at. All of it has to come within some time, however it is cut.
+/// Lines up to the empty one, or as many bytes as are looked at.
 fn request(mut stream: &TcpStream) -> io::Result<Vec<u8>> {
-    let until = Instant::now() + PATIENCE;
     let mut bytes = Vec::new();
     let mut part = [0; 1024];
     while bytes.len() < REQUEST_MAX && !bytes.windows(4).any(|four| four == b"\r\n\r\n") {
-        stream.set_read_timeout(left(until)?)?;
-        match stream.read(&mut part) {
-            Ok(0) => break,
-            Ok(read) => bytes.extend_from_slice(&part[..read]),
-            Err(error) if error.kind() == ErrorKind::Interrupted => (),
-            Err(error) => return Err(error),
+        match stream.read(&mut part)? {
+            0 => break,
+            read => bytes.extend_from_slice(&part[..read]),
         }
     }
     Ok(bytes)
-}
-
-/// All of it is taken within some time, or the client is left.
-fn send(mut stream: &TcpStream, mut bytes: &[u8]) -> io::Result<()> {
-    let until = Instant::now() + PATIENCE;
-    while !bytes.is_empty() {
-        stream.set_write_timeout(left(until)?)?;
-        match stream.write(bytes) {
-            Ok(0) => return Err(ErrorKind::WriteZero.into()),
-            Ok(written) => bytes = &bytes[written..],
-            Err(error) if error.kind() == ErrorKind::Interrupted => (),
-            Err(error) => return Err(error),
-        }
-    }
-    Ok(())
 }
 
 #[derive(Debug, PartialEq, Eq)]
@@ -259,27 +194,27 @@ fn requested(request: &[u8], port: u16) -> Requested {
 
 const COMMON: &str = "X-Content-Type-Options: nosniff\r\nCross-Origin-Resource-Policy: same-origin\r\nContent-Security-Policy: frame-ancestors 'none'\r\nCache-Control: no-store\r\nConnection: close\r\n";
 
-fn answer(stream: &TcpStream, status: &str, page: &[u8]) -> io::Result<()> {
+fn answer(mut stream: &TcpStream, status: &str, page: &[u8]) -> io::Result<()> {
     let length = page.len();
     let head = format!("HTTP/1.1 {status}\r\nContent-Type: text/html; charset=utf-8\r\nContent-Length: {length}\r\n{COMMON}\r\n");
-    send(stream, &[head.as_bytes(), page].concat())
+    stream.write_all(&[head.as_bytes(), page].concat())
 }
 
 /// The tables now, and again whenever something came.
-fn events(stream: &TcpStream, shared: &Shared) -> io::Result<()> {
+fn events(mut stream: &TcpStream, shared: &Shared) -> io::Result<()> {
     let head = format!("HTTP/1.1 200 OK\r\nContent-Type: text/event-stream\r\n{COMMON}\r\n");
-    send(stream, head.as_bytes())?;
+    stream.write_all(head.as_bytes())?;
     let mut told = None;
     loop {
         let is_told = |model: &mut Model| told == Some(model.version());
         let model = shared
             .came
             .wait_timeout_while(shared.model(), LOOK, is_told);
-        let (model, _) = model.unwrap_or_else(PoisonError::into_inner);
+        let (model, _) = model.expect("no thread ends in the midst of a model");
         if told == Some(model.version()) {
             drop(model);
             // a comment, by which a client that has gone is noticed
-            send(stream, b":\n\n")?;
+            stream.write_all(b":\n\n")?;
             continue;
         }
         let begun = Instant::now();
@@ -288,7 +223,7 @@ fn events(stream: &TcpStream, shared: &Shared) -> io::Result<()> {
         model.json(&mut event);
         drop(model);
         event.extend_from_slice(b"\n\n");
-        send(stream, &event)?;
+        stream.write_all(&event)?;
         thread::sleep(EVERY.max(begun.elapsed() * REST).min(PATIENCE));
     }
 }

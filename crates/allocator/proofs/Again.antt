@@ -10,7 +10,6 @@ use lib.Dec.{eqb, ltb}
 use lib.IntN.{pos}
 use lib.ListN.{length}
 use Rattle.bits.specs.Little.{le}
-use Rattle.bits.specs.Order.{Octets}
 use Rattle.rules.specs.Tests.{pick}
 use Rattle.shape.specs.Answer.{Answer, refused, got}
 use Rattle.shape.specs.Shape.{Values, decoded, encoded}
@@ -22,57 +21,53 @@ use Rattle.allocator_table.proofs.Room.{free-givable, free-small, free-not-own, 
 use Rattle.allocator_table.proofs.Search.{low-all, high-all, given-takes}
 use Rattle.allocator_table.proofs.Soundness.{table-sound, first_fits, rest-sound, node-once}
 use Rattle.allocator.specs.Allocate.{Verdict, exhausted, allots, completes, Fields, decide, Result, answered, performs, on_message, no_own}
-use Rattle.allocator.specs.Answer.{number_of}
 use Rattle.allocator.specs.Calls.{Call, result_of, after_calls, Reply, Completes, NoneFree}
 use Rattle.allocator.specs.Laws.{SameIdAgain, Chosen, lowest, highest, IdsDiffer, Away, TurnedAway}
 use Rattle.allocator.specs.Stage.{joined, preferred}
 use Rattle.allocator.specs.declared.Request.{Request}
-use Rattle.allocator.proofs.Called.{Decided, ignores, waits, parts, finds, adds, lacks, Called, faults, refuses, acts, called, by-message, disowns}
 use Rattle.allocator.specs.declared.answer.Answer.TheVariants.{Exhausted}
+use Rattle.allocator.proofs.Called.{Decided, ignores, waits, parts, finds, adds, lacks, Called, faults, refuses, acts, called, by-message}
 use Rattle.allocator.proofs.Decisions.{known_small, is-whole}
 use Rattle.allocator.proofs.Lasts.{none_above, complete, kept_on}
-use Rattle.allocator.proofs.Bytes.{joins, after-calls}
-use Rattle.allocator.proofs.Messages.{values_of, read-octets}
+use Rattle.allocator.proofs.Messages.{values_of}
 use Rattle.allocator.proofs.Reading.{reply-is}
-use Rattle.allocator.proofs.Refusals.{Small, small-write}
 use Rattle.allocator.proofs.Stages.{preferred-le}
 
 -- ── the same node ID again ──
 
-module _ (m : List ℕ) (c : Call) (o : Octets m) (g : List ℕ) (whole : length g ≡ unique_id_max) (n : ℕ) (known : node_of (le g) (table_of m) ≡ some n) (k : ℕ) where
+module _ (m : List ℕ) (c : Call) (g : List ℕ) (whole : length g ≡ unique_id_max) (n : ℕ) (known : node_of (le g) (table_of m) ≡ some n) (k : ℕ) where
   abbrev t : ℕ
   t = c.request.time
 
-  by-verdict : sound_state m ≡ true → (v : Fields) (x : Verdict) → Octets v.1.1 → Decided m c.request v x → Reply (performs x m c.request.time (joined m c.request.time v.1.1) c.out) k g → k ≡ n
+  by-verdict : sound_state m ≡ true → (v : Fields) (x : Verdict) → Decided m c.request v x → Reply (performs x m c.request.time (joined m c.request.time v.1.1) c.out) k g → k ≡ n
   unfolding performs
-  by-verdict s v x h ignores r = absurd (let q = r.answer in let z : ◌≡◌ {A = ℕ} 0 1 = cc in omega arith)
-  by-verdict s v x h waits r = absurd (let q = r.answer in let z : ◌≡◌ {A = ℕ} 0 1 = cc in omega arith)
-  by-verdict s v x h (parts e l) r =
-      let w = reply-is 0 (joined m t v.1.1) (omega arith) (joins m o t v.1.1 h) (length c.out) m (with_time (with_gathered m (joined m t v.1.1)) t) c.out k g r in
+  by-verdict s v x ignores r = absurd (let q = r.answer in let z : ◌≡◌ {A = ℕ} 0 1 = cc in omega arith)
+  by-verdict s v x waits r = absurd (let q = r.answer in let z : ◌≡◌ {A = ℕ} 0 1 = cc in omega arith)
+  by-verdict s v x (parts e l) r =
+      let w = reply-is 0 (joined m t v.1.1) (omega arith) (length c.out) m (with_time (with_gathered m (joined m t v.1.1)) t) c.out k g r in
       absurd (omega (arith, ap length w.1))
-  by-verdict s v x h (finds e l i f) r =
-      let b = known_small m (le (joined m t v.1.1)) i s f in
-      let w = reply-is i (joined m t v.1.1) (omega arith) (joins m o t v.1.1 h) (length c.out) m (with_time (with_count m 0) t) c.out k g r in
+  by-verdict s v x (finds e l i f) r =
+      let h = known_small m (le (joined m t v.1.1)) i s f in
+      let w = reply-is i (joined m t v.1.1) (omega arith) (length c.out) m (with_time (with_count m 0) t) c.out k g r in
       let a : some n ≡ some i = sym known ∙ sym (ap (λ (y : List ℕ). node_of (le y) (table_of m)) w.1) ∙ f in
       let b : n ≡ i = cc in
       omega (arith, w.0)
-  by-verdict s v x h (adds e l i f q) r =
-      let b = free-small c.request.reserved (table_of m) i (given-takes (is_free c.request.reserved (table_of m)) (preferred v.0) i q) in
-      let w = reply-is i (joined m t v.1.1) (omega arith) (joins m o t v.1.1 h) (length c.out) m (with_time (with_count (with_entry m (joined m t v.1.1) i) 0) t) c.out k g r in
+  by-verdict s v x (adds e l i f o) r =
+      let h = free-small c.request.reserved (table_of m) i (given-takes (is_free c.request.reserved (table_of m)) (preferred v.0) i o) in
+      let w = reply-is i (joined m t v.1.1) (omega arith) (length c.out) m (with_time (with_count (with_entry m (joined m t v.1.1) i) 0) t) c.out k g r in
       let a : some n ≡ none = sym known ∙ sym (ap (λ (y : List ℕ). node_of (le y) (table_of m)) w.1) ∙ f in
       absurd (let z : ◌≡◌ {A = ℕ} 0 1 = cc in omega arith)
-  by-verdict s v x h (lacks e l f q) r = absurd (let q = r.answer in let z : ◌≡◌ {A = ℕ} 0 1 = cc in omega arith)
+  by-verdict s v x (lacks e l f o) r = absurd (let q = r.answer in let z : ◌≡◌ {A = ℕ} 0 1 = cc in omega arith)
 
   by_call : (x : Result) → Called m c.request c.payload c.out x → Reply x k g → k ≡ n
   by_call x faults r = absurd (let q = r.answer in let z : ◌≡◌ {A = ℕ} 0 1 = cc in omega arith)
-  by_call x disowns r = absurd (let q = r.answer in let z : ◌≡◌ {A = ℕ} 0 1 = cc in omega arith)
   by_call x (refuses i h) r = absurd (let q = r.answer in let z : ◌≡◌ {A = ℕ} 0 1 = cc in omega arith)
-  by_call x (acts s own v d y e) r = by-verdict s v y (read-octets c.payload (values_of v) d) e r
+  by_call x (acts s o v d y e) r = by-verdict s v y e r
 
 pub same-id-again : SameIdAgain
-same-id-again m cs c o s g whole n known k r =
+same-id-again m cs c s g whole n known k r =
     let m' = after_calls m cs in
-    by_call m' c (after-calls m cs o) g whole n (kept_on m cs s (le g) n known) k (result_of m' c) (called m' c.request c.payload c.out) r
+    by_call m' c g whole n (kept_on m cs s (le g) n known) k (result_of m' c) (called m' c.request c.payload c.out) r
 
 -- ── node IDs differ ──
 
@@ -137,24 +132,24 @@ given-none f p taken = go (given f p) refl where
   go none e = refl
   go (some n) e = absurd (false≢true (sym (taken n) ∙ given-takes f p n e))
 
-not-exhausted : (a : Answer (List ℕ)) (m m' out : List ℕ) → Small a → number_of (answered a m m' out).answer ≡ 21 → ⊥
-not-exhausted (refused n) m m' out s e = s.1 e
-not-exhausted (got bs) m m' out s e = omega arith
+not-exhausted : (a : Answer (List ℕ)) (m m' out : List ℕ) → (answered a m m' out).answer ≡ Exhausted → ⊥
+not-exhausted (refused n) m m' out e = let z : ◌≡◌ {A = ℕ} 0 1 = cc in omega arith
+not-exhausted (got bs) m m' out e = let z : ◌≡◌ {A = ℕ} 0 1 = cc in omega arith
 
 module _ (m : List ℕ) (c : Call) where
   abbrev q : Request
   q = c.request
 
   away-by : sound_state m ≡ true → no_own c.request.reserved.own ≡ false → (v : Fields) → decoded allocation c.payload ≡ got (values_of v) → (x : Verdict) → Decided m c.request v x
-      → number_of (performs x m c.request.time (joined m c.request.time v.1.1) c.out).answer ≡ 21 → Away m c
+      → (performs x m c.request.time (joined m c.request.time v.1.1) c.out).answer ≡ Exhausted → Away m c
   unfolding performs
-  away-by s o v r x ignores e = absurd (omega arith)
-  away-by s o v r x waits e = absurd (omega arith)
+  away-by s o v r x ignores e = absurd (let z : ◌≡◌ {A = ℕ} 0 1 = cc in omega arith)
+  away-by s o v r x waits e = absurd (let z : ◌≡◌ {A = ℕ} 0 1 = cc in omega arith)
   away-by s o v r x (parts d l) e =
-      absurd (not-exhausted (encoded allocation (pos 0, (pos 0, joined m q.time v.1.1)) (length c.out)) m (with_time (with_gathered m (joined m q.time v.1.1)) q.time) c.out (small-write (pos 0, (pos 0, joined m q.time v.1.1)) (length c.out)) e)
-  away-by s o v r x (finds d l n k) e = absurd (not-exhausted (encoded allocation (pos n, (pos 0, joined m q.time v.1.1)) (length c.out)) m (with_time (with_count m 0) q.time) c.out (small-write (pos n, (pos 0, joined m q.time v.1.1)) (length c.out)) e)
+      absurd (not-exhausted (encoded allocation (pos 0, (pos 0, joined m q.time v.1.1)) (length c.out)) m (with_time (with_gathered m (joined m q.time v.1.1)) q.time) c.out e)
+  away-by s o v r x (finds d l n k) e = absurd (not-exhausted (encoded allocation (pos n, (pos 0, joined m q.time v.1.1)) (length c.out)) m (with_time (with_count m 0) q.time) c.out e)
   away-by s o v r x (adds d l n k i) e =
-      absurd (not-exhausted (encoded allocation (pos n, (pos 0, joined m q.time v.1.1)) (length c.out)) m (with_time (with_count (with_entry m (joined m q.time v.1.1) n) 0) q.time) c.out (small-write (pos n, (pos 0, joined m q.time v.1.1)) (length c.out)) e)
+      absurd (not-exhausted (encoded allocation (pos n, (pos 0, joined m q.time v.1.1)) (length c.out)) m (with_time (with_count (with_entry m (joined m q.time v.1.1) n) 0) q.time) c.out e)
   away-by s o v r x (lacks d l k i) e =
       record {
         unique = joined m q.time v.1.1;
@@ -167,10 +162,9 @@ module _ (m : List ℕ) (c : Call) where
             };
       }
 
-  away-call : (x : Result) → Called m c.request c.payload c.out x → number_of x.answer ≡ 21 → Away m c
-  away-call x faults e = absurd (omega arith)
-  away-call x disowns e = absurd (omega arith)
-  away-call x (refuses n h) e = absurd (h.1 e)
+  away-call : (x : Result) → Called m c.request c.payload c.out x → x.answer ≡ Exhausted → Away m c
+  away-call x faults e = absurd (let z : ◌≡◌ {A = ℕ} 0 1 = cc in omega arith)
+  away-call x (refuses n h) e = absurd (let z : ◌≡◌ {A = ℕ} 0 1 = cc in omega arith)
   away-call x (acts s o v r y d) e = away-by s o v r y d e
 
   -- the call as it acts on a message that it reads
@@ -179,7 +173,7 @@ module _ (m : List ℕ) (c : Call) where
   unfolding on_message
   on-message s o v r = by-message m q c.payload c.out s o ∙ ap (λ (a : Answer (Values allocation)). on_message a m q c.out) r
 
-  turned : (g : List ℕ) (p : ℕ) → Completes m c g p → NoneFree m c g → number_of (result_of m c).answer ≡ 21
+  turned : (g : List ℕ) (p : ℕ) → Completes m c g p → NoneFree m c g → (result_of m c).answer ≡ Exhausted
   unfolding performs completes
   turned g p d f =
       let v : Fields = (p, (d.first, d.part)) in
@@ -189,7 +183,7 @@ module _ (m : List ℕ) (c : Call) where
       is-whole m q v d.anonymous d.expected (omega arith)
       ∙ ap (λ (o : Option ℕ). allots o (given (is_free q.reserved (table_of m)) (preferred p))) u
       ∙ ap (allots none) (given-none (is_free q.reserved (table_of m)) (preferred p) f.taken) in
-      ap (λ (r : Result). number_of r.answer) (on-message d.sound d.own v d.message ∙ ap (λ (y : Verdict). performs y m q.time (joined m q.time d.part) c.out) x)
+      ap (λ (r : Result). r.answer) (on-message d.sound d.own v d.message ∙ ap (λ (y : Verdict). performs y m q.time (joined m q.time d.part) c.out) x)
 
 pub turned-away : TurnedAway
 turned-away =

@@ -19,9 +19,9 @@ use Rattle.allocator_table.specs.Table.{node_of, is_free, given}
 use Rattle.allocator.specs.Allocate.{Verdict, ignored, awaits, gathers, knows, gives, exhausted, allots, completes, Fields, fields_of, decide, Result, returned, performs, on_message, no_own, allocated}
 use Rattle.allocator.specs.Stage.{accepts, kept_at, joined, preferred}
 use Rattle.allocator.specs.declared.Request.{Request}
-use Rattle.allocator.specs.declared.answer.Answer.TheVariants.{Refused, Unacceptable, Faulty}
+use Rattle.allocator.specs.declared.answer.Answer.TheVariants.{Refused, Faulty}
 use Rattle.allocator.proofs.Messages.{values_of, read-natural}
-use Rattle.allocator.proofs.Refusals.{Refusal, Small, small-read}
+use Rattle.allocator.proofs.Refusals.{Small, small-read}
 use Rattle.allocator.proofs.Decisions.{is-ignored, is-awaited, is-part, is-whole, accepted-fits, length-joined}
 
 -- an anonymous message of the stage that is expected
@@ -74,8 +74,7 @@ module _ (m : List ℕ) (q : Request) (v : Fields) where
 
 pub data Called (m : List ℕ) (q : Request) (p out : List ℕ) : Result → Type 0 where
   faults : Called m q p out (returned Faulty m out)
-  disowns : Called m q p out (returned Unacceptable m out)
-  refuses : (n : ℕ) → Refusal n → Called m q p out (returned (Refused n) m out)
+  refuses : (n : ℕ) → n ≤ 25 → Called m q p out (returned (Refused n) m out)
   acts : sound_state m ≡ true → no_own q.reserved.own ≡ false → (v : Fields) → decoded allocation p ≡ got (values_of v) → (x : Verdict) → Decided m q v x
       → Called m q p out (performs x m q.time (joined m q.time v.1.1) out)
 
@@ -84,7 +83,7 @@ module _ (m : List ℕ) (q : Request) (p out : List ℕ) where
   unfolding allocated
   by-fault s = rw s
 
-  by-own : sound_state m ≡ true → no_own q.reserved.own ≡ true → allocated m q p out ≡ returned Unacceptable m out
+  by-own : sound_state m ≡ true → no_own q.reserved.own ≡ true → allocated m q p out ≡ returned (Refused 13) m out
   unfolding allocated
   by-own s o = rw (s, o)
 
@@ -95,7 +94,7 @@ module _ (m : List ℕ) (q : Request) (p out : List ℕ) where
   pub called : Called m q p out (allocated m q p out)
   unfolding on_message
   called = sound (sound_state m) refl where
-    small-number : (n : ℕ) → decoded allocation p ≡ refused n → Refusal n
+    small-number : (n : ℕ) → decoded allocation p ≡ refused n → n ≤ 25
     small-number n e = subst Small e (small-read (unpack p))
 
     message : sound_state m ≡ true → no_own q.reserved.own ≡ false → (r : Answer (Values allocation)) → decoded allocation p ≡ r → Called m q p out (on_message r m q out)
@@ -103,7 +102,7 @@ module _ (m : List ℕ) (q : Request) (p out : List ℕ) where
     message s o (got v) e = acts s o (fields_of v) (e ∙ ap got (read-natural p v e)) (decide m q (fields_of v)) (decided m q (fields_of v) s)
 
     own : sound_state m ≡ true → (b : Bool) → no_own q.reserved.own ≡ b → Called m q p out (allocated m q p out)
-    own s true o = subst (Called m q p out) (sym (by-own s o)) disowns
+    own s true o = subst (Called m q p out) (sym (by-own s o)) (refuses 13 (omega arith))
     own s false o = subst (Called m q p out) (sym (by-message s o)) (message s o (decoded allocation p) refl)
 
     sound : (b : Bool) → sound_state m ≡ b → Called m q p out (allocated m q p out)

@@ -4,7 +4,6 @@ pub mod Decisions
 pub mod Messages
 pub mod Called
 pub mod Lasts
-mod Bytes
 pub mod Reading
 pub mod Again
 pub mod Serving

@@ -2,10 +2,10 @@
 use mathlib.Core.Path.{◌≡◌, refl, sym, ap, ap₂, ◌∙◌, subst}
 use mathlib.Core.Bool.{Bool, true, false}
 use mathlib.Core.List.{List}
-use Prim.Native.Nat.{ℕ, ◌/◌, ◌%◌, ◌^◌, ◌≤◌, ◌<◌}
+use Prim.Native.Nat.{ℕ, ◌^◌, ◌≤◌, ◌<◌}
 use native.Mathlib.Omega.{arith}
 use borrow.Author.Tests.{ltb-true, ltb-false}
-use lib.Dec.{T, ltb, leb, lit≤}
+use lib.Dec.{T, ltb, lit≤}
 use lib.IntN.{ℤ, pos, nat_abs}
 use lib.ListN.{length, drop}
 use lib.Signed.{non_neg}
@@ -13,9 +13,8 @@ use mir.Syntax.{w64}
 use mir.Val.{Fits, to_z, of_z}
 use Rattle.bits.specs.Order.{Octets, unpack, from_bits}
 use Rattle.shape.specs.Answer.{Answer, refused, got, Numbered, numbered, refuse_if, map_answer}
-use Rattle.shape.specs.Shape.{Values, byte_tail, anything, decode, decoded}
+use Rattle.shape.specs.Shape.{Values, tail, anything, decode, decoded}
 use Rattle.shape.proofs.CastFacts.{number-below}
-use Rattle.shape.proofs.Reading.{octets-items}
 use Rattle.shape.proofs.SignedFacts.{is}
 use Rattle.protocol_dynamic_node_id.specs.Allocation.{allocation, unique_id_in, allocation_of, allocation_in, answer_of}
 use Rattle.protocol_dynamic_node_id.specs.Laws.{allocation_found}
@@ -117,28 +116,11 @@ unfolding decode
 natural bs =
     let node : Values allocation → Type 0 = λ v. v ≡ values_of (fields_of v) in
     let first : ℤ × List ℕ → Type 0 = λ v. v.0 ≡ pos (nat_abs v.0) in
-    let rest = decode (byte_tail 16 anything) (drop 1 (drop 7 bs)) in
+    let rest = decode (tail 8 16 anything) (drop 1 (drop 7 bs)) in
     each-if node (ltb (length bs) 7) 15 _
     (each_map first node (λ v. (pos (from_bits 7 bs), v)) (λ v e. ap (λ (z : ℤ). (pos (from_bits 7 bs), (z, v.1))) e) _
     (each-if first (ltb (length (drop 7 bs)) 1) 15 _
     (each_map (λ (u : List ℕ). Unit {0}) first (λ u. (pos (from_bits 1 (drop 7 bs)), u)) (λ u e. refl) rest (each-any rest))))
-
-bytes_read : (bs : List Bool) → Each (λ (v : Values allocation). Octets v.1.1) (decode allocation bs)
-unfolding decode
-bytes_read bs =
-    let node : Values allocation → Type 0 = λ v. Octets v.1.1 in
-    let first : ℤ × List ℕ → Type 0 = λ v. Octets v.1 in
-    let rest = drop 1 (drop 7 bs) in
-    each-if node (ltb (length bs) 7) 15 _
-    (each_map first node (λ v. (pos (from_bits 7 bs), v)) (λ v o. o) _
-    (each-if first (ltb (length (drop 7 bs)) 1) 15 _
-    (each_map Octets first (λ u. (pos (from_bits 1 (drop 7 bs)), u)) (λ u o. o) _
-    (each-if Octets (ltb 16 (length rest / 8)) 16 _
-    (each-if Octets (leb 8 (length rest % 8)) 16 _ (each-if Octets _ 25 _ (each-if Octets false 17 (got _) (octets-items (length rest / 8) rest (omega arith)))))))))
-
--- the unique ID of a message is bytes
-pub read-octets : (p : List ℕ) (v : Values allocation) → decoded allocation p ≡ got v → Octets v.1.1
-read-octets p v e = subst (Each (λ (x : Values allocation). Octets x.1.1)) e (bytes_read (unpack p))
 
 pub read-natural : (p : List ℕ) (v : Values allocation) → decoded allocation p ≡ got v → v ≡ values_of (fields_of v)
 read-natural p v e = subst (Each (λ (x : Values allocation). x ≡ values_of (fields_of x))) e (natural (unpack p))

@@ -15,7 +15,6 @@ use Rattle.shape.specs.Answer.{Answer, refused, got, refuse_if}
 use Rattle.shape.specs.Shape.{Values, encode, fits, clipped, within, message, encoded, decoded}
 use Rattle.shape.proofs.RoundTrip.{round-there}
 use Rattle.shape.proofs.There.{kept}
-use Rattle.shape.proofs.Writing.{bytes-held}
 use Rattle.protocol_dynamic_node_id.specs.Allocation.{allocation}
 use Rattle.protocol_dynamic_node_id.proofs.AllocationFacts.{size, fit}
 use Rattle.allocator_table.specs.Limits.{unique_id_max}
@@ -23,11 +22,11 @@ use Rattle.allocator.specs.Allocate.{answered}
 use Rattle.allocator.specs.Calls.{Reply}
 
 -- a reply holds its numbers
-unclipped : (n : ℕ) (g : List ℕ) → n < 128 → Octets g → clipped allocation (pos n, (pos 0, g)) ≡ (pos n, (pos 0, g))
+unclipped : (n : ℕ) (g : List ℕ) → n < 128 → clipped allocation (pos n, (pos 0, g)) ≡ (pos n, (pos 0, g))
 unfolding within
-unclipped n g h o = kept allocation (lit≤ tt) (pos n, (pos 0, g)) (rw (lt-ltb n 128 h, bytes-held g o))
+unclipped n g h = kept allocation (lit≤ tt) (pos n, (pos 0, g)) (rw (lt-ltb n 128 h))
 
-module _ (i : ℕ) (h : List ℕ) (small : i < 128) (bytes : Octets h) (room : ℕ) (m m' out : List ℕ) where
+module _ (i : ℕ) (h : List ℕ) (small : i < 128) (room : ℕ) (m m' out : List ℕ) where
   abbrev w : Values allocation
   w = (pos i, (pos 0, h))
 
@@ -37,7 +36,7 @@ module _ (i : ℕ) (h : List ℕ) (small : i < 128) (bytes : Octets h) (room : �
   reply-by (got bs) e n g r =
       let q = r.answer in
       let l : length bs ≡ r.len = cc in
-      let there = round-there allocation (lit≤ tt) w room bs e ∙ ap got (unclipped i h small bytes) in
+      let there = round-there allocation (lit≤ tt) w room bs e ∙ ap got (unclipped i h small) in
       let read = ap (decoded allocation) (sym (take_at bs (drop (length bs) out) r.len l)) ∙ r.message in
       let j : ◌≡◌ {A = Answer (Values allocation)} (got w) (got (pos n, (pos 0, g))) = sym there ∙ read in
       let y : w ≡ (pos n, (pos 0, g)) = cc in
@@ -50,7 +49,7 @@ module _ (i : ℕ) (h : List ℕ) (small : i < 128) (bytes : Octets h) (room : �
 
 module _ (n : ℕ) (g : List ℕ) (small : n < 128) (bytes : Octets g) (few : length g ≤ unique_id_max) where
   fits-it : fits allocation (pos n, (pos 0, g)) ≡ true
-  fits-it = sym (fit (pos n) (pos 0) g) ∙ le-leb (length g) unique_id_max few
+  fits-it = sym (fit (pos n) (pos 0) g bytes) ∙ le-leb (length g) unique_id_max few
 
   length-message : length (message allocation (pos n, (pos 0, g))) ≡ 1 + length g
   length-message =
@@ -74,5 +73,5 @@ module _ (n : ℕ) (g : List ℕ) (small : n < 128) (bytes : Octets g) (few : le
           message =
               ap (decoded allocation) (take_at (message allocation (pos n, (pos 0, g))) (drop (length (message allocation (pos n, (pos 0, g)))) out) (length (message allocation (pos n, (pos 0, g)))) refl)
               ∙ round-there allocation (lit≤ tt) (pos n, (pos 0, g)) (length out) (message allocation (pos n, (pos 0, g))) is-sent
-              ∙ ap got (unclipped n g small bytes);
+              ∙ ap got (unclipped n g small);
         })

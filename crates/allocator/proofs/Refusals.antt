@@ -1,5 +1,4 @@
 -- What the reader and the writer of a message refuse has a small number.
-use mathlib.Core.Path.{◌≡◌}
 use mathlib.Core.Bool.{Bool, true, false, not}
 use mathlib.Core.List.{List}
 use Prim.Native.Nat.{ℕ, ◌*◌, ◌/◌, ◌%◌, ◌≤◌}
@@ -10,15 +9,12 @@ use Rattle.shape.specs.Answer.{Answer, refused, got, refuse_if, map_answer}
 use Rattle.shape.specs.Shape.{Values, decode, encoded, fits, message, all_zero}
 use Rattle.protocol_dynamic_node_id.specs.Allocation.{allocation}
 
--- up to 25, and not 21, which is the allocator's own
-abbrev pub Refusal : ℕ → Type 0
-Refusal n = (n ≤ 25) × (n ≡ 21 → ⊥)
-
+-- a refusal has a number up to 25
 abbrev pub Small : {A : Type 0} → Answer A → Type 0
-Small (refused n) = Refusal n
+Small (refused n) = n ≤ 25
 Small (got a) = Unit {0}
 
-small-if : {A : Type 0} (b : Bool) (n : ℕ) (r : Answer A) → Refusal n → Small r → Small (refuse_if b n r)
+small-if : {A : Type 0} (b : Bool) (n : ℕ) (r : Answer A) → n ≤ 25 → Small r → Small (refuse_if b n r)
 unfolding refuse_if
 small-if true n r h s = h
 small-if false n r h s = s
@@ -31,14 +27,14 @@ small-map f (got a) s = tt
 pub small-read : (bs : List Bool) → Small (decode allocation bs)
 unfolding decode
 small-read bs =
-    small-if (ltb (length bs) 7) 15 _ (omega arith, λ e. omega arith)
+    small-if (ltb (length bs) 7) 15 _ (omega arith)
     (small-map _ _
-    (small-if (ltb (length (drop 7 bs)) 1) 15 _ (omega arith, λ e. omega arith)
+    (small-if (ltb (length (drop 7 bs)) 1) 15 _ (omega arith)
     (small-map _ _
-    (small-if (ltb 16 (length (drop 1 (drop 7 bs)) / 8)) 16 _ (omega arith, λ e. omega arith)
-    (small-if (leb 8 (length (drop 1 (drop 7 bs)) % 8)) 16 _ (omega arith, λ e. omega arith)
-    (small-if (not (all_zero (drop (length (drop 1 (drop 7 bs)) / 8 * 8) (drop 1 (drop 7 bs))))) 25 _ (omega arith, λ e. omega arith) (small-if false 17 _ (omega arith, λ e. omega arith) tt)))))))
+    (small-if (ltb 16 (length (drop 1 (drop 7 bs)) / 8)) 16 _ (omega arith)
+    (small-if (leb 8 (length (drop 1 (drop 7 bs)) % 8)) 16 _ (omega arith)
+    (small-if (not (all_zero (drop (length (drop 1 (drop 7 bs)) / 8 * 8) (drop 1 (drop 7 bs))))) 25 _ (omega arith) (small-if false 17 _ (omega arith) tt)))))))
 
 pub small-write : (v : Values allocation) (room : ℕ) → Small (encoded allocation v room)
 unfolding encoded refuse_if
-small-write v room = small-if (not (fits allocation v)) 17 _ (omega arith, λ e. omega arith) (small-if (ltb room (length (message allocation v))) 8 _ (omega arith, λ e. omega arith) tt)
+small-write v room = small-if (not (fits allocation v)) 17 _ (omega arith) (small-if (ltb room (length (message allocation v))) 8 _ (omega arith) tt)

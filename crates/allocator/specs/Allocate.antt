@@ -12,7 +12,7 @@ use Rattle.allocator_table.specs.Table.{node_of, is_free, given}
 use Rattle.allocator.specs.Stage.{accepts, kept_at, joined, preferred}
 use Rattle.allocator.specs.declared.Request.{Request}
 use Rattle.allocator.specs.declared.answer.Answer as code
-use Rattle.allocator.specs.declared.answer.Answer.TheVariants.{Silent, Replied, Refused, Unacceptable, Exhausted, Faulty}
+use Rattle.allocator.specs.declared.answer.Answer.TheVariants.{Silent, Replied, Refused, Exhausted, Faulty}
 
 -- ── what is to be done ──
 
@@ -92,4 +92,4 @@ no_own own = eqb own 0 || ltb 127 own
 unfoldable pub allocated : List ℕ → Request → List ℕ → List ℕ → Result
 allocated m q p out =
     pick (not (sound_state m)) (returned Faulty m out)
-    (pick (no_own q.reserved.own) (returned Unacceptable m out) (on_message (decoded allocation p) m q out))
+    (pick (no_own q.reserved.own) (returned (Refused 13) m out) (on_message (decoded allocation p) m q out))

@@ -1,13 +1,12 @@
 -- RULES 13.1, 16.3: the answers of an allocator. The number of each case, and the length of the reply.
 use Rattle.std.specs.Prelude.{ℕ}
 use Rattle.allocator.specs.declared.answer.Answer.{Answer}
-use Rattle.allocator.specs.declared.answer.Answer.TheVariants.{Silent, Replied, Refused, Unacceptable, Exhausted, Faulty}
+use Rattle.allocator.specs.declared.answer.Answer.TheVariants.{Silent, Replied, Refused, Exhausted, Faulty}
 
 abbrev pub number_of : Answer → ℕ
 number_of Silent = 0
 number_of (Replied n) = 0
-number_of (Refused n) = n  -- of the call that reads or writes the message
-number_of Unacceptable = 13
+number_of (Refused n) = n
 number_of Exhausted = 21
 number_of Faulty = 20
 
@@ -16,6 +15,5 @@ abbrev pub length_in : Answer → ℕ
 length_in Silent = 0
 length_in (Replied n) = n
 length_in (Refused n) = 0
-length_in Unacceptable = 0
 length_in Exhausted = 0
 length_in Faulty = 0

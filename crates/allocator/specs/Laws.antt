@@ -2,7 +2,6 @@
 use Rattle.std.specs.Prelude.{◌≡◌, Bool, true, false, List, [], ◌∷◌, ◌++◌, ◌⊎◌, ℕ, ◌≤◌, ◌<◌, length}
 use Rattle.std.proofs.Math.Option.{none, some}
 use Rattle.bits.specs.Little.{le}
-use Rattle.bits.specs.Order.{Octets}
 use Rattle.allocator_table.specs.Layout.{size, gathered_count, table_of, sound_state}
 use Rattle.allocator_table.specs.Limits.{unique_id_max}
 use Rattle.allocator_table.specs.Table.{Entry, entry, holds, node_of, insert, is_givable, is_marked, is_free}
@@ -11,6 +10,7 @@ use Rattle.allocator.specs.Setup.{after_setup}
 use Rattle.allocator.specs.Stage.{preferred}
 use Rattle.allocator.specs.Answer.{number_of, length_in}
 use Rattle.allocator.specs.declared.answer.Answer.{Answer}
+use Rattle.allocator.specs.declared.answer.Answer.TheVariants.{Exhausted}
 
 -- RULES 16.10: after setup the table is empty, nothing is gathered, and there is no fault, whatever was in the bytes
 pub record SetupLaws : Type 0 where
@@ -27,10 +27,10 @@ pub record TableGrows : Type 0 where
   -- and is found again after any list of calls: no entry is changed or lost
   pub kept : (m : List ℕ) (cs : List Call) → sound_state m ≡ true → (u n : ℕ) → node_of u (table_of m) ≡ some n → node_of u (table_of (after_calls m cs)) ≡ some n
 
--- every reply with the whole of a unique ID in the table has its entry's node ID, after any list of calls; what is lent are bytes
+-- every reply with the whole of a unique ID in the table has its entry's node ID, after any list of calls
 abbrev pub SameIdAgain : Type 0
 SameIdAgain =
-    (m : List ℕ) (cs : List Call) (c : Call) → Octets m → sound_state m ≡ true → (g : List ℕ) → length g ≡ unique_id_max → (n : ℕ) → node_of (le g) (table_of m) ≡ some n
+    (m : List ℕ) (cs : List Call) (c : Call) → sound_state m ≡ true → (g : List ℕ) → length g ≡ unique_id_max → (n : ℕ) → node_of (le g) (table_of m) ≡ some n
     → (k : ℕ) → Reply (result_of (after_calls m cs) c) k g → k ≡ n
 
 -- RULES 16.7: of the IDs that f takes, the lowest from p on or, if there is none, the highest below p
@@ -72,8 +72,8 @@ pub record Away (m : List ℕ) (c : Call) : Type 0 where
   pub free : NoneFree m c unique
 
 pub record TurnedAway : Type 0 where
-  pub only_if : (m : List ℕ) (c : Call) → number_of (result_of m c).answer ≡ 21 → Away m c
-  pub if : (m : List ℕ) (c : Call) → Away m c → number_of (result_of m c).answer ≡ 21
+  pub only_if : (m : List ℕ) (c : Call) → (result_of m c).answer ≡ Exhausted → Away m c
+  pub if : (m : List ℕ) (c : Call) → Away m c → (result_of m c).answer ≡ Exhausted
 
 -- RULES 13.3: every answer fits the word of the C entry
 pub record Range (a : Answer) : Type 0 where

@@ -2,13 +2,12 @@
 ghost use Rattle.std.specs.Prelude.{◌≡◌};
 ghost use Rattle.allocator.specs.Answer.{number_of, length_in};
 
-// `Replied` holds the length of the reply, `Refused` the number that the Allocation message is refused by: 15 and 16 in reading, 8 in writing the reply.
+// `Replied` holds the length of the reply, `Refused` the number 8, 13, 15 or 16.
 #[derive(Drop)]
 pub enum Answer {
     Silent,
     Replied(usize),
     Refused(u32),
-    Unacceptable,
     Exhausted,
     Faulty,
 }
@@ -21,7 +20,6 @@ impl Answer {
             Answer::Silent => 0,
             Answer::Replied(_) => 0,
             Answer::Refused(n) => n,
-            Answer::Unacceptable => 13,
             Answer::Exhausted => 21,
             Answer::Faulty => 20,
         }
@@ -35,7 +33,6 @@ impl Answer {
             Answer::Silent => 0,
             Answer::Replied(n) => n,
             Answer::Refused(_) => 0,
-            Answer::Unacceptable => 0,
             Answer::Exhausted => 0,
             Answer::Faulty => 0,
         }

@@ -53,10 +53,10 @@ pub fn allocate(state: &mut [u8], q: Request, payload: &[u8], out: &mut [u8]) ->
     }
     let reserved = q.reserved;
     if reserved.own == 0 {
-        return Answer::Unacceptable;
+        return Answer::Refused(13);
     }
     if 127 < reserved.own {
-        return Answer::Unacceptable;
+        return Answer::Refused(13);
     }
     let read = allocation::decode(payload);
     match read {

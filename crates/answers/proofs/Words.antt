@@ -1,6 +1,7 @@
 -- Every answer of the rules fits the result word of a reception, and the length of a payload is read back from it.
 use mathlib.Core.Path.{◌≡◌, refl, sym, subst}
 use mathlib.Core.List.{List}
+use mathlib.Core.Logic.{inl, inr}
 use Prim.Native.Nat.{ℕ, ◌/◌, ◌%◌, ◌^◌, ◌<◌}
 use native.Mathlib.Omega.{arith}
 use lib.ListN.{length}
@@ -8,7 +9,7 @@ use Rattle.answers.proofs.Reception.{told-number}
 use Rattle.answers.specs.Reception.{number_of, no_transfer, transfer_in, transfer_of, told}
 use Rattle.answers.specs.Word.{transfer_word, word_of, TransferFits, Fits}
 use Rattle.answers.specs.declared.Answer.{Answer}
-use Rattle.rules.proofs.Ranges.{refusal-range, reason-range}
+use Rattle.rules.proofs.Ranges.{reason-range}
 use Rattle.rules.specs.Answer as rules
 use Rattle.rules.specs.Frame.{Stream}
 use Rattle.rules.specs.Range.{HandedRange, Ranged}
@@ -32,7 +33,8 @@ small a e h = record { number = h; transfer = subst TransferFits (sym e) (record
 pub told-fits : (a : rules.Answer) → Ranged a → Fits (told a)
 told-fits rules.taken r = small _ refl (omega arith)
 told-fits (rules.handed p d priority t) r = record { number = omega arith; transfer = in-range p d priority t r }
-told-fits (rules.refused x) r = small _ refl (omega (arith, told-number (rules.refused x), refusal-range x))
+told-fits (rules.refused n) (inl r) = small _ refl (omega arith)
+told-fits (rules.refused n) (inr r) = small _ refl (omega arith)
 told-fits rules.full r = small _ refl (omega arith)
 told-fits (rules.passed x) r = small _ refl (omega (arith, told-number (rules.passed x), reason-range x))
 told-fits rules.long r = small _ refl (omega arith)

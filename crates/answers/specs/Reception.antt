@@ -1,26 +1,13 @@
--- RULES 13.1, 4.1, 4.6, 4.10: the answers of a reception. The number of each case, the values of answer 1, and the rules' answer as the code tells it.
+-- RULES 13.1, 4.10: the answers of a reception. The number of each case, the values of answer 1, and the rules' answer as the code tells it.
 use Rattle.std.specs.Prelude.{List, ℕ, length}
 use Rattle.bits.specs.Part.{splice}
 use Rattle.answers.specs.declared.Answer.{Answer}
 use Rattle.answers.specs.declared.Answer.TheVariants.{Taken, Handed, Refused, Full, Passed, TooLong, NoBlock, BadChecksum, Faulty}
 use Rattle.answers.specs.declared.Reason.{Reason}
 use Rattle.answers.specs.declared.Reason.TheVariants.{NoTransfer, WrongToggle, WrongTransfer, RepeatedStart, OtherInterface}
-use Rattle.answers.specs.declared.Refusal.{Refusal}
-use Rattle.answers.specs.declared.Refusal.TheVariants.{WrongId, WrongLength, WrongInterface, NamelessService, WrongTail, OtherNode, NoSubscription, NoRoom}
 use Rattle.answers.specs.declared.Transfer.{Transfer}
 use Rattle.rules.specs.Answer as rules
 use Rattle.rules.specs.Frame.{Stream}
-
--- which check refuses a frame (RULES 4.1)
-abbrev pub refusal_number : Refusal → ℕ
-refusal_number WrongId = 2
-refusal_number WrongLength = 3
-refusal_number WrongInterface = 19
-refusal_number NamelessService = 4
-refusal_number WrongTail = 5
-refusal_number OtherNode = 6
-refusal_number NoSubscription = 7
-refusal_number NoRoom = 8
 
 -- why a frame is passed over (RULES 4.6)
 abbrev pub reason_number : Reason → ℕ
@@ -33,7 +20,7 @@ reason_number OtherInterface = 34
 abbrev pub number_of : Answer → ℕ
 number_of Taken = 0
 number_of (Handed t) = 1
-number_of (Refused r) = refusal_number r
+number_of (Refused n) = n
 number_of Full = 9
 number_of (Passed r) = reason_number r
 number_of TooLong = 11
@@ -49,7 +36,7 @@ no_transfer = record { len = 0; transfer_type = 0; type_id = 0; source = 0; dest
 abbrev pub transfer_in : Answer → Transfer
 transfer_in Taken = no_transfer
 transfer_in (Handed t) = t
-transfer_in (Refused r) = no_transfer
+transfer_in (Refused n) = no_transfer
 transfer_in Full = no_transfer
 transfer_in (Passed r) = no_transfer
 transfer_in TooLong = no_transfer
@@ -70,16 +57,6 @@ transfer_of n d priority transfer =
       transfer = transfer;
     }
 
-abbrev pub told_refusal : rules.Refusal → Refusal
-told_refusal rules.wrong_id = WrongId
-told_refusal rules.wrong_length = WrongLength
-told_refusal rules.wrong_interface = WrongInterface
-told_refusal rules.nameless_service = NamelessService
-told_refusal rules.wrong_tail = WrongTail
-told_refusal rules.other_node = OtherNode
-told_refusal rules.no_subscription = NoSubscription
-told_refusal rules.no_room = NoRoom
-
 abbrev pub told_reason : rules.Reason → Reason
 told_reason rules.no_transfer = NoTransfer
 told_reason rules.wrong_toggle = WrongToggle
@@ -91,7 +68,7 @@ told_reason rules.other_interface = OtherInterface
 abbrev pub told : rules.Answer → Answer
 told rules.taken = Taken
 told (rules.handed p d priority t) = Handed (transfer_of (length p) d priority t)
-told (rules.refused r) = Refused (told_refusal r)
+told (rules.refused n) = Refused n
 told rules.full = Full
 told (rules.passed r) = Passed (told_reason r)
 told rules.long = TooLong

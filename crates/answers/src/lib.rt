@@ -3,7 +3,7 @@
 pub mod word;
 
 ghost use Rattle.std.specs.Prelude.{◌≡◌, ◌<◌};
-ghost use Rattle.answers.specs.Reception.{refusal_number, reason_number, number_of, no_transfer, transfer_in};
+ghost use Rattle.answers.specs.Reception.{reason_number, number_of, no_transfer, transfer_in};
 ghost use Rattle.answers.specs.Sending as sending;
 ghost use Rattle.answers.specs.Setup as setup;
 ghost use Rattle.answers.specs.Sending.{no_dispatch, dispatch_in};
@@ -20,19 +20,6 @@ pub struct Transfer {
     pub transfer: u8,
 }
 
-// Which check refuses a frame (RULES 4.1).
-#[derive(Drop)]
-pub enum Refusal {
-    WrongId,
-    WrongLength,
-    WrongInterface,
-    NamelessService,
-    WrongTail,
-    OtherNode,
-    NoSubscription,
-    NoRoom,
-}
-
 // Why a frame is passed over (RULES 4.6).
 #[derive(Drop)]
 pub enum Reason {
@@ -43,12 +30,12 @@ pub enum Reason {
     OtherInterface,
 }
 
-// The receiver's answers.
+// The receiver's answers. `Refused` holds the number of the frame check: 2 to 8 or 19.
 #[derive(Drop)]
 pub enum Answer {
     Taken,
     Handed(Transfer),
-    Refused(Refusal),
+    Refused(u8),
     Full,
     Passed(Reason),
     TooLong,
@@ -97,23 +84,6 @@ fn no_transfer() -> Transfer
     }
 }
 
-impl Refusal {
-    pub fn number(self) -> u64
-        ensures { (result ≡ refusal_number self) × (result < 256) }
-    {
-        match self {
-            Refusal::WrongId => 2,
-            Refusal::WrongLength => 3,
-            Refusal::WrongInterface => 19,
-            Refusal::NamelessService => 4,
-            Refusal::WrongTail => 5,
-            Refusal::OtherNode => 6,
-            Refusal::NoSubscription => 7,
-            Refusal::NoRoom => 8,
-        }
-    }
-}
-
 impl Reason {
     pub fn number(self) -> u64
         ensures { (result ≡ reason_number self) × (result < 256) }
@@ -135,7 +105,7 @@ impl Answer {
         match self {
             Answer::Taken => 0,
             Answer::Handed(_) => 1,
-            Answer::Refused(r) => r.number(),
+            Answer::Refused(n) => n as u64,
             Answer::Full => 9,
             Answer::Passed(r) => r.number(),
             Answer::TooLong => 11,

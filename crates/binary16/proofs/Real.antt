@@ -114,15 +114,6 @@ back-law h b k = ap narrowed (pattern-back h b k) ∙ widening-law.back h k
 nan-in : (h : ℕ) → 0x7C00 < code16 h → of_bits binary32 (widened h) ≡ nan
 nan-in h l = ap (of_bits binary32) (widened-nan h l) ∙ nan-read
 
-infinite-in : (h : ℕ) → h < 2 ^ 16 → code16 h ≡ 0x7C00 → of_bits binary32 (widened h) ≡ inf (eqb (sign16 h) 1)
-unfolding of_bits
-infinite-in h b e = ap (of_bits binary32) (widened-infinite h e) ∙ go (sign16 h) (omega arith)
-  where
-    go : (s : ℕ) → s < 2 → of_bits binary32 (s * 0x80000000 + 0x7F800000) ≡ inf (eqb s 1)
-    go zero l = refl
-    go (suc zero) l = refl
-    go (suc (suc s)) l = absurd (omega arith)
-
 again-law : (h : ℕ) → h < 2 ^ 16 → (x : Float) → x ≡ of_bits binary32 (widened h) → of_bits binary32 (widened (narrowed (to_bits binary32 x))) ≡ x
 again-law h b x e = go (dec_lt 0x7C00 (code16 h))
   where
@@ -170,7 +161,6 @@ floats-law =
       infinite = infinite-law;
       exact = exact-law;
       back = back-law;
-      infinite-in = infinite-in;
       nan-in = nan-in;
       nan-out = nan-out;
       again = again-law;

@@ -1,5 +1,5 @@
 -- RULES 9.12: what holds of `widened` and `narrowed`. `laws.rt` has a function for each record, whose contract it is.
-use Rattle.std.specs.Prelude.{◌≡◌, ℕ, ◌+◌, ◌*◌, ◌%◌, ◌^◌, ◌≤◌, ◌<◌, Bool, cond, T, eqb, ℤ, Float}
+use Rattle.std.specs.Prelude.{◌≡◌, ℕ, ◌+◌, ◌*◌, ◌%◌, ◌^◌, ◌≤◌, ◌<◌, Bool, cond, T, ℤ, Float}
 use Rattle.std.specs.Float.{nan, inf, fin, binary32}
 use Rattle.std.specs.Float.Ieee.{up, down, fits, of_bits, to_bits}
 use Rattle.binary16.specs.Format.{Number, sign16, code16, sign32, code32, value16, value32, apart}
@@ -60,7 +60,6 @@ pub record Floats : Type 0 where
   pub infinite : (s : Bool) → to_bits binary32 (inf s) ≡ cond s 0x80000000 0 + 0x7F800000
   -- coming in
   pub exact : (h : ℕ) → h < 2 ^ 16 → Finite16 h → Is (float_of h) (value16 h)
-  pub infinite-in : (h : ℕ) → h < 2 ^ 16 → code16 h ≡ 0x7C00 → float_of h ≡ inf (eqb (sign16 h) 1)
   pub nan-in : (h : ℕ) → 0x7C00 < code16 h → float_of h ≡ nan
   -- going out
   pub nan-out : binary16_of nan ≡ 0x7E00

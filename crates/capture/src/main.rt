@@ -1,8 +1,7 @@
 // The program `capture` (RULES 18.7): a log on standard input, its capture on standard output, a block at a time. Reading and writing are here; lines,
 // records, checksum and trailer are those of `capture_convert`. A refusal is a line on standard error; what was written is then worth nothing, and
 // ../../tecelume throws it away.
-ghost use Rattle.std.specs.Prelude.{◌≡◌, ◌+◌, ◌%◌, ◌^◌, ◌≤◌, length, take};
-ghost use Rattle.capture_convert.specs.inside.Walks.{ill_line};
+ghost use Rattle.std.specs.Prelude.{◌≡◌, ◌≤◌, length};
 
 use capture_convert::{records, trailer};
 
@@ -14,28 +13,26 @@ const OUT: usize = 688128;
 // More lines than a capture's count can tell.
 const LINES_OVER: u64 = 0x1_0000_0000;
 
-// After a block: whether to go on; whether reading or writing failed, which is told then; the first line that is not well formed, counted from 1, or 0;
-// how many bytes of an unfinished line are in front of the buffer; the lines so far, and the checksum of their records.
+// After a block: whether to go on, and if not, whether all is told; how many bytes of an unfinished line are in front of the buffer; the lines so far,
+// and the checksum of their records.
 #[derive(Drop)]
 struct After {
     more: bool,
-    failed: bool,
-    ill: u64,
+    told: bool,
     kept: usize,
     count: u64,
     sum: u16,
 }
 
-fn stop(failed: bool, s: After) -> After
-    ensures { (result.kept ≡ s.kept) × (result.ill ≡ s.ill) }
+fn stop(told: bool, kept: usize, count: u64, sum: u16) -> After
+    ensures { result.kept ≡ kept }
 {
     After {
         more: false,
-        failed: failed,
-        ill: s.ill,
-        kept: s.kept,
-        count: s.count,
-        sum: s.sum,
+        told: told,
+        kept: kept,
+        count: count,
+        sum: sum,
     }
 }
 
@@ -51,13 +48,6 @@ fn keep(block: &mut [u8], from: usize, to: usize) -> usize
         i += 1;
     }
     i
-}
-
-// The line after `count` others, counted from 1.
-fn next_line(count: u64) -> u64
-    ensures { result ≡ (count + 1) % 2 ^ 64 }
-{
-    std::num::wrapping_add_u64(count, 1)
 }
 
 // 18, with the line.
@@ -78,28 +68,21 @@ fn stored(records: &[u8], count: u64) -> bool {
 // The lines among the first n bytes of the block: their records are written, and what follows them is kept.
 fn feed(block: &mut [u8], n: usize, out: &mut [u8], s: After) -> After
     requires { (n ≤ 32768) × ((length block.old ≡ 32768) × (length out.old ≡ 688128)) }
-    ensures { (result.kept ≤ 32768) × (result.ill ≡ ill_line s.count (take n block.old)) }
+    ensures { result.kept ≤ 32768 }
 {
     let r = records::records(&block[0..n], out);
     let from = r.from;
     let size = r.count * capture_record::SIZE;
     let count = std::num::wrapping_add_u64(s.count, r.count as u64);
     if !r.ok {
-        return After {
-            more: false,
-            failed: false,
-            ill: next_line(count),
-            kept: 0,
-            count: count,
-            sum: s.sum,
-        };
+        ill_formed(std::num::wrapping_add_u64(count, 1));
+        return stop(true, 0, count, s.sum);
     }
     let good = stored(&out[0..size], count);
     let sum = checksum::crc16::over(s.sum, &out[0..size]);
     After {
         more: good,
-        failed: !good,
-        ill: 0,
+        told: !good,
         kept: keep(block, from, n),
         count: count,
         sum: sum,
@@ -115,24 +98,21 @@ fn turn(block: &mut [u8], out: &mut [u8], s: After) -> After
     let got = libc::read(0, &mut block[kept..]);
     if got < 0 {
         console::cannot_read();
-        return stop(true, s);
+        return stop(true, kept, s.count, s.sum);
     }
     let n = kept + io::count(got, &block[kept..]);
     if n == kept {
-        return stop(false, s);
+        return stop(false, kept, s.count, s.sum);
     }
     feed(block, n, out, s)
 }
 
-// After the last block: a line that is not well formed, an unfinished one, too many lines, or the trailer.
+// After the last block: an unfinished line, too many lines, or the trailer.
 fn end(out: &mut [u8], s: After)
     requires { length out.old ≡ 688128 }
 {
-    if 0 < s.ill {
-        return ill_formed(s.ill);
-    }
     if 0 < s.kept {
-        return ill_formed(next_line(s.count));
+        return ill_formed(std::num::wrapping_add_u64(s.count, 1));
     }
     let count = s.count;
     if LINES_OVER <= count {
@@ -148,14 +128,13 @@ fn end(out: &mut [u8], s: After)
     }
 }
 
-// All blocks, and the end, which does not come after a failure. From time to time a line on descriptor 3 says how far it is.
+// All blocks, and the end, which does not come after a refusal or a failure. From time to time a line on descriptor 3 says how far it is.
 fn run(block: &mut [u8], out: &mut [u8])
     requires { (length block.old ≡ 32768) × (length out.old ≡ 688128) }
 {
     let mut s = After {
         more: true,
-        failed: false,
-        ill: 0,
+        told: false,
         kept: 0,
         count: 0,
         sum: 0xFFFF,
@@ -168,7 +147,7 @@ fn run(block: &mut [u8], out: &mut [u8])
             console::progress(std::num::wrapping_sub_u64(u64::MAX, turns) / 32);
         }
     }
-    if s.failed {
+    if s.told {
         return;
     }
     end(out, s);

@@ -1,9 +1,9 @@
 -- What the calls and the programs use of the walks' contracts.
-use mathlib.Core.Path.{◌≡◌, refl, sym, ap, ap₂, ◌∙◌}
+use mathlib.Core.Path.{◌≡◌, sym, ap, ap₂, ◌∙◌}
 use mathlib.Core.Bool.{Bool, true, false}
 use mathlib.Core.List.{List, ◌++◌}
 use mathlib.Core.Option.{Option, none, some}
-use Prim.Native.Nat.{ℕ, zero, suc, ◌+◌, ◌*◌, ◌-◌, ◌/◌, ◌%◌, ◌^◌, ◌≤◌, ◌<◌}
+use Prim.Native.Nat.{ℕ, ◌+◌, ◌*◌, ◌-◌, ◌/◌, ◌^◌, ◌≤◌, ◌<◌}
 use native.Mathlib.Omega.{arith}
 use borrow.Author.Tests.{lt-ltb, le-ltb, le-leb, lt-leb}
 use lib.ListN.{length, take, drop, length-append, length-drop}
@@ -18,7 +18,7 @@ use Rattle.log_line.specs.Lines.{cut}
 use Rattle.capture_convert.specs.Capture.{sum_of, records_of, trailer_of, capture_of, trailer_in, count_in, formed, records_in, trailed, carried_all}
 use Rattle.capture_convert.specs.Convert.{stored, packed, captured, unpacked, uncaptured}
 use Rattle.capture_convert.specs.Log.{log_of, frames_of}
-use Rattle.capture_convert.specs.inside.Walks.{Walked, whole, broken, Told, Recorded, count_of, ill_line, bad_record, or_else, Measured, Prints, Lined, Read, Located, found, missing}
+use Rattle.capture_convert.specs.inside.Walks.{Walked, whole, broken, Told, Recorded, count_of, Measured, Prints, Lined, Read, Located, found, missing}
 use Rattle.capture_convert.specs.declared.answer.Converted.TheVariants.{Done, IllFormed, TooMany, NoCapture, NotCarried, OutputSmall}
 use Rattle.capture_convert.specs.declared.lines.Extent as measure
 use Rattle.capture_convert.specs.declared.records.Ran as ran
@@ -43,12 +43,12 @@ pub record Frames (p : List ℕ) (n : ℕ) : Type 0 where
 
 pub scanned : (p : List ℕ) (r : scan.Scanned) → Walked p r → r.ok ≡ true → Frames p r.count
 scanned p r (whole fs e o c l) t = record { frames = fs; read = e; count = c; lines = l }
-scanned p r (broken e o n) t = differ r.ok t o
+scanned p r (broken e o) t = differ r.ok t o
 
 pub ill-formed : (p out : List ℕ) (r : scan.Scanned) → Walked p r → r.ok ≡ false → record { answer = IllFormed; out = out } ≡ captured p out
 unfolding packed
 ill-formed p out r (whole fs e o c l) t = differ r.ok o t
-ill-formed p out r (broken e o n) t = ap (λ (x : Option (List Frame)). packed x out) (sym e)
+ill-formed p out r (broken e o) t = ap (λ (x : Option (List Frame)). packed x out) (sym e)
 
 module _ (p out : List ℕ) (n : ℕ) (f : Frames p n) where
   carried-frames : All Carried f.frames
@@ -84,7 +84,7 @@ module _ (p out : List ℕ) (n : ℕ) (f : Frames p n) where
             let x : some fs ≡ some f.frames = sym e ∙ (whole-log p f.frames f.read).said in
             let y : fs ≡ f.frames = cc in
             t ∙ ap (λ (gs : List Frame). splice out 0 (records_of gs)) y
-        go (broken e o n) =
+        go (broken e o) =
             let x : ◌≡◌ {A = Option (List Frame)} none (some f.frames) = sym e ∙ (whole-log p f.frames f.read).said in
             let z : ◌≡◌ {A = ℕ} 0 1 = cc in
             absurd (omega arith)
@@ -185,8 +185,8 @@ module _ (c out : List ℕ) (r : place.Place) (p : Place c r) (b : List ℕ) (is
 
     pub not_carried : (m : measure.Extent) → Measured b m → m.ok ≡ false → record { answer = NotCarried; out = out } ≡ uncaptured c out
     unfolding unpacked
-    not_carried m (whole fs e o k n) h = differ m.ok o h
-    not_carried m (broken e o k) h = sym (answered ∙ ap (λ (x : Option (List Frame)). unpacked x out) e)
+    not_carried m (whole fs e o n) h = differ m.ok o h
+    not_carried m (broken e o) h = sym (answered ∙ ap (λ (x : Option (List Frame)). unpacked x out) e)
 
 pub record Printable (b : List ℕ) (n : ℕ) : Type 0 where
   pub frames : List Frame
@@ -194,8 +194,8 @@ pub record Printable (b : List ℕ) (n : ℕ) : Type 0 where
   pub len : n ≡ length (log_of frames)
 
 pub measured : (b : List ℕ) (m : measure.Extent) → Measured b m → m.ok ≡ true → Printable b m.len
-measured b m (whole fs e o k n) h = record { frames = fs; carried = e; len = n }
-measured b m (broken e o k) h = differ m.ok h o
+measured b m (whole fs e o n) h = record { frames = fs; carried = e; len = n }
+measured b m (broken e o) h = differ m.ok h o
 
 -- a block of records with room for as many of the longest lines
 pub prints : (b : List ℕ) (m : measure.Extent) (room : ℕ) → Measured b m → m.ok ≡ true → 47 * (length b / 21) ≤ room → Prints b room
@@ -224,31 +224,3 @@ module _ (c out : List ℕ) (r : place.Place) (p : Place c r) (b : List ℕ) (is
   printed e out' h d =
       sym (log-answer ∙ rw (le-leb (length (log_of q.frames)) (length out) (omega (arith, q.len)))
       (ap₂ (λ (a : ℕ) (x : List ℕ). record { answer = Done a; out = x }) (sym q.len) (sym (d.text q.frames q.carried))))
-
--- ── the line and the record that the programs tell ──
-
-pub none_before : (m n : ℕ) → m ≡ 0 → or_else m n ≡ n
-unfolding or_else
-none_before m n e = rw e
-
-pub one-before : (m n : ℕ) → 0 < m → m ≡ or_else m n
-unfolding or_else
-one-before zero n h = absurd (omega arith)
-one-before (suc m) n h = refl
-
-pub line-told : {p out : List ℕ} {r : ran.Ran} {out' : List ℕ} (count : ℕ) → Told p out r out' → r.ok ≡ false
-    → (count + r.count + 1) % 2 ^ 64 ≡ ill_line count p
-line-told {r = r} count (whole fs e o c q t) h = differ r.ok o h
-line-told count (broken e o n) h = rw (e, n)
-
-pub no-line-told : {p out : List ℕ} {r : ran.Ran} {out' : List ℕ} (count : ℕ) → Told p out r out' → r.ok ≡ true → 0 ≡ ill_line count p
-no-line-told count (whole fs e o c q t) h = rw e
-no-line-told {r = r} count (broken e o n) h = differ r.ok h o
-
-pub record-told : {b : List ℕ} {m : measure.Extent} (count : ℕ) → Measured b m → m.ok ≡ false → (count + m.count + 1) % 2 ^ 64 ≡ bad_record count b
-record-told {m = m} count (whole fs e o k n) h = differ m.ok o h
-record-told count (broken e o k) h = rw (e, k)
-
-pub no-record-told : {b : List ℕ} {m : measure.Extent} (count : ℕ) → Measured b m → m.ok ≡ true → 0 ≡ bad_record count b
-no-record-told count (whole fs e o k n) h = rw e
-no-record-told {m = m} count (broken e o k) h = differ m.ok h o

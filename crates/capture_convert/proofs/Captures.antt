@@ -1,7 +1,7 @@
 -- The records of a capture: what reads is the records of what was read, and the records of frames read as these frames.
 use mathlib.Core.Path.{◌≡◌, refl, sym, ap, ap₂, ◌∙◌}
 use mathlib.Core.List.{List, [], ◌∷◌, ◌++◌, append_assoc}
-use mathlib.Core.Option.{Option, none, some}
+use mathlib.Core.Option.{some}
 use Prim.Native.Nat.{ℕ, zero, suc, ◌+◌, ◌*◌, ◌-◌, ◌/◌, ◌^◌, ◌≤◌, ◌<◌}
 use native.Mathlib.Omega.{arith}
 use lib.ListN.{length, take, drop, length-append, length-drop, take-append-drop}
@@ -16,8 +16,8 @@ use Rattle.log_line.specs.Line.{line_of, Carried}
 use Rattle.log_line.proofs.Lines.{line-length}
 use Rattle.capture_record.specs.Record.{timed, carried}
 use Rattle.capture_record.proofs.Records.{length-timed, timed-back, is_read, bytes-few, read-timed, read-carried}
-use Rattle.capture_convert.specs.Capture.{records_of, carried_all, carried_before}
-use Rattle.capture_convert.specs.Log.{log_of, joined, further}
+use Rattle.capture_convert.specs.Capture.{records_of, carried_all}
+use Rattle.capture_convert.specs.Log.{log_of, joined}
 use Rattle.capture_convert.proofs.Frames.{prefixed, prefix-nil, joined-prefix, joined-parts}
 
 -- ── the records of frames ──
@@ -107,47 +107,3 @@ carried-append (suc n) m a b fs l e =
     (ap (carried_all (n + m)) (drop-append-le 21 a b (omega arith))
     ∙ carried-append n m (drop 21 a) b j.more (length-drop 21 a ∙ omega arith) j.rest)
     ∙ joined-prefix j.first j.more (carried_all m b) ∙ ap (λ (x : List Frame). prefixed x (carried_all m b)) (sym j.all)
-
--- ── how many come before the first that no line can carry ──
-
-pub before-records : (n m : ℕ) (a b : List ℕ) (fs : List Frame) → length a ≡ 21 * n → carried_all n a ≡ some fs
-    → carried_before (n + m) (a ++ b) ≡ n + carried_before m b
-unfolding carried_all carried_before
-before-records zero m a b fs l e =
-    let p : 0 + m ≡ m = omega arith in
-    ap₂ carried_before p (ap (λ (x : List ℕ). x ++ b) (sym (nothing a (omega arith)))) ∙ omega arith
-before-records (suc n) m a b fs l e =
-    let j = joined-parts (carried (take 21 a)) (carried_all n (drop 21 a)) fs e in
-    let p : suc n + m ≡ suc (n + m) = omega arith in
-    ap (λ (k : ℕ). carried_before k (a ++ b)) p
-    ∙ ap₂ further (ap carried (take-append-le 21 a b (omega arith)) ∙ j.one)
-    (ap (carried_before (n + m)) (drop-append-le 21 a b (omega arith))
-    ∙ before-records n m (drop 21 a) b j.more (length-drop 21 a ∙ omega arith) j.rest)
-    ∙ omega arith
-
-pub before-some : (n : ℕ) (b : List ℕ) → carried_all n b ≡ none → carried_before n b < n
-unfolding carried_all carried_before
-before-some zero b e = let z : ◌≡◌ {A = ℕ} 0 1 = cc in absurd (omega arith)
-before-some (suc n) b e = go (before-some n (drop 21 b)) (carried (take 21 b)) (carried_all n (drop 21 b)) refl refl e where
-  go : (carried_all n (drop 21 b) ≡ none → carried_before n (drop 21 b) < n) → (o : Option Frame) (p : Option (List Frame)) → carried (take 21 b) ≡ o
-      → carried_all n (drop 21 b) ≡ p → joined o p ≡ none → further (carried (take 21 b)) (carried_before n (drop 21 b)) < suc n
-  go ih none p a c r = rw a (omega arith)
-  go ih (some f) none a c r = rw a (omega (arith, ih c))
-  go ih (some f) (some fs) a c r = let z : ◌≡◌ {A = ℕ} 0 1 = cc in absurd (omega arith)
-
-pub before-block : (n m : ℕ) (a b : List ℕ) → length a ≡ 21 * n → carried_all n a ≡ none → carried_before (n + m) (a ++ b) ≡ carried_before n a
-unfolding carried_all carried_before
-before-block zero m a b l e = let z : ◌≡◌ {A = ℕ} 0 1 = cc in absurd (omega arith)
-before-block (suc n) m a b l e =
-    let p : suc n + m ≡ suc (n + m) = omega arith in
-    let t : carried (take 21 (a ++ b)) ≡ carried (take 21 a) = ap carried (take-append-le 21 a b (omega arith)) in
-    let d : carried_before (n + m) (drop 21 (a ++ b)) ≡ carried_before (n + m) (drop 21 a ++ b) =
-    ap (carried_before (n + m)) (drop-append-le 21 a b (omega arith)) in
-    ap (λ (k : ℕ). carried_before k (a ++ b)) p ∙ ap₂ further t d
-    ∙ go (before-block n m (drop 21 a) b (length-drop 21 a ∙ omega arith)) (carried (take 21 a)) (carried_all n (drop 21 a)) refl refl e where
-      go : (carried_all n (drop 21 a) ≡ none → carried_before (n + m) (drop 21 a ++ b) ≡ carried_before n (drop 21 a)) → (o : Option Frame)
-          (p : Option (List Frame)) → carried (take 21 a) ≡ o → carried_all n (drop 21 a) ≡ p → joined o p ≡ none
-          → further (carried (take 21 a)) (carried_before (n + m) (drop 21 a ++ b)) ≡ further (carried (take 21 a)) (carried_before n (drop 21 a))
-      go ih none p x c r = rw x
-      go ih (some f) none x c r = ap (further (carried (take 21 a))) (ih c)
-      go ih (some f) (some fs) x c r = let z : ◌≡◌ {A = ℕ} 0 1 = cc in absurd (omega arith)

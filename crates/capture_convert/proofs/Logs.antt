@@ -18,7 +18,7 @@ use Rattle.log_line.specs.Reading.{said}
 use Rattle.log_line.proofs.Cutting.{cut_of, after, cut-append, Plain, plain-rest, onto, cut-onto}
 use Rattle.log_line.proofs.Lines.{read, line-back, line-length}
 use Rattle.capture_convert.specs.Laws.{feeds, line_lengths}
-use Rattle.capture_convert.specs.Log.{log_of, joined, said_all, frames_of, further, formed_before}
+use Rattle.capture_convert.specs.Log.{log_of, joined, said_all, frames_of}
 use Rattle.capture_convert.proofs.Frames.{prefixed, prefix-nil, joined-prefix, joined-parts}
 
 -- ── lines one after the other ──
@@ -67,38 +67,6 @@ said-front (l ∷ ls) ys fs e =
       said-behind = r.said-behind;
       all = j.all ∙ ap (λ (x : List Frame). j.first ∷ x) r.all;
     }
-
--- ── how many come before the first that is not well formed ──
-
--- of lines with others in front
-pub before-append : (xs ys : List (List ℕ)) (fs : List Frame) → said_all xs ≡ some fs → formed_before (xs ++ ys) ≡ length fs + formed_before ys
-unfolding said_all formed_before
-before-append [] ys fs e = let q : fs ≡ [] = cc in omega (arith, ap length q)
-before-append (l ∷ ls) ys fs e =
-    let j = joined-parts (said l) (said_all ls) fs e in
-    ap (λ (o : Option Frame). further o (formed_before (ls ++ ys))) j.one
-    ∙ omega (arith, before-append ls ys j.more j.rest, ap length j.all)
-
--- of lines with one that is not
-pub before-some : (xs : List (List ℕ)) → said_all xs ≡ none → formed_before xs < length xs
-unfolding said_all formed_before
-before-some [] e = let z : ◌≡◌ {A = ℕ} 0 1 = cc in absurd (omega arith)
-before-some (l ∷ ls) e = go (before-some ls) (said l) (said_all ls) refl refl e where
-  go : (said_all ls ≡ none → formed_before ls < length ls) → (o : Option Frame) (p : Option (List Frame)) → said l ≡ o → said_all ls ≡ p → joined o p ≡ none
-      → further (said l) (formed_before ls) < suc (length ls)
-  go ih none p a b r = rw a (omega arith)
-  go ih (some f) none a b r = rw a (omega (arith, ih b))
-  go ih (some f) (some fs) a b r = let z : ◌≡◌ {A = ℕ} 0 1 = cc in absurd (omega arith)
-
-pub before-stop : (xs ys : List (List ℕ)) → said_all xs ≡ none → formed_before (xs ++ ys) ≡ formed_before xs
-unfolding said_all formed_before
-before-stop [] ys e = let z : ◌≡◌ {A = ℕ} 0 1 = cc in absurd (omega arith)
-before-stop (l ∷ ls) ys e = go (before-stop ls ys) (said l) (said_all ls) refl refl e where
-  go : (said_all ls ≡ none → formed_before (ls ++ ys) ≡ formed_before ls) → (o : Option Frame) (p : Option (List Frame)) → said l ≡ o → said_all ls ≡ p
-      → joined o p ≡ none → further (said l) (formed_before (ls ++ ys)) ≡ further (said l) (formed_before ls)
-  go ih none p a b r = rw a
-  go ih (some f) none a b r = ap (further (said l)) (ih b)
-  go ih (some f) (some fs) a b r = let z : ◌≡◌ {A = ℕ} 0 1 = cc in absurd (omega arith)
 
 -- ── the line feed of a line is its last character, and its only one ──
 
@@ -157,16 +125,6 @@ plain-said l h = go (said l) refl where
   go (some f) e =
       let q : l ≡ unclosed f ++ (10 ∷ []) = sym (read l f e).line ∙ closes f in
       absurd (never-closed (unclosed f) (rw q at h))
-
--- so none comes after the last line feed
-before_last : (xs : List (List ℕ)) (r : List ℕ) → Plain r → formed_before (xs ++ last_line r) ≡ formed_before xs
-unfolding formed_before
-before_last xs [] h = ap formed_before (append-nil xs)
-before_last [] (b ∷ bs) h = ap (λ (o : Option Frame). further o 0) (plain-said (b ∷ bs) h)
-before_last (l ∷ ls) (b ∷ bs) h = ap (further (said l)) (before_last ls (b ∷ bs) h)
-
-pub before-unfinished : (log : List ℕ) → formed_before (lines_of log) ≡ formed_before (cut log).whole
-before-unfinished log = before_last (cut log).whole (cut log).rest (plain-rest log)
 
 cut-first : (f : Frame) (t : List ℕ) → cut (line_of f ++ t) ≡ cut_of (line_of f ∷ (cut t).whole) (cut t).rest
 unfolding cut onto
@@ -262,24 +220,14 @@ whole-log log fs e =
       count = s.count;
     }
 
--- the lines of a log that ends with one, and what comes after it
-lines_after : (a b : List ℕ) (fs : List Frame) → frames_of a ≡ some fs → lines_of (a ++ b) ≡ (cut a).whole ++ lines_of b
-lines_after a b fs e =
-    let c : cut (a ++ b) ≡ after (cut a).whole (cut b) =
-    cut-append a b ∙ ap (λ (r : List ℕ). after (cut a).whole (cut (r ++ b))) (rest-none a fs e) in
-    ap (λ (x : Cut). x.whole ++ last_line x.rest) c ∙ append_assoc (cut a).whole (cut b).whole (last_line (cut b).rest)
-
 pub parts : (a b : List ℕ) (fs gs : List Frame) → frames_of a ≡ some fs → frames_of b ≡ some gs → frames_of (a ++ b) ≡ some (fs ++ gs)
 parts a b fs gs e f =
-    ap said_all (lines_after a b fs e) ∙ said-append (cut a).whole (lines_of b) fs (whole-log a fs e).said ∙ ap (prefixed fs) f
-
-pub before-lines : (a b : List ℕ) (fs : List Frame) → frames_of a ≡ some fs → formed_before (lines_of (a ++ b)) ≡ length fs + formed_before (lines_of b)
-before-lines a b fs e = ap formed_before (lines_after a b fs e) ∙ before-append (cut a).whole (lines_of b) fs (whole-log a fs e).said
-
-pub before-block : (a b : List ℕ) → said_all (cut a).whole ≡ none → formed_before (lines_of (a ++ b)) ≡ formed_before (cut a).whole
-before-block a b e =
-    before-unfinished (a ++ b) ∙ ap (λ (x : Cut). formed_before x.whole) (cut-append a b)
-    ∙ before-stop (cut a).whole (cut ((cut a).rest ++ b)).whole e
+    let w = whole-log a fs e in
+    let c : cut (a ++ b) ≡ after (cut a).whole (cut b) =
+    cut-append a b ∙ ap (λ (r : List ℕ). after (cut a).whole (cut (r ++ b))) (rest-none a fs e) in
+    ap (λ (x : Cut). said_all (x.whole ++ last_line x.rest)) c
+    ∙ ap said_all (append_assoc (cut a).whole (cut b).whole (last_line (cut b).rest))
+    ∙ said-append (cut a).whole (lines_of b) fs w.said ∙ ap (prefixed fs) f
 
 -- ── lengths ──
 

@@ -18,16 +18,14 @@ use Rattle.rules.specs.Condition3.{All}
 use Rattle.rules.specs.Frame.{Frame}
 use Rattle.rules.specs.Tests.{pick}
 use Rattle.log_line.specs.Line.{Carried}
-use Rattle.log_line.specs.Lines.{lines_of}
 use Rattle.capture_convert.specs.Capture.{sum_of, records_of, trailer_of, capture_of, trailer_in, count_in, records_in, trailed, carried_all}
 use Rattle.capture_convert.specs.Convert.{stored, packed, captured, unpacked, uncaptured}
-use Rattle.capture_convert.specs.Laws.{wrote, feeds, Trips, Lengths, Parts, Firsts}
+use Rattle.capture_convert.specs.Laws.{wrote, feeds, Trips, Lengths, Parts}
 use Rattle.capture_convert.specs.Log.{log_of, frames_of}
 use Rattle.capture_convert.specs.declared.answer.Converted.TheVariants.{Done, TooMany, NoCapture, OutputSmall}
-use Rattle.capture_convert.proofs.Captures.{records-back, carried-count, carried-only, log-bounds, carried-append, before-records}
-use Rattle.capture_convert.proofs.Captures as captures
+use Rattle.capture_convert.proofs.Captures.{records-back, carried-count, carried-only, log-bounds, carried-append}
 use Rattle.capture_convert.proofs.Frames.{log-append, records-append, length-records, prefixed}
-use Rattle.capture_convert.proofs.Logs.{lines-back, whole-log, parts, cut-feeds, log-length, before-some, before-unfinished, before-lines, before-block}
+use Rattle.capture_convert.proofs.Logs.{lines-back, whole-log, parts, cut-feeds, log-length}
 use Rattle.capture_convert.proofs.Trailers.{count-lt, Right, right-trailed, trailed-right, length-trailer, records-in, count-in, trailer-right, capture-only, trailer-kept, records-kept, right_kept}
 
 -- ── what was written ──
@@ -222,16 +220,4 @@ part-laws =
       sum = over-append ccitt 0xFFFF;
       lines = log-append;
       carried = λ n m a b fs gs l e f. carried-append n m a b fs l e ∙ ap (prefixed fs) f;
-    }
-
-pub first-laws : Firsts
-first-laws =
-    record {
-      line = λ log e. before-some (lines_of log) e;
-      carried = captures.before-some;
-      unfinished = before-unfinished;
-      lines = before-lines;
-      stops = before-block;
-      records = before-records;
-      halts = captures.before-block;
     }

@@ -23,7 +23,7 @@ use Rattle.rules.specs.Frame.{Frame}
 use Rattle.rules.specs.Sending.{record_of}
 use Rattle.rules.specs.Sent.{frame_at}
 use Rattle.log_line.specs.Line.{line_of, Carried}
-use Rattle.log_line.specs.Lines.{cut, lines_of}
+use Rattle.log_line.specs.Lines.{cut}
 use Rattle.log_line.specs.Reading.{said, line_with, line_in}
 use Rattle.log_line.specs.declared.read.Line as line
 use Rattle.log_line.proofs.Cutting.{cut_of, cut-none, cut_line}
@@ -31,12 +31,12 @@ use Rattle.log_line.proofs.Lines.{read, line-length}
 use Rattle.capture_record.specs.Record.{stamp_of, size_of, timed, frame_of, carriable, carried}
 use Rattle.capture_record.specs.inside.Stamped.{record_with}
 use Rattle.capture_record.proofs.Records.{Fit, carried-is, carried-not}
-use Rattle.capture_convert.specs.Capture.{records_of, carried_all, carried_before}
-use Rattle.capture_convert.specs.Log.{log_of, joined, said_all, frames_of, further, formed_before}
+use Rattle.capture_convert.specs.Capture.{records_of, carried_all}
+use Rattle.capture_convert.specs.Log.{log_of, joined, said_all, frames_of}
 use Rattle.capture_convert.specs.inside.Walks.{Walked, whole, broken, Prints, Lined}
 use Rattle.capture_convert.specs.declared.records.Scanned as scan
 use Rattle.capture_convert.proofs.Frames.{prefixed, prefix-nil, prefix-step, log-append, records-append, all_append, length-records}
-use Rattle.capture_convert.proofs.Logs.{whole-frames, broken-frames, unclosed-frames, before-unfinished}
+use Rattle.capture_convert.proofs.Logs.{whole-frames, unclosed-frames}
 
 -- ── a line that was read ──
 
@@ -93,7 +93,6 @@ pub record Walk (p : List ℕ) (count from end : ℕ) : Type 0 where
   pub done : List Frame
   pub run : said_all (cut p).whole ≡ prefixed done (said_all (cut (drop from p)).whole)
   pub counted : count ≡ length done
-  pub formed : formed_before (cut p).whole ≡ count + formed_before (cut (drop from p)).whole
   pub lines : length (cut p).whole ≡ length done + length (cut (drop from p)).whole
   pub carried : All Carried done
   pub rest : (cut p).rest ≡ (cut (drop from p)).rest
@@ -108,7 +107,6 @@ begin p end e w =
       done = [];
       run = sym (prefix-nil (said_all (cut p).whole));
       counted = refl;
-      formed = omega arith;
       lines = omega arith;
       carried = tt;
       rest = refl;
@@ -139,20 +137,8 @@ module _ (p : List ℕ) (count from end : ℕ) (g : Walk p count from end) where
     unfolding said_all
     run-line = g.run ∙ ap (λ x. prefixed g.done (said_all x.whole)) cuts
 
-    before-line : formed_before (cut p).whole ≡ count + further (said (span p from (end + 1 - from))) (formed_before (cut (drop (end + 1) p)).whole)
-    unfolding formed_before
-    before-line = g.formed ∙ ap (λ x. count + formed_before x.whole) cuts
-
-    module _ (e : said (span p from (end + 1 - from)) ≡ none) where
-      pub stop : said_all (cut p).whole ≡ none
-      stop = run-line ∙ ap (λ (o : Option Frame). prefixed g.done (joined o (said_all (cut (drop (end + 1) p)).whole))) e
-
-      pub stops_at : count ≡ formed_before (cut p).whole
-      stops_at =
-          sym (before-line ∙ ap (λ (o : Option Frame). count + further o (formed_before (cut (drop (end + 1) p)).whole)) e ∙ omega arith)
-
-      pub stopped : (r : scan.Scanned) → r.ok ≡ false → r.count ≡ count → Walked p r
-      stopped r o n = broken (broken-frames p stop) o (n ∙ stops_at ∙ sym (before-unfinished p))
+    pub stop : said (span p from (end + 1 - from)) ≡ none → said_all (cut p).whole ≡ none
+    stop e = run-line ∙ ap (λ (o : Option Frame). prefixed g.done (joined o (said_all (cut (drop (end + 1) p)).whole))) e
 
     pub next : (f : Frame) → said (span p from (end + 1 - from)) ≡ some f → Carried f → (end' : ℕ) → end' ≡ end + 1 + before 10 (drop (end + 1) p)
         → end' ≤ length p → Walk p (count + 1) (end + 1) end'
@@ -163,8 +149,6 @@ module _ (p : List ℕ) (count from end : ℕ) (g : Walk p count from end) where
               run-line ∙ ap (λ (o : Option Frame). prefixed g.done (joined o (said_all (cut (drop (end + 1) p)).whole))) e
               ∙ prefix-step g.done f (said_all (cut (drop (end + 1) p)).whole);
           counted = omega (arith, g.counted, length-append g.done (f ∷ []));
-          formed =
-              before-line ∙ ap (λ (o : Option Frame). count + further o (formed_before (cut (drop (end + 1) p)).whole)) e ∙ omega arith;
           lines = omega (arith, g.lines, ap (λ x. length x.whole) cuts, length-append g.done (f ∷ []));
           carried = all_append g.done (f ∷ []) g.carried (c, tt);
           rest = g.rest ∙ ap (λ x. x.rest) cuts;
@@ -187,10 +171,6 @@ module _ (p : List ℕ) (count from end : ℕ) (g : Walk p count from end) where
 
     pub all_lines : length g.done ≡ length (cut p).whole
     all_lines = omega (arith, g.lines, ap (λ x. length x.whole) none_left)
-
-    pub all-before : count ≡ formed_before (lines_of p)
-    unfolding formed_before
-    all-before = sym (before-unfinished p ∙ g.formed ∙ ap (λ x. count + formed_before x.whole) none_left ∙ omega arith)
 
     pub all-frames : from ≡ length p → frames_of p ≡ some g.done
     all-frames e = whole-frames p (some g.done) all_said (left ∙ nothing (drop from p) (length-drop from p ∙ omega arith)) where
@@ -252,7 +232,7 @@ finish p count from end g over r o n = go (eqb from (length p)) refl where
   go : (t : Bool) → eqb from (length p) ≡ t → Walked p r
   go true q =
       whole g.done (all-frames p count from end g over (eqb-true from (length p) q)) (o ∙ q) (n ∙ g.counted) (all_lines p count from end g over)
-  go false q = broken (no_frames p count from end g over (eqb-false from (length p) q)) (o ∙ q) (n ∙ all-before p count from end g over)
+  go false q = broken (no_frames p count from end g over (eqb-false from (length p) q)) (o ∙ q)
 
 -- ── records ──
 
@@ -260,18 +240,12 @@ finish p count from end g over r o n = go (eqb from (length p)) refl where
 pub record Pass (b : List ℕ) (n count : ℕ) : Type 0 where
   pub done : List Frame
   pub run : carried_all n b ≡ prefixed done (carried_all (n - count) (drop (count * 21) b))
-  pub before : carried_before n b ≡ count + carried_before (n - count) (drop (count * 21) b)
   pub within : count ≤ n
 
 pub begin-pass : (b : List ℕ) (n : ℕ) → Pass b n 0
 begin-pass b n =
     let z : n - 0 ≡ n = omega arith in
-    record {
-      done = [];
-      run = ap (λ (k : ℕ). carried_all k b) (sym z) ∙ sym (prefix-nil (carried_all (n - 0) b));
-      before = ap (λ (k : ℕ). carried_before k b) (sym z) ∙ omega arith;
-      within = omega arith;
-    }
+    record { done = []; run = ap (λ (k : ℕ). carried_all k b) (sym z) ∙ sym (prefix-nil (carried_all (n - 0) b)); within = omega arith }
 
 module _ (b : List ℕ) (n count : ℕ) (g : Pass b n count) where
   module _ (more : count < n) where
@@ -288,23 +262,6 @@ module _ (b : List ℕ) (n count : ℕ) (g : Pass b n count) where
         (drop-drop 21 (count * 21) b ∙ ap (λ (i : ℕ). drop i b) d)
         ∙ ap (λ (i : ℕ). prefixed g.done (joined (carried (take i (drop (count * 21) b))) (carried_all (n - (count + 1)) (drop ((count + 1) * 21) b)))) k
 
-    before-record : carried_before n b
-        ≡ count + further (carried (span b (count * 21) (count * 21 + 21 - count * 21))) (carried_before (n - (count + 1)) (drop ((count + 1) * 21) b))
-    unfolding carried_before
-    before-record =
-        let e : n - count ≡ suc (n - (count + 1)) = omega arith in
-        let d : count * 21 + 21 ≡ (count + 1) * 21 = omega arith in
-        let k : 21 ≡ count * 21 + 21 - count * 21 = omega arith in
-        g.before ∙ ap (λ (i : ℕ). count + carried_before i (drop (count * 21) b)) e
-        ∙ ap (λ (x : List ℕ). count + further (carried (take 21 (drop (count * 21) b))) (carried_before (n - (count + 1)) x))
-        (drop-drop 21 (count * 21) b ∙ ap (λ (i : ℕ). drop i b) d)
-        ∙ ap (λ (i : ℕ). count + further (carried (take i (drop (count * 21) b))) (carried_before (n - (count + 1)) (drop ((count + 1) * 21) b))) k
-
-    pub halts_at : carriable (span b (count * 21) (count * 21 + 21 - count * 21)) ≡ false → count ≡ carried_before n b
-    halts_at e =
-        sym (before-record ∙ ap (λ (o : Option Frame). count + further o (carried_before (n - (count + 1)) (drop ((count + 1) * 21) b)))
-        (carried-not (span b (count * 21) (count * 21 + 21 - count * 21)) e) ∙ omega arith)
-
     pub halt : carriable (span b (count * 21) (count * 21 + 21 - count * 21)) ≡ false → carried_all n b ≡ none
     halt e = run-record ∙ ap (λ (o : Option Frame). prefixed g.done (joined o (carried_all (n - (count + 1)) (drop ((count + 1) * 21) b))))
         (carried-not (span b (count * 21) (count * 21 + 21 - count * 21)) e)
@@ -317,9 +274,6 @@ module _ (b : List ℕ) (n count : ℕ) (g : Pass b n count) where
               run-record ∙ ap (λ (o : Option Frame). prefixed g.done (joined o (carried_all (n - (count + 1)) (drop ((count + 1) * 21) b))))
               (carried-is (span b (count * 21) (count * 21 + 21 - count * 21)) e)
               ∙ prefix-step g.done (frame_of (span b (count * 21) (count * 21 + 21 - count * 21))) (carried_all (n - (count + 1)) (drop ((count + 1) * 21) b));
-          before =
-              before-record ∙ ap (λ (o : Option Frame). count + further o (carried_before (n - (count + 1)) (drop ((count + 1) * 21) b)))
-              (carried-is (span b (count * 21) (count * 21 + 21 - count * 21)) e) ∙ omega arith;
           within = omega arith;
         }
 

@@ -7,7 +7,7 @@ use Rattle.checksum.specs.Crc.{crc_over}
 use Rattle.checksum.specs.Crc16.{ccitt}
 use Rattle.rules.specs.Frame.{Frame}
 use Rattle.capture_record.specs.Record.{record_size, timed, carried}
-use Rattle.capture_convert.specs.Log.{joined, further}
+use Rattle.capture_convert.specs.Log.{joined}
 
 abbrev pub trailer_size : ℕ
 trailer_size = 16
@@ -61,8 +61,3 @@ trailed c =
 unfoldable pub carried_all : ℕ → List ℕ → Option (List Frame)
 carried_all zero b = some []
 carried_all (suc n) b = joined (carried (take record_size b)) (carried_all n (drop record_size b))
-
--- RULES 18.7: how many of n records come before the first that no line can carry; n, if each can be carried
-unfoldable pub carried_before : ℕ → List ℕ → ℕ
-carried_before zero b = 0
-carried_before (suc n) b = further (carried (take record_size b)) (carried_before n (drop record_size b))

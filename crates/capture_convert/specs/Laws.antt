@@ -1,6 +1,6 @@
--- RULES 18.5 to 18.7: what holds of the two calls. `laws.rt` has a function for each record of laws, whose contract it is.
+-- RULES 18.5, 18.6: what holds of the two calls. `laws.rt` has a function for each record of laws, whose contract it is.
 use Rattle.std.specs.Prelude.{◌≡◌, true, List, [], ◌∷◌, ◌++◌, ℕ, suc, ◌+◌, ◌*◌, ◌/◌, ◌^◌, ◌≤◌, ◌<◌, eqb, length, take}
-use Rattle.std.proofs.Math.Option.{none, some}
+use Rattle.std.proofs.Math.Option.{some}
 use Rattle.bits.specs.Order.{Octets}
 use Rattle.bits.specs.Part.{splice}
 use Rattle.checksum.specs.Crc.{crc_over}
@@ -10,11 +10,10 @@ use Rattle.rules.specs.Condition3.{All}
 use Rattle.rules.specs.Frame.{Frame}
 use Rattle.rules.specs.Tests.{pick}
 use Rattle.log_line.specs.Line.{Carried}
-use Rattle.log_line.specs.Lines.{cut, lines_of}
 use Rattle.capture_record.specs.Record.{record_size}
-use Rattle.capture_convert.specs.Capture.{trailer_size, sum_of, records_of, capture_of, trailer_in, count_in, trailed, carried_all, carried_before}
+use Rattle.capture_convert.specs.Capture.{trailer_size, sum_of, records_of, capture_of, trailer_in, count_in, trailed, carried_all}
 use Rattle.capture_convert.specs.Convert.{Result, captured, uncaptured}
-use Rattle.capture_convert.specs.Log.{log_of, said_all, frames_of, formed_before}
+use Rattle.capture_convert.specs.Log.{log_of, frames_of}
 use Rattle.capture_convert.specs.declared.answer.Converted.TheVariants.{Done}
 
 -- text at the front of a buffer
@@ -65,18 +64,3 @@ pub record Parts : Type 0 where
   pub lines : (fs gs : List Frame) → log_of (fs ++ gs) ≡ log_of fs ++ log_of gs
   pub carried : (n m : ℕ) (a b : List ℕ) (fs gs : List Frame) → length a ≡ record_size * n → carried_all n a ≡ some fs → carried_all m b ≡ some gs
       → carried_all (n + m) (a ++ b) ≡ some (fs ++ gs)
-
--- ── the line under 18 and the record under 23 (RULES 18.7) ──
-
-pub record Firsts : Type 0 where
-  -- there is one
-  pub line : (log : List ℕ) → frames_of log ≡ none → formed_before (lines_of log) < length (lines_of log)
-  pub carried : (n : ℕ) (b : List ℕ) → carried_all n b ≡ none → carried_before n b < n
-  -- bytes after the last line feed are never a line before it
-  pub unfinished : (log : List ℕ) → formed_before (lines_of log) ≡ formed_before (cut log).whole
-  -- part by part: all of the parts before count, and what comes later does not
-  pub lines : (a b : List ℕ) (fs : List Frame) → frames_of a ≡ some fs → formed_before (lines_of (a ++ b)) ≡ length fs + formed_before (lines_of b)
-  pub stops : (a b : List ℕ) → said_all (cut a).whole ≡ none → formed_before (lines_of (a ++ b)) ≡ formed_before (cut a).whole
-  pub records : (n m : ℕ) (a b : List ℕ) (fs : List Frame) → length a ≡ record_size * n → carried_all n a ≡ some fs
-      → carried_before (n + m) (a ++ b) ≡ n + carried_before m b
-  pub halts : (n m : ℕ) (a b : List ℕ) → length a ≡ record_size * n → carried_all n a ≡ none → carried_before (n + m) (a ++ b) ≡ carried_before n a

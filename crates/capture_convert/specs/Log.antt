@@ -1,5 +1,5 @@
--- RULES 12.4, 18.3, 18.7: a whole log, as a list of frames with their times.
-use Rattle.std.specs.Prelude.{List, [], ◌∷◌, ◌++◌, ℕ, suc}
+-- RULES 12.4, 18.3: a whole log, as a list of frames with their times.
+use Rattle.std.specs.Prelude.{List, [], ◌∷◌, ◌++◌, ℕ}
 use Rattle.std.proofs.Math.Option.{Option, none, some}
 use Rattle.rules.specs.Frame.{Frame}
 use Rattle.log_line.specs.Line.{line_of}
@@ -24,13 +24,3 @@ said_all (l ∷ ls) = joined (said l) (said_all ls)
 
 abbrev pub frames_of : List ℕ → Option (List Frame)
 frames_of log = said_all (lines_of log)
-
--- how many come before the first that says no frame, where n do from the next on
-abbrev pub further : Option Frame → ℕ → ℕ
-further none n = 0
-further (some f) n = suc n
-
--- how many lines come before the first that is not well formed; all of them, if each is
-unfoldable pub formed_before : List (List ℕ) → ℕ
-formed_before [] = 0
-formed_before (l ∷ ls) = further (said l) (formed_before ls)

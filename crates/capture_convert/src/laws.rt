@@ -1,5 +1,5 @@
 // The laws of specs/Laws.antt and specs/Samples.antt: functions with no body, whose contracts they are.
-ghost use Rattle.capture_convert.specs.Laws.{Trips, Lengths, Parts, Firsts};
+ghost use Rattle.capture_convert.specs.Laws.{Trips, Lengths, Parts};
 ghost use Rattle.capture_convert.specs.Samples.{Samples};
 
 pub fn trips()
@@ -12,10 +12,6 @@ pub fn lengths()
 
 pub fn parts()
     ensures { Parts }
-{}
-
-pub fn firsts()
-    ensures { Firsts }
 {}
 
 pub fn samples()

@@ -1,10 +1,10 @@
 -- How long a form can be.
 use mathlib.Core.Path.{◌≡◌, refl, sym, ap, ◌∙◌}
-use mathlib.Core.Bool.{Bool, true, false, cond, ◌&&◌, false≢true}
+use mathlib.Core.Bool.{Bool, true, false, cond, ◌&&◌}
 use mathlib.Core.List.{List, [], ◌∷◌, ◌++◌, map}
 use Prim.Native.Nat.{ℕ, suc, ◌+◌, ◌*◌, ◌-◌, ◌^◌, ◌≤◌, ◌<◌}
 use native.Mathlib.Decide.{dec_le}
-use native.Mathlib.Nat.{one-le-pow, pow-suc, pow-le-pow_right, lt_of_not-le}
+use native.Mathlib.Nat.{one-le-pow, pow-suc, pow-le-pow_right, mul-le-mul, mul-suc, lt_of_not-le}
 use native.Mathlib.Omega.{arith}
 use lib.Dec.{eqb, lit<}
 use lib.ListN.{length, take, drop, length-append, length-take, length-drop, take-append-drop}
@@ -15,7 +15,7 @@ use Rattle.dsdl_text.specs.Class.{is_in, run}
 use Rattle.dsdl_text.specs.Text.{chars, same, first}
 use Rattle.dsdl_text.specs.Words.{bare, skip, word, past, ended}
 use Rattle.dsdl_text.specs.Lines.{on_first, lines_after, lines}
-use Rattle.dsdl_text.specs.Names.{is_name, dotted_from, has_dot, last_dot, space_of, full_name}
+use Rattle.dsdl_text.specs.Names.{is_name, has_dot, last_dot, space_of, full_name}
 use Rattle.dsdl_number.specs.Number.{initializer}
 use Rattle.dsdl_number.specs.Integer.{base_of as literal_base, digits_of}
 use Rattle.dsdl_number.proofs.Literals.{base-bound}
@@ -111,12 +111,12 @@ full-length space l = go (has_dot l) where
   go true = omega arith
   go false = omega (arith, length-append space l)
 
-type-bound : (space : List ℕ) → length space ≤ 80 → (c : Cast) (w : List ℕ) → length (type_form space c w) ≤ 85 + 2 * length w
-type-bound space few c w = go (is_nested (base_of (base_text w))) where
+type-bound : (space : List ℕ) (c : Cast) (w : List ℕ) → length (type_form space c w) ≤ length space + 15 + 2 * length w
+type-bound space c w = go (is_nested (base_of (base_text w))) where
   parts : length (base_text w) + length (size_text w) ≡ length w
   parts = sym (length-append (base_text w) (size_text w)) ∙ ap length (take-append-drop (run Unbracketed w) w)
 
-  go : (b : Bool) → length (cond b (full_name space (base_text w)) (cast_form c ++ base_text w) ++ size_form (size_text w)) ≤ 85 + 2 * length w
+  go : (b : Bool) → length (cond b (full_name space (base_text w)) (cast_form c ++ base_text w) ++ size_form (size_text w)) ≤ length space + 15 + 2 * length w
   go true =
       omega (arith, parts, size-bound (size_text w), full-length space (base_text w), length-append (full_name space (base_text w)) (size_form (size_text w)))
   go false =
@@ -129,14 +129,14 @@ type-bound space few c w = go (is_nested (base_of (base_text w))) where
         length-append (cast_form c ++ base_text w) (size_form (size_text w)),
       )
 
--- ── the words of a line are no longer than the line, and type and name of a field are not empty ──
+-- ── the words of a line are no longer than the line ──
 
 abbrev Small : ℕ → Shape → Type 0
 Small n nothing = Unit
 Small n marker = Unit
 Small n union = Unit
 Small n (padding w) = length w ≤ n
-Small n (field c w x) = (0 < length w) × ((0 < length x) × (length w + length x ≤ n))
+Small n (field c w x) = (length w ≤ n) × (length x ≤ n)
 Small n (constant w x i) = Unit
 Small n wrong = Unit
 
@@ -152,32 +152,15 @@ past-short l = omega (arith, length-drop (run Visible (skip l)) (skip l), skip-s
 first_short : (l : List ℕ) → length (word (skip l)) ≤ length l
 first_short l = omega (arith, word-short (skip l), skip-short l)
 
--- a word and what comes behind it
-both-short : (l : List ℕ) → length (word (skip l)) + length (past (skip l)) ≤ length l
-both-short l = omega (arith, length-take (run Visible (skip l)) (skip l), length-drop (run Visible (skip l)) (skip l), skip-short l)
-
-some-name : (x : List ℕ) → is_name x ≡ true → 0 < length x
-unfolding is_in
-some-name [] e = absurd (false≢true e)
-some-name (c ∷ x) e = omega arith
-
-some-type : (c : Cast) (w : List ℕ) → field_type c w ≡ true → 0 < length w
-unfolding is_in run base_of same items dotted_from
-some-type Unsaid [] e = absurd (false≢true e)
-some-type Saturated [] e = absurd (false≢true e)
-some-type Truncated [] e = absurd (false≢true e)
-some-type c (x ∷ w) e = omega arith
-
-attribute-small : (n : ℕ) (c : Cast) (w l : List ℕ) → length w + length l ≤ n → Small n (attribute c w l)
-attribute-small n c w l h =
-    go (is_name (word (skip l))) refl (ended (past (skip l))) (field_type c w) refl (constant_type w && same (word (skip (past (skip l)))) (chars "=")) where
-      go : (a : Bool) → is_name (word (skip l)) ≡ a → (b t : Bool) → field_type c w ≡ t → (k : Bool)
-          → Small n (cond a (cond b (cond t (field c w (word (skip l))) wrong) (cond k (constant w (word (skip l)) (past (skip (past (skip l))))) wrong)) wrong)
-      go true a true true t k = (some-type c w t, (some-name (word (skip l)) a, omega (arith, first_short l)))
-      go true a true false t k = tt
-      go true a false b t true = tt
-      go true a false b t false = tt
-      go false a b d t k = tt
+attribute-small : (n : ℕ) (c : Cast) (w l : List ℕ) → length w ≤ n → length l ≤ n → Small n (attribute c w l)
+attribute-small n c w l hw hl =
+    go (is_name (word (skip l))) (ended (past (skip l))) (field_type c w) (constant_type w && same (word (skip (past (skip l)))) (chars "=")) where
+      go : (a b t k : Bool) → Small n (cond a (cond b (cond t (field c w (word (skip l))) wrong) (cond k (constant w (word (skip l)) (past (skip (past (skip l))))) wrong)) wrong)
+      go true true true k = (hw, omega (arith, first_short l))
+      go true true false k = tt
+      go true false t true = tt
+      go true false t false = tt
+      go false b t k = tt
 
 shape-small : (l : List ℕ) → Small (length l) (shape_of l)
 unfolding shape_of
@@ -193,7 +176,8 @@ shape-small l = outer (ended (bare l)) where
 
   cast : (c : Cast) → Small (length l) (cast_attribute c (past (skip (bare l))))
   cast c =
-      attribute-small (length l) c (word (skip (past (skip (bare l))))) (past (skip (past (skip (bare l))))) (omega (arith, both-short (past (skip (bare l))), hr))
+      attribute-small (length l) c (word (skip (past (skip (bare l))))) (past (skip (past (skip (bare l)))))
+      (omega (arith, first_short (past (skip (bare l))), hr)) (omega (arith, past-short (past (skip (bare l))), hr))
 
   inner : (m u s t p : Bool)
       → Small (length l) (cond m marker (cond u union (cond s (cast_attribute Saturated (past (skip (bare l)))) (cond t (cast_attribute Truncated (past (skip (bare l))))
@@ -203,7 +187,7 @@ shape-small l = outer (ended (bare l)) where
   inner false false true t p = cast Saturated
   inner false false false true p = cast Truncated
   inner false false false false true = hw
-  inner false false false false false = attribute-small (length l) Unsaid (word (skip (bare l))) (past (skip (bare l))) (omega (arith, both-short (bare l), bare-short))
+  inner false false false false false = attribute-small (length l) Unsaid (word (skip (bare l))) (past (skip (bare l))) hw hr
 
   outer : (e : Bool) → Small (length l) (cond e nothing (shape_with (word (skip (bare l))) (past (skip (bare l)))))
   outer true = tt
@@ -214,61 +198,60 @@ shape-small l = outer (ended (bare l)) where
 
 -- ── a line ──
 
-module _ (space : List ℕ) (few : length space ≤ 80) where
-  shape-bound : (n : ℕ) (s : Shape) → Small n s → length (line_form space (judged s)) ≤ 30 * (n + 1)
-  unfolding line_form
-  shape-bound n nothing h = omega arith
-  shape-bound n marker h = omega arith
-  shape-bound n union h = omega arith
-  shape-bound n (padding w) h = omega arith
-  shape-bound n (field c w x) h = omega (arith, type-bound space few c w, length-append (type_form space c w) (32 ∷ x))
-  shape-bound n (constant w x i) h = go (fits (base_of (base_text w)) (initializer (skip i))) where
-    go : (b : Bool) → length (line_form space (cond b (aConstant x) aWrong)) ≤ 30 * (n + 1)
-    go true = omega arith
-    go false = omega arith
-  shape-bound n wrong h = omega arith
+shape-bound : (space : List ℕ) (n : ℕ) (s : Shape) → Small n s → length (line_form space (judged s)) ≤ length space + 17 + 3 * n
+unfolding line_form
+shape-bound space n nothing h = omega arith
+shape-bound space n marker h = omega arith
+shape-bound space n union h = omega arith
+shape-bound space n (padding w) h = omega arith
+shape-bound space n (field c w x) h = omega (arith, type-bound space c w, length-append (type_form space c w) (32 ∷ x))
+shape-bound space n (constant w x i) h = go (fits (base_of (base_text w)) (initializer (skip i))) where
+  go : (b : Bool) → length (line_form space (cond b (aConstant x) aWrong)) ≤ length space + 17 + 3 * n
+  go true = omega arith
+  go false = omega arith
+shape-bound space n wrong h = omega arith
 
-  line-bound : (l : List ℕ) → length (line_form space (line_of l)) ≤ 30 * (length l + 1)
-  line-bound l = shape-bound (length l) (shape_of l) (shape-small l)
+line-bound : (space l : List ℕ) → length (line_form space (line_of l)) ≤ length space + 17 + 3 * length l
+line-bound space l = shape-bound space (length l) (shape_of l) (shape-small l)
 
 -- ── all lines ──
 
--- their characters, and one for the end of each
-unfoldable weight : List (List ℕ) → ℕ
-weight [] = 0
-weight (l ∷ ls) = length l + 1 + weight ls
+unfoldable weight : ℕ → List (List ℕ) → ℕ
+weight k [] = 0
+weight k (l ∷ ls) = k + 3 * length l + weight k ls
 
-on-first : (c : ℕ) (ls : List (List ℕ)) → weight (on_first c ls) ≤ weight ls + 1
+on-first : (k c : ℕ) (ls : List (List ℕ)) → weight k (on_first c ls) ≤ weight k ls + 3
 unfolding weight
-on-first c [] = omega arith
-on-first c (l ∷ ls) = omega arith
+on-first k c [] = omega arith
+on-first k c (l ∷ ls) = omega arith
 
-weight-bound : (b : Bool) (t : List ℕ) → weight (lines_after b t) ≤ length t + 1
+weight-bound : (k : ℕ) (b : Bool) (t : List ℕ) → weight k (lines_after b t) ≤ k + (k + 3) * length t
 unfolding weight lines_after
-weight-bound b [] = omega arith
-weight-bound b (c ∷ cs) = go (weight-bound (eqb c 13) cs) (b && eqb c 10) (is_in Inline c) where
-  go : weight (lines_after (eqb c 13) cs) ≤ length cs + 1 → (x y : Bool)
-      → weight (cond x (lines_after (eqb c 13) cs) (cond y (on_first c (lines_after (eqb c 13) cs)) ([] ∷ lines_after (eqb c 13) cs))) ≤ suc (length cs) + 1
-  go ih true y = omega arith
-  go ih false true = omega (arith, on-first c (lines_after (eqb c 13) cs))
-  go ih false false = omega arith
+weight-bound k b [] = omega arith
+weight-bound k b (c ∷ cs) = go (weight-bound k (eqb c 13) cs) (b && eqb c 10) (is_in Inline c) where
+  more : (k + 3) * suc (length cs) ≡ (k + 3) * length cs + (k + 3)
+  more = mul-suc (k + 3) (length cs)
 
-lines-bound : (space : List ℕ) → length space ≤ 80 → (ls : List (List ℕ)) → length (lines_form space (map line_of ls)) ≤ 30 * weight ls
+  go : weight k (lines_after (eqb c 13) cs) ≤ k + (k + 3) * length cs → (x y : Bool)
+      → weight k (cond x (lines_after (eqb c 13) cs) (cond y (on_first c (lines_after (eqb c 13) cs)) ([] ∷ lines_after (eqb c 13) cs))) ≤ k + (k + 3) * suc (length cs)
+  go ih true y = omega (arith, more)
+  go ih false true = omega (arith, more, on-first k c (lines_after (eqb c 13) cs))
+  go ih false false = omega (arith, more)
+
+lines-bound : (space : List ℕ) (ls : List (List ℕ)) → length (lines_form space (map line_of ls)) ≤ weight (length space + 17) ls
 unfolding weight lines_form
-lines-bound space few [] = omega arith
-lines-bound space few (l ∷ ls) =
-    omega (arith, lines-bound space few ls, line-bound space few l, length-append (line_form space (line_of l)) (lines_form space (map line_of ls)))
+lines-bound space [] = omega arith
+lines-bound space (l ∷ ls) =
+    omega (arith, lines-bound space ls, line-bound space l, length-append (line_form space (line_of l)) (lines_form space (map line_of ls)))
 
--- ── a form ──
-
-pub form-room : (name text : List ℕ) → length name ≤ 80 → length (form_of name text) ≤ 80 + 30 * (length text + 1)
-form-room name text h =
+pub form-bound : (name text : List ℕ) → length name ≤ 80 → length text ≤ 4096 → length (form_of name text) ≤ 2 ^ 19
+form-bound name text hn ht =
+    let s = length (space_of name) in
+    let d : s ≤ 80 = omega (arith, length-take (last_dot 0 0 name) name) in
+    let m : (s + 17 + 3) * length text ≤ 100 * 4096 = mul-le-mul {n₂ = 100} (omega arith) ht in
     omega (
       arith,
       length-append name (lines_form (space_of name) (lines_of text)),
-      lines-bound (space_of name) (omega (arith, length-take (last_dot 0 0 name) name)) (lines text),
-      weight-bound false text,
+      lines-bound (space_of name) (lines text),
+      weight-bound (s + 17) false text,
     )
-
-pub form-bound : (name text : List ℕ) → length name ≤ 80 → length text ≤ 4096 → length (form_of name text) ≤ 2 ^ 19
-form-bound name text h t = omega (arith, form-room name text h)

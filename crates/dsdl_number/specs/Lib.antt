@@ -1,4 +1,3 @@
 pub mod Integer
 pub mod Number
-pub mod Samples
 pub mod inside

@@ -2,5 +2,4 @@
 pub mod character;
 pub mod floating;
 pub mod integer;
-pub mod laws;
 pub mod significand;

@@ -53,7 +53,7 @@ short-name true true n e = leb-true n name_max e
 short-name true false n e = let z : ◌≡◌ {A = ℕ} 0 1 = cc in absurd (omega arith)
 short-name false b n e = let z : ◌≡◌ {A = ℕ} 0 1 = cc in absurd (omega arith)
 
-pub good-name : (name text : List ℕ) → good ≡ verdict name text → length name ≤ name_max
+good-name : (name text : List ℕ) → good ≡ verdict name text → length name ≤ name_max
 good-name name text e = go (is_full_name name) refl where
   go : (b : Bool) → is_full_name name ≡ b → length name ≤ name_max
   go true q = short-name (is_dotted name) (has_dot name) (length name) q

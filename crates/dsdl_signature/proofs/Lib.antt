@@ -2,4 +2,3 @@ pub mod Faults
 pub mod Joined
 pub mod Answers
 pub mod Ranges
-mod Rooms

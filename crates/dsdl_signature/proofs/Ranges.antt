@@ -149,7 +149,7 @@ fault-within (d ∷ ds) k i line s e = go (λ f. fault-within ds (suc k) i line 
 
 -- ── an answer ──
 
-pub kept : (a : Answer) (ds : List Definition) (out records : List ℕ) → (result_of a ds out records).answer ≡ a
+kept : (a : Answer) (ds : List Definition) (out records : List ℕ) → (result_of a ds out records).answer ≡ a
 kept Done ds out records = refl
 kept Oversized ds out records = refl
 kept (Faulty d l) ds out records = refl

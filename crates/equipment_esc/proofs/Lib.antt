@@ -1,2 +1,2 @@
-mod RawCommandFacts
-pub mod Trips
+pub mod RawCommandFacts
+mod Trips

@@ -1,14 +1,14 @@
 // RawCommand (message 1030; RULES 10.10): a list of signed numbers of 14 bits, and nothing else.
-ghost use Rattle.std.specs.Prelude.{◌≡◌, false, ◌++◌, ◌*◌, ◌-◌, ◌≤◌, pos, length, take, replicate};
+ghost use Rattle.std.specs.Prelude.{◌≡◌, true, false, ◌++◌, map, ◌*◌, ◌-◌, ◌≤◌, length, take, replicate};
 ghost use Rattle.bits.specs.Order.{unpack, bytes_for, store};
 ghost use Rattle.shape.specs.Answer.{answer_of, wrote};
-ghost use Rattle.shape.specs.Cast.{signed, saturated};
-ghost use Rattle.shape.specs.Shape.{item_bits, items_of};
-ghost use Rattle.equipment_esc.specs.RawCommand.{command_encoded, command_in, read_of};
+ghost use Rattle.shape.specs.Shape.{item_bits, items_of, all_below};
+ghost use Rattle.shape.specs.Signed.{signed_of};
+ghost use Rattle.equipment_esc.specs.RawCommand.{pattern_of, command_encoded, command_in, read_of};
 
 use shape::answer::Written;
-use shape::items;
 use shape::items::Counted;
+use shape::{cast, items, signed};
 
 // A command for each motor: the first `count` places. A reader leaves the others zero, a writer ignores them.
 #[derive(Drop)]
@@ -24,12 +24,27 @@ pub struct Read {
     pub message: RawCommand,
 }
 
-// The first n numbers of the payload, and zeros.
-fn numbers(payload: &[u8], n: usize) -> [i64; 20]
-    requires { (n ≤ 20) × (n * 14 ≤ length payload.now * 8) }
-    ensures { result ≡ items_of signed 14 n (unpack payload.now) ++ replicate (20 - n) (pos 0) }
+// What the patterns stand for.
+fn numbers(patterns: [u64; 20]) -> [i64; 20]
+    requires { all_below 16384 patterns ≡ true }
+    ensures { result ≡ map (signed_of 14) patterns }
 {
-    let mut places = [0i64; 20];
+    let mut cmd = [0i64; 20];
+    let mut i = 0;
+    while i < 20 {
+        let v = signed::value(patterns[i], 14);
+        cmd[i] = v;
+        i += 1;
+    }
+    cmd
+}
+
+// The first n items of the payload, and zeros.
+fn read_patterns(payload: &[u8], n: usize) -> [u64; 20]
+    requires { (n ≤ 20) × (n * 14 ≤ length payload.now * 8) }
+    ensures { result ≡ items_of 14 n (unpack payload.now) ++ replicate (20 - n) 0 }
+{
+    let mut places = [0u64; 20];
     items::read(payload, 0, 14, &mut places[0..n]);
     places
 }
@@ -50,18 +65,33 @@ pub fn decode(payload: &[u8]) -> Read
             number: 0,
             message: RawCommand {
                 count,
-                cmd: numbers(payload, count),
+                cmd: numbers(read_patterns(payload, count)),
             },
         },
     }
 }
 
-// The first n at the front of `out`, saturated, and zeros to the end of the byte.
-fn write_numbers(cmd: [i64; 20], n: usize, out: &mut [u8])
-    requires { (n ≤ 20) × (bytes_for (n * 14) ≤ length out.old) }
-    ensures { out.new ≡ store out.old 0 (item_bits signed saturated 14 (take n cmd) ++ replicate (bytes_for (n * 14) * 8 - n * 14) false) }
+// The patterns of the first n, saturated, and zeros.
+fn patterns(cmd: [i64; 20], n: usize) -> [u64; 20]
+    requires { n ≤ 20 }
+    ensures { result ≡ map pattern_of (take n cmd) ++ replicate (20 - n) 0 }
 {
-    items::write(out, 0, 14, &cmd[0..n]);
+    let mut p = [0u64; 20];
+    let mut i = 0;
+    while i < n {
+        let v = cmd[i];
+        p[i] = cast::signed(v, 14);
+        i += 1;
+    }
+    p
+}
+
+// The first n of p at the front of `out`, and zeros to the end of the byte.
+fn write_patterns(p: [u64; 20], n: usize, out: &mut [u8])
+    requires { (n ≤ 20) × (bytes_for (n * 14) ≤ length out.old) }
+    ensures { out.new ≡ store out.old 0 (item_bits 14 (take n p) ++ replicate (bytes_for (n * 14) * 8 - n * 14) false) }
+{
+    items::write(out, 0, 14, &p[0..n]);
     items::pad(out, n * 14);
 }
 
@@ -78,6 +108,6 @@ pub fn encode(x: RawCommand, out: &mut [u8]) -> Written
     if out.len() < len {
         return Written::Refused(8);
     }
-    write_numbers(cmd, n, out);
+    write_patterns(patterns(cmd, n), n, out);
     Written::Wrote(len)
 }

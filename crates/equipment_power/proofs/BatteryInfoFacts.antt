@@ -15,7 +15,7 @@ use Rattle.shape.specs.Answer.{Answer, refused, got}
 use Rattle.shape.specs.Shape.{end, Values, encode, decoded, fits}
 use Rattle.shape.proofs.Fields.{and-true, length-item_bits}
 use Rattle.shape.proofs.Reading.{Slot, value, same, refused-on, got-on, ht-short, ht-long, ht-held, ht-only}
-use Rattle.shape.proofs.Writing.{more, more-from, item-bytes}
+use Rattle.shape.proofs.Writing.{more, more-from, item-bytes, all-bytes}
 use Rattle.shape.proofs.CastFacts.{cast}
 use Rattle.shape.specs.declared.answer.Place.{Place}
 use Rattle.equipment_power.specs.BatteryInfo.{floats_then, others_then, name_only, battery_info, model_name_in, float_values, other_values, raw_values, raw_of, raw_in, raw_at}
@@ -177,20 +177,20 @@ module _ (m : Raw) where
     size = simp (length-append, length-to_bits, length-item_bits) (omega arith)
 
     -- 16 bits hold every float
-    pub fit : m.temperature < 65536 → m.voltage < 65536 → m.current < 65536 → m.average_power_10sec < 65536
+    pub fit : Octets name → m.temperature < 65536 → m.voltage < 65536 → m.current < 65536 → m.average_power_10sec < 65536
         → m.remaining_capacity_wh < 65536 → m.full_charge_capacity_wh < 65536 → m.hours_to_full_charge < 65536
         → leb (length name) 31 ≡ fits battery_info (raw_values m name_only name)
     unfolding fits
-    fit a b c d e f g =
-        rw (lt-ltb _ _ a, lt-ltb _ _ b, lt-ltb _ _ c, lt-ltb _ _ d, lt-ltb _ _ e, lt-ltb _ _ f, lt-ltb _ _ g) (simp and-true)
+    fit o a b c d e f g =
+        rw (lt-ltb _ _ a, lt-ltb _ _ b, lt-ltb _ _ c, lt-ltb _ _ d, lt-ltb _ _ e, lt-ltb _ _ f, lt-ltb _ _ g, all-bytes name o) (simp and-true)
 
-    bits : Octets name → encode battery_info (raw_values m name_only name) ≡ float-bits ++ (other-bits ++ unpack name)
+    bits : encode battery_info (raw_values m name_only name) ≡ float-bits ++ (other-bits ++ unpack name)
     unfolding encode
-    bits o = rw (item-bytes name o) (sym (simp (append_assoc, append-nil)))
+    bits = rw (item-bytes name) (sym (simp (append_assoc, append-nil)))
 
-    pub stored : Octets name → (m₀ m₁ m₂ m₃ : List ℕ) → 23 + length name ≤ length m₀ → m₁ ≡ store m₀ 0 float-bits → m₂ ≡ store m₁ 112 other-bits
+    pub stored : (m₀ m₁ m₂ m₃ : List ℕ) → 23 + length name ≤ length m₀ → m₁ ≡ store m₀ 0 float-bits → m₂ ≡ store m₁ 112 other-bits
         → m₃ ≡ store m₂ 184 (unpack name) → m₃ ≡ store m₀ 0 (encode battery_info (raw_values m name_only name))
-    stored o m₀ m₁ m₂ m₃ h e₁ e₂ e₃ =
+    stored m₀ m₁ m₂ m₃ h e₁ e₂ e₃ =
         let f₂ = more m₀ m₁ m₂ float-bits other-bits 112 e₁ float_size (omega arith) e₂ in
         let f₃ = more m₀ m₂ m₃ (float-bits ++ other-bits) (unpack name) 184 f₂ (simp (length-append, float_size, other-size)) (omega arith) e₃ in
-        f₃ ∙ ap (λ (l : List Bool). store m₀ 0 l) (append_assoc float-bits other-bits (unpack name) ∙ sym (bits o))
+        f₃ ∙ ap (λ (l : List Bool). store m₀ 0 l) (append_assoc float-bits other-bits (unpack name) ∙ sym bits)

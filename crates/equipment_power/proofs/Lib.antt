@@ -1,2 +1,2 @@
 mod BatteryInfoFacts
-pub mod Trips
+mod Trips

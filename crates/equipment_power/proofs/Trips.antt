@@ -16,8 +16,7 @@ use Rattle.bits.specs.Order.{Octets, unpack, from_bits}
 use Rattle.bits.proofs.Bytes.{length-unpack}
 use Rattle.bits.proofs.Numbers.{from_bits-lt}
 use Rattle.shape.specs.Answer.{got}
-use Rattle.shape.specs.Cast.{unsigned, saturated}
-use Rattle.shape.specs.Shape.{end, Values, clipped_items, clipped, within, encoded, cleared}
+use Rattle.shape.specs.Shape.{end, Values, clipped, within, encoded, cleared}
 use Rattle.shape.specs.Laws.{Trips}
 use Rattle.shape.specs.declared.answer.Place.{Place}
 use Rattle.shape.proofs.Reading.{got-on, never}
@@ -25,7 +24,6 @@ use Rattle.shape.proofs.RoundTrip.{whole_same}
 use Rattle.shape.proofs.Tails.{never-25}
 use Rattle.shape.proofs.There.{kept as shape-kept}
 use Rattle.shape.proofs.Trip.{trips, through}
-use Rattle.shape.proofs.Writing.{bytes_same}
 use Rattle.equipment_power.specs.BatteryInfo.{others_then, name_only, battery_info, model_name_in, other_values, raw_values, raw_of, raw_in, raw_at, widened_info, narrowed_info, with_floats, info_in}
 use Rattle.equipment_power.specs.Laws.{Laws, found, Held, AllHeld, floats, clipped_info, NoNan, patterns}
 use Rattle.equipment_power.specs.declared.battery_info.BatteryInfo.{BatteryInfo}
@@ -47,16 +45,14 @@ same-info x h =
     infos (same h.0) (same h.1.0) (same h.1.1.0) (same h.1.1.1.0) (same h.1.1.1.1.0) (same h.1.1.1.1.1.0)
     (same h.1.1.1.1.1.1.0) refl refl refl refl refl refl
 
-there : (x : BatteryInfo) (name : List ℕ) → Octets name → (room : ℕ) (p : List ℕ) → AllHeld (floats x)
+there : (x : BatteryInfo) (name : List ℕ) (room : ℕ) (p : List ℕ) → AllHeld (floats x)
     → encoded battery_info (raw_values (narrowed_info x) name_only name) room ≡ got p
     → (info_in p ≡ got (clipped_info x, record { at = 23; len = length name })) × (model_name_in p ≡ name)
 unfolding clipped
-there x name o room p h e =
-    let r = raw.there (raw_values (narrowed_info x) name_only name) room p e in
-    let s : clipped_items unsigned saturated 8 name ≡ name = bytes_same name o in (
-      got-on with_floats refl r.0 ∙ ap (λ (y : BatteryInfo). got (y, record { at = 23; len = length (clipped_items unsigned saturated 8 name) })) (same-info (clipped_info x) h)
-          ∙ ap (λ (n : List ℕ). got (clipped_info x, record { at = 23; len = length n })) s,
-      ap name_of r.1 ∙ s,
+there x name room p h e =
+    let r = raw.there (raw_values (narrowed_info x) name_only name) room p e in (
+      got-on with_floats refl r.0 ∙ ap (λ (y : BatteryInfo). got (y, record { at = 23; len = length name })) (same-info (clipped_info x) h),
+      ap name_of r.1,
     )
   where
     name_of : Values battery_info → List ℕ

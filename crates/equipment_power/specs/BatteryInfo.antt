@@ -4,7 +4,7 @@ use Rattle.std.specs.Prelude.{Bool, List, ℕ, pos, length, drop}
 use Rattle.binary16.specs.Convert.{float_of, binary16_of}
 use Rattle.bits.specs.Order.{from_bits}
 use Rattle.shape.specs.Answer.{Answer, refused, got, Numbered, numbered, map_answer}
-use Rattle.shape.specs.Shape.{Shape, uint, raw, byte_tail, Values, anything, decoded}
+use Rattle.shape.specs.Shape.{Shape, uint, raw, tail, Values, anything, decoded}
 use Rattle.shape.specs.declared.answer.Place.{Place}
 use Rattle.equipment_power.specs.declared.battery_info.BatteryInfo.{BatteryInfo}
 use Rattle.equipment_power.specs.declared.battery_info.Raw.{Raw}
@@ -21,7 +21,7 @@ abbrev pub others_then : Shape → Shape
 others_then d = uint 11 (uint 7 (uint 7 (uint 7 (uint 8 (uint 32 d)))))
 
 abbrev pub name_only : Shape
-name_only = byte_tail 31 anything
+name_only = tail 8 31 anything
 
 abbrev pub battery_info : Shape
 battery_info = floats_then (others_then name_only)

@@ -63,7 +63,7 @@ pub record Laws : Type 0 where
   -- RULES 9.4: it fills whole bytes
   pub never-25 : Never25 battery_info
   -- as f32: what was written is read, numbers as they were clipped, where each float is one that some binary16 equals
-  pub there : (x : BatteryInfo) (name : List ℕ) → Octets name → (room : ℕ) (p : List ℕ) → AllHeld (floats x)
+  pub there : (x : BatteryInfo) (name : List ℕ) (room : ℕ) (p : List ℕ) → AllHeld (floats x)
       → encoded battery_info (raw_values (narrowed_info x) name_only name) room ≡ got p
       → (info_in p ≡ got (clipped_info x, record { at = 23; len = length name })) × (model_name_in p ≡ name)
   -- numbers that their fields hold are not changed

@@ -1,4 +1,3 @@
-pub mod Checks
 pub mod Heads
 pub mod Tails
 pub mod Records

@@ -1,21 +1,13 @@
 // The frame checks 2, 3, 19 and 4 to 6 (RULES 4.1): 2, 3 and 19 before a frame is read, 4 to 6 on its head.
 ghost use Rattle.std.specs.Prelude.{◌≡◌};
-ghost use Rattle.frame.specs.inside.Head.{stream_of, checked_of, head_tests_of};
+ghost use Rattle.frame.specs.inside.Head.{stream_of, head_tests_of};
 ghost use Rattle.rules.specs.Check as rules;
-ghost use Rattle.rules.specs.Check.{first, read_tests};
+ghost use Rattle.rules.specs.Check.{or_zero, first, read_tests};
 ghost use Rattle.rules.specs.Frame.{unnamed};
 ghost use Rattle.rules.specs.Setup.{kind_of};
 
 use super::head::Head;
-use answers::Refusal;
 use rules::limits::{FRAME_DATA, INTERFACES};
-
-// What the checks say of a frame.
-#[derive(Drop)]
-pub enum Checked {
-    Passed,
-    Refused(Refusal),
-}
 
 // Internal. A message without a named source.
 pub fn is_anonymous(h: Head) -> bool
@@ -85,37 +77,37 @@ fn bad_tail(h: Head, anonymous: bool, n: usize) -> bool
     false
 }
 
-// Internal. Of a frame of n data bytes before it is read: 2 and 3, that it cannot be, and 19, that it comes by no interface of ours.
-pub fn before_reading(id: u32, n: usize, interface: u32) -> Checked
-    ensures { result ≡ checked_of (first (read_tests id n interface)) }
+// Internal. 2 or 3 for a frame of n data bytes that cannot be read, 19 for one by no interface of ours, or 0.
+pub fn unreadable(id: u32, n: usize, interface: u32) -> u8
+    ensures { result ≡ or_zero (first (read_tests id n interface)) }
 {
     if 0x20000000 <= id {
-        return Checked::Refused(Refusal::WrongId);
+        return 2;
     }
     if n == 0 {
-        return Checked::Refused(Refusal::WrongLength);
+        return 3;
     }
     if FRAME_DATA < n {
-        return Checked::Refused(Refusal::WrongLength);
+        return 3;
     }
     if INTERFACES as u32 <= interface {
-        return Checked::Refused(Refusal::WrongInterface);
+        return 19;
     }
-    Checked::Passed
+    0
 }
 
-// Internal. Of the head of a frame with n data bytes: the first of 4 to 6.
-pub fn of_head(h: Head, n: usize, own: u8) -> Checked
-    ensures { result ≡ checked_of (first (head_tests_of own h n)) }
+// Internal. The number of the first check of 4 to 6 that refuses a frame of n data bytes, or 0.
+pub fn refusal(h: Head, n: usize, own: u8) -> u8
+    ensures { result ≡ or_zero (first (head_tests_of own h n)) }
 {
     if unnamed_service(h) {
-        return Checked::Refused(Refusal::NamelessService);
+        return 4;
     }
     if bad_tail(h, is_anonymous(h), n) {
-        return Checked::Refused(Refusal::WrongTail);
+        return 5;
     }
     if for_another_node(h, own) {
-        return Checked::Refused(Refusal::OtherNode);
+        return 6;
     }
-    Checked::Passed
+    0
 }

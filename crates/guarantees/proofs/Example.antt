@@ -1,26 +1,23 @@
 -- The example: its tables are in lent bytes, and its premises come over from those of the rules.
 use mathlib.Core.Path.{◌≡◌, refl, sym, ap, ap₂, subst, ◌∙◌}
 use mathlib.Core.Bool.{Bool, true, ◌&&◌}
-use mathlib.Core.List.Permᴰ
 use mathlib.Core.List.{List, [], ◌∷◌, append-nil, map}
-use Prim.Native.Nat.{ℕ, ◌^◌, ◌<◌}
+use Prim.Native.Nat.{ℕ, ◌^◌}
 use native.Mathlib.Omega.{arith}
 use borrow.Author.Tests.{ltb-true}
 use lib.Dec.{ltb}
-use lib.ListN.{length, replicate, length-replicate}
+use lib.ListN.{replicate, length-replicate}
 use Rattle.bits.specs.Little.{le}
 use Rattle.bits.specs.Order.{Octets}
 use Rattle.bits.specs.Tabulate.{tabulate}
 use Rattle.guarantees.specs.Condition3.{Lent, lent_bytes}
-use Rattle.guarantees.specs.Example.{records, reordered, reordered_records, call_of, lent_of, lent_spacious, lent_crowded, LentExample}
-use Rattle.guarantees.specs.FromSetup.{SetUp}
+use Rattle.guarantees.specs.Example.{records, call_of, lent_of, lent_spacious, lent_crowded, LentExample}
 use Rattle.guarantees.specs.Received.{Typed}
 use Rattle.guarantees.specs.Run.{receptions, AllTyped}
 use Rattle.guarantees.specs.Written.{AllWritable, Stands}
 use Rattle.guarantees.proofs.Condition3.{view, lent-theorem}
 use Rattle.guarantees.proofs.FromSetup.{octets-zeros, octets-state}
 use Rattle.guarantees.proofs.Received.{table-law}
-use Rattle.rules.proofs.EqualSetups.{same_of, same-through}
 use Rattle.rules.proofs.Examples.{example}
 use Rattle.rules.proofs.Lift.{view_of, frames-are, while-back, premises-back}
 use Rattle.rules.specs.Blocks.{used, times, lowest, free_block, cleared, asks}
@@ -29,8 +26,8 @@ use Rattle.rules.specs.Condition3.{of_stream, Receiver, frames, Premises, While,
 use Rattle.rules.specs.Example.{setup, stream, payload, start, crowd, spacious, crowded}
 use Rattle.rules.specs.Frame.{Frame, same_stream, stream_of}
 use Rattle.rules.specs.Reception.{step_block, step_ask, step_at, step_new, step_start, step_seek, step_anonymous, step_checked, step, after}
-use Rattle.rules.specs.Session.{restarts, over, closing, take_end, take_long, takes, proceed_if, proceed, met, restarted}
-use Rattle.rules.specs.Setup.{Setup, subscribed, acceptable, SameSetup}
+use Rattle.rules.specs.Session.{restarts, over, closing, take_end, take_long, takes, proceed_if, proceed, met, restarted, react}
+use Rattle.rules.specs.Setup.{subscribed, acceptable}
 use Rattle.rules.specs.Sound.{stream_fits, session_fits, sound}
 use Rattle.rules.specs.Table.{empty, held, Places, seek, place_for}
 use Rattle.setup.proofs.Fresh.{fresh}
@@ -106,7 +103,7 @@ module _ (m : List ℕ) (x : Receiver (rules_table setup)) (h : Lendable m x) wh
   stands = table-law m x.state h.state.sound h.state.bytes h.table h.writable
 
   lends : Lent setup (written m x.state)
-  lends = record { setup = same-through (same_of stands.setup) h.state.setup; sound = stands.sound; bytes = stands.bytes }
+  lends = record { setup = stands.setup ∙ h.state.setup; sound = stands.sound; bytes = stands.bytes }
 
   view-back : view_of setup (lent_bytes setup) (view setup) (lent_of m x) ≡ x
   unfolding view
@@ -123,7 +120,7 @@ module _ (m : List ℕ) (x : Receiver (rules_table setup)) (h : Lendable m x) wh
   while-lent k w =
       while-back setup (lent_bytes setup) (view setup) stream (lent_of m x) lends h.typed k (subst (While (rules_table setup) stream k) (sym view-back) w)
 
--- ── the states that were set up ──
+-- ── the state that was set up ──
 
 given_is : given 1 records ≡ setup
 unfolding given record_at records le tabulate
@@ -137,37 +134,14 @@ records-bytes : bytes_test records ≡ true
 unfolding bytes_test records
 records-bytes = refl
 
-anew-given : given 1 reordered_records ≡ reordered
-unfolding given record_at reordered_records le tabulate
-anew-given = refl
+done-is : (after_setup (replicate size 0) 1 records).answer ≡ Done
+unfolding after_setup
+done-is = rw accepted-is
 
-anew-accepted : accepted 1 reordered_records ≡ true
-unfolding accepted acceptable given record_at reordered_records le tabulate
-anew-accepted = refl
-
-anew-bytes : bytes_test reordered_records ≡ true
-unfolding bytes_test reordered_records
-anew-bytes = refl
-
-same-order : SameSetup reordered setup
-same-order = record { own = refl; subscriptions = Permᴰ.trans (Permᴰ.swap refl refl) (Permᴰ.cons refl (Permᴰ.swap refl refl)) }
-
-module _ (r : List ℕ) (u : Setup) (is : given 1 r ≡ u) (ok : accepted 1 r ≡ true) (bytes : bytes_test r ≡ true) where
-  begun-state : Fresh u (state_of u)
-  begun-state =
-      subst (λ w. Fresh w (state_of w)) is
-      (subst (Fresh (given 1 r)) (append-nil (state_of (given 1 r))) (fresh 1 r [] ok (tested-bytes r bytes)))
-
-  lent-state : SameSetup u setup → u.own < 256 → length u.subscriptions < 256 → Lent setup (state_of u)
-  lent-state same own few =
-      record { setup = same-through (same_of begun-state.setup) same; sound = begun-state.sound; bytes = octets-state u own few }
-
-  done-is : (after_setup (replicate size 0) 1 r).answer ≡ Done
-  unfolding after_setup
-  done-is = rw ok
-
-  set-up : SetUp (replicate size 0) 1 r × (given 1 r ≡ u)
-  set-up = (record { bytes = octets-zeros size; records = tested-bytes r bytes; done = done-is }, is)
+begun-state : Fresh setup (state_of setup)
+begun-state =
+    subst (λ u. Fresh u (state_of u)) given_is
+    (subst (Fresh (given 1 records)) (append-nil (state_of (given 1 records))) (fresh 1 records [] accepted-is (tested-bytes records records-bytes)))
 
 -- ── both receivers ──
 
@@ -176,42 +150,40 @@ unfolding frame_test in_range bytes_test
 start_test = refl
 
 spacious-tests : (sound spacious.state ≡ true) × ((table_test spacious.state ≡ true) × (list_test spacious.list ≡ true))
-unfolding sound stream_fits session_fits after step step_checked step_anonymous step_seek step_start step_new used times lowest free_block cleared asks step_block step_ask step_at seek place_for check frame_check parsed stream_of same_stream subscribed met restarted restarts proceed proceed_if over takes take_long take_end closing table_test list_test frame_test in_range bytes_test
+unfolding sound stream_fits session_fits after step step_checked step_anonymous step_seek step_start step_new used times lowest free_block cleared asks step_block step_ask step_at seek place_for check frame_check parsed stream_of same_stream subscribed react met restarted restarts proceed proceed_if over takes take_long take_end closing table_test list_test frame_test in_range bytes_test
 spacious-tests = (refl, (refl, refl))
 
 crowded-tests : (sound crowded.state ≡ true) × ((table_test crowded.state ≡ true) × (list_test crowded.list ≡ true))
 unfolding crowd used times sound stream_fits session_fits same_stream table_test list_test frame_test in_range bytes_test
 crowded-tests = (refl, (refl, refl))
 
-lendable : (m : List ℕ) → Lent setup m → (x : Receiver (rules_table setup)) → x.start.arrival ≡ start
-    → (sound x.state ≡ true) × ((table_test x.state ≡ true) × (list_test x.list ≡ true)) → Lendable m x
-lendable m h x e t =
+lendable : (x : Receiver (rules_table setup)) → x.start.arrival ≡ start → (sound x.state ≡ true) × ((table_test x.state ≡ true) × (list_test x.list ≡ true))
+    → Lendable (state_of setup) x
+lendable x e t =
     record {
-      state = h;
+      state = record { setup = begun-state.setup; sound = begun-state.sound; bytes = octets-state setup (omega arith) (omega arith) };
       table = t.0;
       writable = tested-table x.state t.1.0;
       typed = (subst (λ a. Typed a.frame) (sym e) (tested-frame start.frame start_test), tested-list x.list t.1.1);
     }
 
-module _ (m n : List ℕ) (x y : Receiver (rules_table setup)) (a : Lendable m x) (b : Lendable n y) where
-  lent-premises : Premises (rules_table setup) stream x y → Premises (lent_bytes setup) stream (lent_of m x) (lent_of n y)
+module _ (m : List ℕ) (x y : Receiver (rules_table setup)) (a : Lendable m x) (b : Lendable m y) where
+  lent-premises : Premises (rules_table setup) stream x y → Premises (lent_bytes setup) stream (lent_of m x) (lent_of m y)
   lent-premises p =
-      premises-back setup (lent_bytes setup) (view setup) stream (lent_of m x) (lent_of n y) (lends m x a, lends n y b) (a.typed, b.typed)
-      (subst (λ z. Premises (rules_table setup) stream z (view_of setup (lent_bytes setup) (view setup) (lent_of n y))) (sym (view-back m x a))
-      (subst (Premises (rules_table setup) stream x) (sym (view-back n y b)) p))
+      premises-back setup (lent_bytes setup) (view setup) stream (lent_of m x) (lent_of m y) (lends m x a, lends m y b) (a.typed, b.typed)
+      (subst (λ z. Premises (rules_table setup) stream z (view_of setup (lent_bytes setup) (view setup) (lent_of m y))) (sym (view-back m x a))
+      (subst (Premises (rules_table setup) stream x) (sym (view-back m y b)) p))
 
 pub lent-example : LentExample
 lent-example =
     let m = state_of setup in
-    let n = state_of reordered in
-    let a = lendable m (lent-state records setup given_is accepted-is records-bytes (same_of refl) (omega arith) (omega arith)) spacious refl spacious-tests in
-    let b = lendable n (lent-state reordered_records reordered anew-given anew-accepted anew-bytes same-order (omega arith) (omega arith)) crowded refl crowded-tests in
-    let premises = lent-premises m n spacious crowded a b example.premises in
+    let a = lendable spacious refl spacious-tests in
+    let b = lendable crowded refl crowded-tests in
+    let premises = lent-premises m spacious crowded a b example.premises in
     record {
       premises = premises;
-      whiles = (while-lent m spacious a 8 example.whiles.0, while-lent n crowded b 8 example.whiles.1);
+      whiles = (while-lent m spacious a 8 example.whiles.0, while-lent m crowded b 8 example.whiles.1);
       transfer = subst (λ fs. Transfer setup stream start fs 16 5 payload) (sym (frames-back m spacious a)) example.transfer;
       claim = lent-theorem setup stream lent_spacious lent_crowded premises;
-      set_up = set-up records setup given_is accepted-is records-bytes;
-      set_up_anew = set-up reordered_records reordered anew-given anew-accepted anew-bytes;
+      set_up = (record { bytes = octets-zeros size; records = tested-bytes records records-bytes; done = done-is }, given_is);
     }

@@ -1,5 +1,5 @@
 -- The state that setup leaves, and what calls make of it.
-use mathlib.Core.Path.{◌≡◌, refl, sym, ap, ap₂, subst, ◌∙◌}
+use mathlib.Core.Path.{◌≡◌, refl, sym, ap₂, subst, ◌∙◌}
 use mathlib.Core.Bool.{Bool, true, false}
 use mathlib.Core.List.{List, [], ◌∷◌, ◌++◌, map}
 use Prim.Native.Nat.{ℕ, zero, suc, ◌-◌, ◌%◌, ◌<◌}
@@ -16,14 +16,13 @@ use Rattle.guarantees.specs.Run.{Call, receptions, AllTyped, readings, reading_o
 use Rattle.guarantees.proofs.Condition3.{lent-stays, view}
 use Rattle.guarantees.proofs.Run.{run-law}
 use Rattle.rules.proofs.Bounds.{block-bounds}
-use Rattle.rules.proofs.EqualSetups.{lists, same_of, same-through}
 use Rattle.rules.proofs.Lasting.{lasting}
 use Rattle.rules.proofs.Lift.{View, lifted, lifted-burst}
 use Rattle.rules.specs.Answer as rules
 use Rattle.rules.specs.BlockBounds.{modest}
 use Rattle.rules.specs.Condition3.{All}
 use Rattle.rules.specs.Reception.{run}
-use Rattle.rules.specs.Setup.{Subscription, Setup, all_fit, acceptable, SameSetup}
+use Rattle.rules.specs.Setup.{Subscription, Setup, all_fit, acceptable}
 use Rattle.rules.specs.Table.{Places, begun}
 use Rattle.rules.specs.Tests.{pick}
 use Rattle.setup.proofs.Fresh.{fresh}
@@ -32,7 +31,7 @@ use Rattle.answers.specs.Reception.{told}
 use Rattle.answers.specs.declared.Answer.TheVariants.{NoBlock}
 use Rattle.answers.specs.declared.Outcome.TheVariants.{Done, Unacceptable, Short}
 use Rattle.state.proofs.Bools.{and_left, and_right}
-use Rattle.state.specs.Layout.{size, stream_keys_at, setup_of, places_of}
+use Rattle.state.specs.Layout.{size, stream_keys_at, places_of}
 
 -- ── bytes ──
 
@@ -110,19 +109,17 @@ module _ (m : List ℕ) (own : ℕ) (r : List ℕ) where
       let q = leb-true n 64 (and_left (leb n 64) (all_fit (given own r).subscriptions) (and_right (ltb (given own r).own 128) _ e)) in
       omega arith
 
-  begins : SetUp m own r
-      → Lent (given own r) (after_setup m own r).state × (setup_of (after_setup m own r).state ≡ given own r) × (places_of (after_setup m own r).state ≡ begun)
+  begins : SetUp m own r → Lent (given own r) (after_setup m own r).state × (places_of (after_setup m own r).state ≡ begun)
   begins h =
       let k = succeeded h.done in
       let g = fresh own r (drop size m) k.0 h.records in
       let ok = fits k.0 in
       rw k.1 (
         record {
-          setup = same_of g.setup;
+          setup = g.setup;
           sound = g.sound;
           bytes = octets-append (state_of (given own r)) (drop size m) (octets-state (given own r) (own-small ok) (few ok)) (octets-drop size m h.bytes);
         },
-        g.setup,
         g.places,
       )
 
@@ -133,14 +130,7 @@ reads : (m : List ℕ) (own : ℕ) (r : List ℕ) → SetUp m own r → (cs : Li
 reads m own r h cs typed =
     let b = begins m own r h in
     (run-law (after_setup m own r).state cs b.0.sound b.0.bytes typed).read
-    ∙ ap₂ (λ (u : Setup) (ps : Places). map reading_of (run u ps (receptions cs))) b.1 b.2
-
-alike : (m n : List ℕ) (own : ℕ) (r k : List ℕ) → SetUp m own r → SetUp n own k → SameSetup (given own r) (given own k) → (cs : List Call) → AllTyped cs
-    → readings (after_setup m own r).state cs ≡ readings (after_setup n own k).state cs
-alike m n own r k h j s cs typed =
-    reads m own r h cs typed
-    ∙ ap (map reading_of) (lists (given own r) (given own k) s (fits m own r (succeeded m own r h.done).0) begun (receptions cs)).0
-    ∙ sym (reads n own k j cs typed)
+    ∙ ap₂ (λ (u : Setup) (ps : Places). map reading_of (run u ps (receptions cs))) b.0.setup b.1
 
 not-told : (a : rules.Answer) → (a ≡ rules.no_block → ⊥) → told a ≡ NoBlock → ⊥
 not-told rules.taken n e = let z : ◌≡◌ {A = ℕ} 0 1 = cc in omega arith
@@ -163,9 +153,7 @@ served m own r h cs typed small =
     (none_told (run (given own r) begun (receptions cs)) (block-bounds.ever 2 (omega arith) (given own r) begun (receptions cs) lasting.setup refl small))
 
 lasts : (u : Setup) (m : List ℕ) → Reached u m → Lent u m
-lasts u m (set_up n own r h e) =
-    let b = (begins n own r h).0 in
-    record { setup = same-through b.setup e; sound = b.sound; bytes = b.bytes }
+lasts u m (set_up n own r h e) = subst (λ w. Lent w (after_setup n own r).state) e (begins n own r h).0
 lasts u m (called {m = n} h c typed) = lent-stays u n c (lasts u n h) typed
 
 reached-view : (u : Setup) → View u (set_up_bytes u)
@@ -185,7 +173,6 @@ from-setup =
     record {
       begins = begins;
       reads = reads;
-      alike = alike;
       served = served;
       lasts = lasts;
       condition3 = lifted set_up_bytes reached-view;

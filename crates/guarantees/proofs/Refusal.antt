@@ -1,21 +1,19 @@
--- A frame that is refused or passed over, in bytes: the rules' table stays, and writing it back changes no byte; 30 writes what it restarts.
+-- A frame that is refused, in bytes: the rules' table stays, and writing it back changes no byte.
 use mathlib.Core.Path.{◌≡◌, refl, sym, ap, ◌∙◌}
 use mathlib.Core.Bool.{Bool, true, false}
-use mathlib.Core.List.{List, map}
+use mathlib.Core.List.{List}
 use Prim.Native.Nat.{ℕ}
-use native.Mathlib.Omega.{arith}
 use Rattle.bits.specs.Order.{Octets}
 use Rattle.guarantees.specs.Received.{step_on}
 use Rattle.guarantees.specs.Refusal.{RefusalLaws}
 use Rattle.rules.proofs.Refusals.{refusals}
 use Rattle.rules.specs.Answer as rules
-use Rattle.rules.specs.Check.{parsed}
 use Rattle.rules.specs.Frame.{Arrival}
-use Rattle.rules.specs.Refusal.{leaves, renewed}
+use Rattle.rules.specs.Refusal.{refuses}
 use Rattle.receiver.specs.Receive.{arriving, received_if, received}
 use Rattle.answers.proofs.Reception.{told-number}
 use Rattle.answers.specs.Reception.{number_of, told, out_after}
-use Rattle.state.proofs.Faultless.{table-sound, ready}
+use Rattle.state.proofs.Faultless.{ready}
 use Rattle.state.proofs.Good.{same-table}
 use Rattle.state.specs.Layout.{setup_of, places_of}
 use Rattle.state.specs.Place.{written}
@@ -33,25 +31,15 @@ out-kept rules.no_block out n = refl
 out-kept rules.differs out n = refl
 
 module _ (m : List ℕ) (f : Arrival) (out : List ℕ) where
-  state-kept : Octets m → leaves (number_of (received m f out).answer) ≡ true → (received m f out).state ≡ m
+  state-kept : Octets m → refuses (number_of (received m f out).answer) ≡ true → (received m f out).state ≡ m
   unfolding received received_if
   state-kept bytes = go (sound_state m) refl
     where
-      go : (b : Bool) → sound_state m ≡ b → leaves (number_of (received_if b m f out).answer) ≡ true → (received_if b m f out).state ≡ m
+      go : (b : Bool) → sound_state m ≡ b → refuses (number_of (received_if b m f out).answer) ≡ true → (received_if b m f out).state ≡ m
       go false e n = refl
       go true e n =
           let number = sym (told-number (step_on m f out).answer) in
-          ap (written m) (refusals.stays (setup_of m) (places_of m) (arriving f out) (table-sound m e) (ap leaves number ∙ n)) ∙ same-table m (ready m e) bytes
-
-  thirty-left : number_of (received m f out).answer ≡ 30 → (received m f out).state ≡ written m (map (renewed (parsed (setup_of m) f)) (places_of m))
-  unfolding received received_if
-  thirty-left = go (sound_state m) refl
-    where
-      go : (b : Bool) → sound_state m ≡ b → number_of (received_if b m f out).answer ≡ 30
-          → (received_if b m f out).state ≡ written m (map (renewed (parsed (setup_of m) f)) (places_of m))
-      go false e n = absurd (omega arith)
-      go true e n =
-          ap (written m) (refusals.thirty (setup_of m) (places_of m) (arriving f out) (table-sound m e) (sym (told-number (step_on m f out).answer) ∙ n))
+          ap (written m) (refusals (setup_of m) (places_of m) (arriving f out) (ap refuses number ∙ n)) ∙ same-table m (ready m e) bytes
 
   output-kept : (number_of (received m f out).answer ≡ 1 → ⊥) → (received m f out).out ≡ out
   unfolding received received_if
@@ -62,4 +50,4 @@ module _ (m : List ℕ) (f : Arrival) (out : List ℕ) where
       go true n = out-kept (step_on m f out).answer out n
 
 pub refusal-laws : RefusalLaws
-refusal-laws = record { state = state-kept; thirty = thirty-left; output = output-kept }
+refusal-laws = record { state = state-kept; output = output-kept }

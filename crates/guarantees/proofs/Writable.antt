@@ -16,7 +16,7 @@ use Rattle.guarantees.specs.Written.{Writable, WritableAt, AllWritable}
 use Rattle.rules.proofs.Landing.{Cleared, untouched, eased, landed}
 use Rattle.rules.proofs.Lasting.{test_fits, sound-fits, sound-shared, sound-size}
 use Rattle.rules.proofs.Shares.{times-append, times-here}
-use Rattle.rules.specs.Answer.{Refusal, Reason}
+use Rattle.rules.specs.Answer.{Reason}
 use Rattle.rules.specs.Blocks.{keeps, blocks_in, used, times, stale, relieved}
 use Rattle.rules.specs.Check.{Reception, Parsed, parsed, check}
 use Rattle.rules.specs.Frame.{Arrival, is_anonymous}
@@ -135,9 +135,9 @@ module _ (ps : Places) (v : Parsed) (h : AllWritable ps) (b : Brings v) where
   anonymous-writable true = h
   anonymous-writable false = seek-writable (seek (holds v.stream) ps)
 
-  checked-writable : (o : Option Refusal) (c : Bool) → AllWritable (step_checked o c ps v).places
+  checked-writable : (o : Option ℕ) (c : Bool) → AllWritable (step_checked o c ps v).places
   unfolding step_checked
-  checked-writable (some r) c = h
+  checked-writable (some n) c = h
   checked-writable none c = anonymous-writable c
 
 brings : (u : Setup) (f : Arrival) → Typed f.frame → Brings (parsed u f)

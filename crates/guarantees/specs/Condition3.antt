@@ -4,15 +4,14 @@ use Rattle.bits.specs.Order.{Octets}
 use Rattle.guarantees.specs.Received.{Typed}
 use Rattle.guarantees.specs.Run.{Call, reception_of, result_of, Reading, reading, reading_of}
 use Rattle.rules.specs.Condition3.{Machine}
-use Rattle.rules.specs.Setup.{Setup, SameSetup}
+use Rattle.rules.specs.Setup.{Setup}
 use Rattle.answers.specs.Reception.{number_of}
 use Rattle.state.specs.Layout.{setup_of}
 use Rattle.state.specs.Sound.{sound_state}
 
--- RULES 14.2: a lent state of a setup that is equal to u (3.7), with any past. Setup leaves one without a fault, every reception keeps it one, and any
--- other is answered 20.
+-- RULES 14.2: a lent state of a setup with any past. Setup leaves one without a fault, every reception keeps it one, and any other is answered 20.
 pub record Lent (u : Setup) (m : List ℕ) : Type 0 where
-  pub setup : SameSetup (setup_of m) u
+  pub setup : setup_of m ≡ u
   pub sound : sound_state m ≡ true
   -- it is a slice of u8
   pub bytes : Octets m

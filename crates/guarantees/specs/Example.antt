@@ -1,12 +1,11 @@
--- RULES 14.15 over lent bytes (14.14): the rules' example, in the bytes of states that were set up, each in an order of its own, and what follows of it.
-use Rattle.std.specs.Prelude.{◌≡◌, List, [], ◌∷◌, map, ℕ, ◌^◌, replicate}
+-- RULES 14.15 over lent bytes (14.14): the rules' example, in the bytes of states that were set up, and what follows of it.
+use Rattle.std.specs.Prelude.{◌≡◌, List, [], ◌∷◌, map, ℕ, replicate}
 use Rattle.guarantees.specs.Condition3.{lent_bytes}
 use Rattle.guarantees.specs.FromSetup.{SetUp}
 use Rattle.guarantees.specs.Run.{Call}
 use Rattle.rules.specs.Check.{Reception}
 use Rattle.rules.specs.Condition3.{Receiver, frames, Premises, While, Transfer, Claim, rules_table}
 use Rattle.rules.specs.Example.{setup, stream, payload, start, spacious, crowded}
-use Rattle.rules.specs.Setup.{Setup}
 use Rattle.setup.specs.Setup.{given, state_of}
 use Rattle.state.specs.Layout.{size}
 use Rattle.state.specs.Place.{written}
@@ -17,23 +16,6 @@ records =
     0 ∷ 1 ∷ 0 ∷ 0 ∷ 0 ∷ 7 ∷ 0 ∷ 0 ∷ 0 ∷ 0 ∷ 0 ∷ 0 ∷ 0 ∷
     0 ∷ 0x55 ∷ 0x01 ∷ 0 ∷ 0 ∷ 0 ∷ 0 ∷ 0 ∷ 0 ∷ 0 ∷ 0 ∷ 0 ∷ 0x80 ∷
     0 ∷ 0xF2 ∷ 0x3F ∷ 0 ∷ 0 ∷ 0xEF ∷ 0xCD ∷ 0xAB ∷ 0x89 ∷ 0x67 ∷ 0x45 ∷ 0x23 ∷ 0x01 ∷ []
-
--- an equal setup (RULES 3.7): the third of the subscriptions comes first
-abbrev pub reordered : Setup
-reordered =
-    record {
-      own = 1;
-      subscriptions =
-          record { kind = 0; type = 16370; signature = 0x0123456789ABCDEF } ∷
-          record { kind = 0; type = 1; signature = 7 } ∷
-          record { kind = 0; type = 341; signature = 2 ^ 63 } ∷ [];
-    }
-
-unfoldable pub reordered_records : List ℕ
-reordered_records =
-    0 ∷ 0xF2 ∷ 0x3F ∷ 0 ∷ 0 ∷ 0xEF ∷ 0xCD ∷ 0xAB ∷ 0x89 ∷ 0x67 ∷ 0x45 ∷ 0x23 ∷ 0x01 ∷
-    0 ∷ 1 ∷ 0 ∷ 0 ∷ 0 ∷ 7 ∷ 0 ∷ 0 ∷ 0 ∷ 0 ∷ 0 ∷ 0 ∷ 0 ∷
-    0 ∷ 0x55 ∷ 0x01 ∷ 0 ∷ 0 ∷ 0 ∷ 0 ∷ 0 ∷ 0 ∷ 0 ∷ 0 ∷ 0 ∷ 0x80 ∷ []
 
 -- a reception as a call, with an output buffer of zeros
 abbrev pub call_of : Reception → Call
@@ -47,13 +29,12 @@ abbrev pub lent_spacious : Receiver (lent_bytes setup)
 lent_spacious = lent_of (state_of setup) spacious
 
 abbrev pub lent_crowded : Receiver (lent_bytes setup)
-lent_crowded = lent_of (state_of reordered) crowded
+lent_crowded = lent_of (state_of setup) crowded
 
 pub record LentExample : Type 0 where
   pub premises : Premises (lent_bytes setup) stream lent_spacious lent_crowded
   pub whiles : While (lent_bytes setup) stream 8 lent_spacious × While (lent_bytes setup) stream 8 lent_crowded
   pub transfer : Transfer setup stream start (frames (lent_bytes setup) stream lent_spacious) 16 5 payload
   pub claim : Claim (lent_bytes setup) setup stream lent_spacious lent_crowded
-  -- its setups are what calls make
+  -- its setup is one that a call makes
   pub set_up : SetUp (replicate size 0) 1 records × (given 1 records ≡ setup)
-  pub set_up_anew : SetUp (replicate size 0) 1 reordered_records × (given 1 reordered_records ≡ reordered)

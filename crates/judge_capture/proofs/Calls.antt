@@ -17,7 +17,6 @@ use Rattle.capture_convert.specs.declared.trailer.Place as place
 use Rattle.capture_convert.proofs.Calls.{Place, size-there, records-are}
 use Rattle.capture_record.specs.Record.{size_of}
 use Rattle.judge_rules.specs.Laws.{Bytes}
-use Rattle.judge_rules.specs.declared.failure.Failure.{Failure}
 use Rattle.judge_rules.specs.Verdict.{verdict, verdict_by, verdict_of, Entry, on, run}
 use Rattle.judge_rules.specs.inside.Brief.{Brief, summing, brief_verdict}
 use Rattle.judge_rules.proofs.Shorter.{same-verdict}
@@ -90,7 +89,7 @@ module _ (u : Setup) (c : List ℕ) (r : place.Place) where
     unfolding captured
     passed t' h = rw p.right (ap call.told (same fed.Fed.On t' h))
 
-    pub failed : (n : Failure) (k : ℕ) (t' : List ℕ) → Feeds u (replicate table_size 0) b (fed.Fed.Off n k) t' → (answer.Fails n k ≡ captured u c) × (k < 2 ^ 32)
+    pub failed : (n k : ℕ) (t' : List ℕ) → Feeds u (replicate table_size 0) b (fed.Fed.Off n k) t' → (answer.Fails n k ≡ captured u c) × (k < 2 ^ 32)
     unfolding captured
     failed n k t' h = (
       rw p.right (ap (answer.Fails n) (let q : k ≡ 0 + k = omega arith in q) ∙ ap call.told (same (fed.Fed.Off n k) t' h)),

@@ -2,14 +2,14 @@
 use mathlib.Core.Path.{◌≡◌, refl, sym, ap, ◌∙◌}
 use mathlib.Core.Bool.{Bool, true, false}
 use mathlib.Core.List.{List, [], ◌∷◌, ◌++◌, append_assoc, append-nil}
-use mathlib.Core.Option.{none}
+use mathlib.Core.Option.{Option, none, some}
 use mathlib.Mathlib.Data.Bool.Basic.{or-eq-false-eq-eq-false-and-eq-false as or_off}
 use Prim.Native.Nat.{ℕ, suc, ◌*◌, ◌^◌, ◌≤◌, ◌<◌}
 use native.Mathlib.Omega.{arith}
 use borrow.Author.Tests.{leb-false, ltb-false}
 use lib.Dec.{ltb, eqb}
-use lib.ListN.{length, get_or, take, drop, replicate, length-append, length-drop}
-use lib.Seq.{take_at, drop_at, drop-drop, take-append-le, get_or-drop}
+use lib.ListN.{length, get_or, take, drop, replicate, length-append, length-drop, take-append-drop}
+use lib.Seq.{length-take-le, take_at, drop_at, drop-cons, drop-drop, take-append-le, get_or-drop}
 use Rattle.bits.specs.Little.{le}
 use Rattle.bits.specs.Order.{Octets}
 use Rattle.bits.specs.Part.{span}
@@ -18,32 +18,27 @@ use Rattle.capture_convert.proofs.Trailers.{Right, right-trailed, trailed-right,
 use Rattle.capture_record.specs.Record as capture
 use Rattle.capture_record.specs.Record.{record_size, timed, stamp_of, size_of}
 use Rattle.capture_record.proofs.Records.{length-timed, size_back, frame_back}
-use Rattle.answers.specs.Reception.{refusal_number}
-use Rattle.answers.specs.declared.Refusal.{Refusal}
-use Rattle.answers.specs.declared.Refusal.TheVariants.{WrongId, WrongLength, WrongInterface, NamelessService, WrongTail, OtherNode, NoSubscription, NoRoom}
-use Rattle.judge_rules.specs.Failure.{failure_number}
-use Rattle.judge_rules.specs.declared.failure.Failure.{Failure}
-use Rattle.judge_rules.specs.declared.failure.Failure.TheVariants.{Refused, TooManyStreams, TooLong, BadChecksum, OtherRule}
 use Rattle.judge_rules.specs.Good.{frame_check, Checked}
 use Rattle.judge_rules.specs.Laws.{Bytes}
 use Rattle.judge_rules.specs.Numbers.{Reason, check, stream, long, differs, other}
-use Rattle.judge_rules.specs.Sender.{Send, sent_from, Run, by_rules}
+use Rattle.judge_rules.specs.Sender.{Send, sent_from, Run}
 use Rattle.judge_rules.specs.Verdict as rules
 use Rattle.judge_rules.specs.Verdict.{pass, fail, verdict}
 use Rattle.judge_rules.proofs.Reasons.{number-laws}
 use Rattle.judge_rules.proofs.Sender.{sender-passes}
 use Rattle.judge_rules.proofs.Theorem.{judge-laws}
 use Rattle.judge_rules.proofs.Views.{accepts}
+use Rattle.rules.specs.Check.{large_id, bad_length, unnamed_service, not_subscribed}
 use Rattle.rules.specs.Condition3.{All}
-use Rattle.rules.proofs.Checks.{bad_tail_in}
 use Rattle.rules.specs.Frame.{Frame, stream_of}
-use Rattle.rules.specs.Map.{Map, sound}
+use Rattle.rules.proofs.Checks.{bad_tail_in}
+use Rattle.rules.specs.Map.{Map}
 use Rattle.rules.specs.Setup.{Setup}
 use Rattle.rules.specs.Tests.{pick}
 use Rattle.setup.specs.Setup.{given, accepted}
 use Rattle.judge_capture.specs.Answer.{number_of}
 use Rattle.judge_capture.specs.Judge.{frames_in, told, captured, judges}
-use Rattle.judge_capture.specs.Laws.{Fit, VerdictLaws, Held, FrameLaws}
+use Rattle.judge_capture.specs.Laws.{Fit, VerdictLaws, Held, FrameLaws, SenderLaws}
 use Rattle.judge_capture.specs.Record.{frame_told, frames_told}
 use Rattle.judge_capture.specs.declared.verdict.Verdict.{Verdict}
 use Rattle.judge_capture.specs.declared.verdict.Verdict.TheVariants.{Pass, Fails, NoCapture, Unacceptable}
@@ -54,22 +49,35 @@ use Rattle.judge_capture.proofs.Calls.{in-octets}
 abbrev Small : ℕ → Type 0
 Small n = (0 < n) × (n ≤ 24)
 
-refusal-small : (r : Refusal) → Small (refusal_number r)
-refusal-small WrongId = (omega arith, omega arith)
-refusal-small WrongLength = (omega arith, omega arith)
-refusal-small WrongInterface = (omega arith, omega arith)
-refusal-small NamelessService = (omega arith, omega arith)
-refusal-small WrongTail = (omega arith, omega arith)
-refusal-small OtherNode = (omega arith, omega arith)
-refusal-small NoSubscription = (omega arith, omega arith)
-refusal-small NoRoom = (omega arith, omega arith)
+some-small : (a b c d e : Bool) (n : ℕ)
+    → pick {A = Option ℕ} a (some 2) (pick b (some 3) (pick c (some 4) (pick d (some 5) (pick e (some 7) none)))) ≡ some n → Small n
+some-small true b c d e n q = let z : 2 ≡ n = cc in (omega arith, omega arith)
+some-small false true c d e n q = let z : 3 ≡ n = cc in (omega arith, omega arith)
+some-small false false true d e n q = let z : 4 ≡ n = cc in (omega arith, omega arith)
+some-small false false false true e n q = let z : 5 ≡ n = cc in (omega arith, omega arith)
+some-small false false false false true n q = let z : 7 ≡ n = cc in (omega arith, omega arith)
+some-small false false false false false n q = let z : ◌≡◌ {A = ℕ} 0 1 = cc in absurd (omega arith)
 
-failure-small : (n : Failure) → Small (failure_number n)
-failure-small (Refused r) = refusal-small r
-failure-small TooManyStreams = (omega arith, omega arith)
-failure-small TooLong = (omega arith, omega arith)
-failure-small BadChecksum = (omega arith, omega arith)
-failure-small OtherRule = (omega arith, omega arith)
+reason-small : (u : Setup) (a : List Frame) (f : Frame) (n : ℕ) → Reason u a f n → Small n
+unfolding frame_check
+reason-small u a f n (check e) =
+    some-small (large_id f.id) (bad_length (length f.bytes)) (unnamed_service (stream_of f.id)) (bad_tail_in f) (not_subscribed u f) n e
+reason-small u a f _ (stream c m k) = (omega arith, omega arith)
+reason-small u a f _ (long s g k) = (omega arith, omega arith)
+reason-small u a f _ (differs s g k l w) = (omega arith, omega arith)
+reason-small u a f _ (other s k) = (omega arith, omega arith)
+
+parted : (l : List Frame) (i : ℕ) (d : Frame) → i < length l → l ≡ take i l ++ get_or l i d ∷ drop (suc i) l
+parted l i d h = sym (take-append-drop i l) ∙ ap (λ (x : List Frame). take i l ++ x) (drop-cons l i d h)
+
+fail-small : (u : Setup) (l : List Frame) (n i : ℕ) → Bytes l → verdict u l ≡ fail n i → Small n
+fail-small u l n i b e =
+    let h = (judge-laws.first u l n i b e).0 in
+    let f : Frame = get_or l i (record { id = 0; bytes = []; time = 0 }) in
+    let q : l ≡ take i l ++ f ∷ drop (suc i) l = parted l i (record { id = 0; bytes = []; time = 0 }) h in
+    let k : length (take i l) ≡ i = length-take-le i l (omega arith) in
+    reason-small u (take i l) f n
+    (number-laws.reason u (take i l) f (drop (suc i) l) n (rw q at b) (ap (verdict u) (sym q) ∙ e ∙ ap (fail n) (sym k)))
 
 -- ── the verdict, told ──
 
@@ -77,7 +85,7 @@ told-pass : (v : rules.Verdict) → told v ≡ Pass → v ≡ pass
 told-pass pass e = refl
 told-pass (fail n i) e = let z : ◌≡◌ {A = ℕ} 0 1 = cc in absurd (omega arith)
 
-told-fail : (v : rules.Verdict) (n : Failure) (i : ℕ) → told v ≡ Fails n i → v ≡ fail n i
+told-fail : (v : rules.Verdict) (n i : ℕ) → told v ≡ Fails n i → v ≡ fail n i
 told-fail pass n i e = let z : ◌≡◌ {A = ℕ} 0 1 = cc in absurd (omega arith)
 told-fail (fail m k) n i e = cc
 
@@ -95,7 +103,7 @@ module _ (s c : List ℕ) (fit : Fit s c) where
   unfolding judges captured
   is = rw (fit.subscriptions, fit.trailer)
 
-  fails : (n : Failure) (i : ℕ) → judges s c ≡ Fails n i → verdict u l ≡ fail n i
+  fails : (n i : ℕ) → judges s c ≡ Fails n i → verdict u l ≡ fail n i
   fails n i e = told-fail (verdict u l) n i (sym is ∙ e)
 
   zero-passes : number_of (judges s c) ≡ 0 → verdict u l ≡ pass
@@ -103,17 +111,17 @@ module _ (s c : List ℕ) (fit : Fit s c) where
     where
       go : (v : rules.Verdict) → verdict u l ≡ v → number_of (told v) ≡ 0 → v ≡ pass
       go pass q z = refl
-      go (fail n i) q z = absurd (omega (arith, (failure-small n).0))
+      go (fail n i) q z = absurd (omega (arith, (fail-small u l n i bytes q).0))
 
   passes-zero : verdict u l ≡ pass → number_of (judges s c) ≡ 0
   passes-zero e = ap number_of (is ∙ ap told e)
 
-told-small : (u : Setup) (l : List Frame) → number_of (told (verdict u l)) ≤ 24
-told-small u l = go (verdict u l)
+told-small : (u : Setup) (l : List Frame) → Bytes l → number_of (told (verdict u l)) ≤ 24
+told-small u l b = go (verdict u l) refl
   where
-    go : (v : rules.Verdict) → number_of (told v) ≤ 24
-    go pass = omega arith
-    go (fail n i) = (failure-small n).1
+    go : (v : rules.Verdict) → verdict u l ≡ v → number_of (told v) ≤ 24
+    go pass q = omega arith
+    go (fail n i) q = (fail-small u l n i b q).1
 
 pub range : (s c : List ℕ) → Octets c → number_of (judges s c) ≤ 24
 unfolding judges captured
@@ -122,7 +130,7 @@ range s c o = go (accepted 0 s) (trailed c)
     go : (a t : Bool) → number_of (pick a (pick t (told (verdict (given 0 s) (frames_in c))) NoCapture) Unacceptable) ≤ 24
     go false t = omega arith
     go true false = omega arith
-    go true true = told-small (given 0 s) (frames_in c)
+    go true true = told-small (given 0 s) (frames_in c) (in-octets c o)
 
 pub verdict-laws : VerdictLaws
 verdict-laws =
@@ -217,10 +225,12 @@ held_all : (u : Setup) (l : List Frame) → Checked u l → All (λ f. f.time < 
 held_all u [] h t = tt
 held_all u (f ∷ l) h t = (held_one u f h.0 t.0, held_all u l h.1 t.1)
 
-pub run-passes : (s : List ℕ) (own : ℕ) (m : Map) (l : List Send) → accepted 0 s ≡ true → sound m ≡ true → Run by_rules (given 0 s) own m l
-    → All (λ f. f.time < 2 ^ 64) (sent_from by_rules m l) → length (sent_from by_rules m l) < 2 ^ 32 → judges s (capture_of (sent_from by_rules m l)) ≡ Pass
+pub sender-laws : SenderLaws
 unfolding judges captured
-run-passes s own m l a ok w t k =
-    let h = held_all (given 0 s) (sent_from by_rules m l) (sender-passes.good (given 0 s) own m l ok w).checks t in
-    rw (a, capture-trailed (sent_from by_rules m l) h k, capture-frames (sent_from by_rules m l) h k)
-    (ap told (sender-passes.passes (given 0 s) own m l ok w))
+sender-laws = record { passes = ok }
+  where
+    ok : (s : List ℕ) (own : ℕ) (m : Map) (l : List Send) → accepted 0 s ≡ true → Run (given 0 s) own m l → All (λ f. f.time < 2 ^ 64) (sent_from m l)
+        → length (sent_from m l) < 2 ^ 32 → judges s (capture_of (sent_from m l)) ≡ Pass
+    ok s own m l a w t k =
+        let h = held_all (given 0 s) (sent_from m l) (sender-passes.good (given 0 s) own m l w).checks t in
+        rw (a, capture-trailed (sent_from m l) h k, capture-frames (sent_from m l) h k) (ap told (sender-passes.passes (given 0 s) own m l w))

@@ -1,7 +1,6 @@
 -- One record, as the code reads it: the fields are those of its frame.
-use mathlib.Core.Path.{◌≡◌, sym, ap, subst, ◌∙◌}
+use mathlib.Core.Path.{◌≡◌, sym, ap, ◌∙◌}
 use mathlib.Core.List.{List}
-use mathlib.Core.Option.{none}
 use Prim.Native.Nat.{ℕ, ◌+◌, ◌-◌, ◌≤◌, ◌<◌}
 use native.Mathlib.Omega.{arith}
 use lib.ListN.{length, get_or}
@@ -9,13 +8,9 @@ use Rattle.bits.specs.Little.{le}
 use Rattle.bits.specs.Part.{span}
 use Rattle.bits.proofs.Splice.{length-span}
 use Rattle.capture_record.specs.Record.{record_size, stamp_of, size_of}
-use Rattle.answers.specs.declared.Refusal as code
-use Rattle.frame.proofs.Checks.{told_none, told-some}
-use Rattle.frame.specs.declared.check.Checked.TheVariants as check
-use Rattle.frame.specs.inside.Head.{head_of, checked_of, head_tests_of}
+use Rattle.frame.specs.inside.Head.{head_of, head_tests_of}
 use Rattle.frame.specs.declared.head.Head.{Head}
 use Rattle.judge_rules.specs.Verdict as rules
-use Rattle.judge_rules.specs.declared.failure.Failure.TheVariants.{Refused}
 use Rattle.judge_rules.proofs.Views.{hearer, heard}
 use Rattle.judge_stream.specs.inside.Kept.{seen_of}
 use Rattle.judge_stream.specs.inside.Kept as frame
@@ -23,7 +18,7 @@ use Rattle.judge_stream.specs.declared.Seen.{Seen}
 use Rattle.judge_streams.specs.inside.Table.{Table, entries_of, Turns}
 use Rattle.judge_streams.specs.declared.Turn.{Turn}
 use Rattle.judge_streams.specs.declared.Turn.TheVariants.{Off}
-use Rattle.rules.specs.Check.{first, read_tests}
+use Rattle.rules.specs.Check.{or_zero, first, read_tests}
 use Rattle.rules.specs.Frame.{Frame, stream_of, tail_of}
 use Rattle.rules.specs.Setup.{Setup}
 use Rattle.rules.proofs.Ordered.{Readable, readable, reads, heads, head-passes}
@@ -45,20 +40,15 @@ module _ (u : Setup) (t : List ℕ) (ok : Table t) (r : List ℕ) (long : length
 
   -- ── 2 and 3 ──
 
-  same_reads : first (read_tests id n 0) ≡ reads (hearer u f) (heard f)
-  same_reads = λ i. first (read_tests (same_id i) (same_length i) 0)
+  read_number : (w : ℕ) → w ≡ or_zero (first (read_tests id n 0)) → w ≡ or_zero (reads (hearer u f) (heard f))
+  read_number w e = e ∙ (λ i. or_zero (first (read_tests (same_id i) (same_length i) 0)))
 
-  pub not-read : (x : code.Refusal) → check.Refused x ≡ checked_of (first (read_tests id n 0)) → Turned u f t (Off (Refused x)) t
-  not-read x e =
-      let w = told-some _ x e in
-      subst (λ y. Turned u f t (Off (Refused y)) t) w.1.1 (unread u f t ok w.0 (sym same_reads ∙ w.1.0))
+  pub not-read : (w : ℕ) → w ≡ or_zero (first (read_tests id n 0)) → 0 < w → Turned u f t (Off w) t
+  not-read w e h = unread u f t ok w (read_number w e) h
 
-  module _ (e : check.Passed ≡ checked_of (first (read_tests id n 0))) where
-    reads_none : reads (hearer u f) (heard f) ≡ none
-    reads_none = sym same_reads ∙ told_none _ e
-
+  module _ (w : ℕ) (e : w ≡ or_zero (first (read_tests id n 0))) (z : w ≤ 0) where
     pub can-read : Readable id n 0
-    can-read = readable id n 0 (told_none _ e)
+    can-read = readable id n 0 w e z
 
     few : size_of r ≤ 8
     few = omega (arith, can-read.few_bytes)
@@ -75,16 +65,14 @@ module _ (u : Setup) (t : List ℕ) (ok : Table t) (r : List ℕ) (long : length
       head-is : h ≡ head_of f.id (tail_of f.bytes)
       head-is = is-head ∙ (λ i. head_of (same_id i) (tail-is i))
 
-      same-heads : first (head_tests_of h.destination h n) ≡ heads (hearer u f) (heard f)
+      head-number : (k : ℕ) → k ≡ or_zero (first (head_tests_of h.destination h n)) → k ≡ or_zero (heads (hearer u f) (heard f))
       unfolding head_of
-      same-heads = λ i. first (head_tests_of (head-is i).destination (head-is i) (same_length i))
+      head-number k d = d ∙ (λ i. or_zero (first (head_tests_of (head-is i).destination (head-is i) (same_length i))))
 
-      pub head-fails : (x : code.Refusal) → check.Refused x ≡ checked_of (first (head_tests_of h.destination h n)) → Turned u f t (Off (Refused x)) t
-      head-fails x d =
-          let w = told-some _ x d in
-          subst (λ y. Turned u f t (Off (Refused y)) t) w.1.1 (head-refused u f t ok reads_none w.0 (sym same-heads ∙ w.1.0))
+      pub head-fails : (k : ℕ) → k ≡ or_zero (first (head_tests_of h.destination h n)) → 0 < k → Turned u f t (Off k) t
+      head-fails k d p = head-refused u f t ok w (read_number w e) z k (head-number k d) p
 
-      module _ (d : check.Passed ≡ checked_of (first (head_tests_of h.destination h n))) (time : ℕ) (is-time : time ≡ stamp_of r) where
+      module _ (k : ℕ) (d : k ≡ or_zero (first (head_tests_of h.destination h n))) (y : k ≤ 0) (time : ℕ) (is-time : time ≡ stamp_of r) where
         abbrev v : Seen
         v = record { id = id; time = time; head = h }
 
@@ -108,7 +96,7 @@ module _ (u : Setup) (t : List ℕ) (ok : Table t) (r : List ℕ) (long : length
                     size = omega (arith, size_is, few);
                     full =
                         λ l.
-                        let q = head-passes h.destination (frame.stream_of v) h.start h.end h.toggle n (told_none _ d) in
+                        let q = head-passes h.destination (frame.stream_of v) h.start h.end h.toggle n k d y in
                         omega (arith, size_is, q.whole l, few);
                   };
               stream = stream-is;
@@ -123,5 +111,5 @@ module _ (u : Setup) (t : List ℕ) (ok : Table t) (r : List ℕ) (long : length
             at_place = sym (is-head ∙ (λ i. head_of (is-id i) (get_or r (12 + is-size i) 0)))
 
         pub goes : (a : Turn) (t' : List ℕ) → Turns (admitting u (frame.stream_of v) (entries_of t) (seen_of v p)) t a t' → Turned u f t a t'
-        goes a t' q = admits u f t ok reads_none (sym same-heads ∙ told_none _ d) a t'
+        goes a t' q = admits u f t ok w (read_number w e) z k (head-number k d) y a t'
             (rw (ap stream_of (sym same_id) ∙ sym stream-is, seen-is) q)

@@ -11,7 +11,6 @@ use Rattle.capture_record.specs.Record.{record_size}
 use Rattle.judge_rules.specs.Verdict.{Judging, on, off, advance, run}
 use Rattle.judge_rules.specs.inside.Brief.{Brief, summing}
 use Rattle.judge_rules.proofs.Streams.{off-stays}
-use Rattle.judge_rules.specs.declared.failure.Failure.{Failure}
 use Rattle.judge_rules.proofs.Theorem.{run-append}
 use Rattle.judge_streams.specs.inside.Table.{Table, entries_of}
 use Rattle.judge_streams.specs.declared.Turn.TheVariants.{On, Off}
@@ -63,7 +62,7 @@ module _ (u : Setup) (t b : List ℕ) (i : ℕ) (t' : List ℕ) (w : Walked u t 
   walk-on t'' h k =
       from-here 0 k ∙ sym (h.next (k + i)) ∙ ap (λ (n : ℕ). on n (entries_of t'')) (let q : suc (k + i) ≡ k + (i + 1) = omega arith in q)
 
-  pub walk-off : i < count_of b → (n : Failure) (t'' : List ℕ) → Turned u part t' (Off n) t'' → Feeds u t b (fed.Fed.Off n i) t''
+  pub walk-off : i < count_of b → (n : ℕ) (t'' : List ℕ) → Turned u part t' (Off n) t'' → Feeds u t b (fed.Fed.Off n i) t''
   walk-off l n t'' h =
       record {
         next =

@@ -1,12 +1,11 @@
 -- RULES 13.1, 19.1: the answer of the call. The number of each case, and the frame that it is for.
 use Rattle.std.specs.Prelude.{ℕ}
-use Rattle.judge_rules.specs.Failure.{failure_number}
 use Rattle.judge_capture.specs.declared.verdict.Verdict.{Verdict}
 use Rattle.judge_capture.specs.declared.verdict.Verdict.TheVariants.{Pass, Fails, NoCapture, Unacceptable}
 
 abbrev pub number_of : Verdict → ℕ
 number_of Pass = 0
-number_of (Fails n i) = failure_number n
+number_of (Fails n i) = n
 number_of NoCapture = 22
 number_of Unacceptable = 13
 

@@ -1,4 +1,4 @@
--- RULES 19.9: what holds of the call. `laws.rt` has a function for each record of laws, whose contract it is.
+-- RULES 19.9, 19.10: what holds of the call. `laws.rt` has a function for each record of laws, whose contract it is.
 use Rattle.std.specs.Prelude.{◌≡◌, true, List, ◌∷◌, ◌++◌, ◌↔◌, ℕ, suc, ◌^◌, ◌≤◌, ◌<◌, length, take}
 use Rattle.bits.specs.Order.{Octets}
 use Rattle.capture_convert.specs.Capture.{capture_of, trailed}
@@ -7,10 +7,10 @@ use Rattle.capture_record.specs.Record.{record_size, size_of}
 use Rattle.judge_rules.specs.Good.{Good, CouldPass}
 use Rattle.judge_rules.specs.Numbers.{Reason}
 use Rattle.judge_rules.specs.Sender.{Send, sent_from, Run}
-use Rattle.judge_rules.specs.declared.failure.Failure.{Failure}
 use Rattle.rules.specs.Condition3.{All}
 use Rattle.rules.specs.Frame.{Frame}
 use Rattle.rules.specs.Limits.{frame_data}
+use Rattle.rules.specs.Map.{Map}
 use Rattle.setup.specs.Setup.{given, accepted}
 use Rattle.judge_capture.specs.Answer.{number_of}
 use Rattle.judge_capture.specs.Judge.{frames_in, judges}
@@ -27,13 +27,13 @@ pub record VerdictLaws : Type 0 where
   -- the number is 0 exactly if the frames pass
   pub passes : (s c : List ℕ) → Fit s c → (number_of (judges s c) ≡ 0) ↔ Good (given 0 s) (frames_in c)
   -- a failure names the first frame, counted from 0, after which no continuation could pass
-  pub first : (s c : List ℕ) (n : Failure) (i : ℕ) → Fit s c → judges s c ≡ Fails n i
+  pub first : (s c : List ℕ) (n i : ℕ) → Fit s c → judges s c ≡ Fails n i
       → (i < length (frames_in c)) × (CouldPass (given 0 s) (take i (frames_in c)) × (CouldPass (given 0 s) (take (suc i) (frames_in c)) → ⊥))
   -- and where there is such a frame, it is named
   pub named : (s c : List ℕ) (i : ℕ) → Fit s c → i < length (frames_in c) → CouldPass (given 0 s) (take i (frames_in c))
-      → (CouldPass (given 0 s) (take (suc i) (frames_in c)) → ⊥) → (n : Failure) × (judges s c ≡ Fails n i)
-  -- what the failure means
-  pub reason : (s c : List ℕ) (a : List Frame) (f : Frame) (more : List Frame) (n : Failure) → Fit s c → frames_in c ≡ a ++ f ∷ more
+      → (CouldPass (given 0 s) (take (suc i) (frames_in c)) → ⊥) → (n : ℕ) × (judges s c ≡ Fails n i)
+  -- what the number means
+  pub reason : (s c : List ℕ) (a : List Frame) (f : Frame) (more : List Frame) (n : ℕ) → Fit s c → frames_in c ≡ a ++ f ∷ more
       → judges s c ≡ Fails n (length a) → Reason (given 0 s) a f n
   -- the numbers are 0 to 24
   pub range : (s c : List ℕ) → Octets c → number_of (judges s c) ≤ 24
@@ -51,3 +51,8 @@ pub record FrameLaws : Type 0 where
   pub frames : (fs : List Frame) → All Held fs → length fs < 2 ^ 32 → (trailed (capture_of fs) ≡ true) × (frames_in (capture_of fs) ≡ fs)
   -- a preface does not matter
   pub preface : (s p c : List ℕ) → trailed c ≡ true → judges s (p ++ c) ≡ judges s c
+
+-- the capture of a run of our sender passes
+pub record SenderLaws : Type 0 where
+  pub passes : (s : List ℕ) (own : ℕ) (m : Map) (l : List Send) → accepted 0 s ≡ true → Run (given 0 s) own m l → All (λ f. f.time < 2 ^ 64) (sent_from m l)
+      → length (sent_from m l) < 2 ^ 32 → judges s (capture_of (sent_from m l)) ≡ Pass

@@ -1,5 +1,5 @@
 // The laws of specs/Laws.antt: functions with no body, whose contracts they are.
-ghost use Rattle.judge_capture.specs.Laws.{VerdictLaws, FrameLaws};
+ghost use Rattle.judge_capture.specs.Laws.{VerdictLaws, FrameLaws, SenderLaws};
 
 pub fn verdict()
     ensures { VerdictLaws }
@@ -7,4 +7,8 @@ pub fn verdict()
 
 pub fn frames()
     ensures { FrameLaws }
+{}
+
+pub fn sender()
+    ensures { SenderLaws }
 {}

@@ -27,7 +27,7 @@ fn of_capture(state: &[u8], capture: &[u8]) -> Verdict
     let mut table = [0u64; judge_streams::SIZE];
     match records::feed(state, &mut table, &capture[from..to]) {
         Fed::On => Verdict::Pass,
-        Fed::Off(failure, i) => Verdict::Fails(failure, i),
+        Fed::Off(number, i) => Verdict::Fails(number, i),
     }
 }
 

@@ -9,18 +9,15 @@ ghost use Rattle.judge_stream.specs.inside.Kept.{stream_of, seen_of};
 ghost use Rattle.judge_streams.specs.inside.Table.{Table, entries_of, Turns};
 ghost use Rattle.state.specs.Layout.{size, setup_of};
 
-use answers::Refusal;
-use frame::check::Checked;
-use judge_rules::failure::Failure;
 use judge_stream::Seen;
 use judge_streams::{SIZE, Turn};
 use subscriptions::Subscribed;
 
-// What a block of records does: nothing is wrong so far, or what is, and with which record of the block, counted from 0.
+// What a block of records does: nothing is wrong so far, or the number of a failure and which record of the block it is for, counted from 0.
 #[derive(Drop)]
 pub enum Fed {
     On,
-    Off(Failure, usize),
+    Off(u8, usize),
 }
 
 // A frame that passed the checks 2 to 5. Its type must be subscribed to; of an anonymous one no more is asked.
@@ -29,7 +26,7 @@ fn admit(state: &[u8], table: &mut [u64; SIZE], v: Seen, p: &[u8]) -> Turn
     ensures { Turns (admitting (setup_of state.now) (stream_of v) (entries_of table.old) (seen_of v p.now)) table.old result table.new }
 {
     match subscriptions::find(state, frame::check::kind(v.head), v.head.type_id as u32) {
-        Subscribed::Not => Turn::Off(Failure::Refused(Refusal::NoSubscription)),
+        Subscribed::Not => Turn::Off(7),
         Subscribed::Under(signature) => {
             if frame::check::is_anonymous(v.head) {
                 return Turn::On;
@@ -46,14 +43,14 @@ fn turn(state: &[u8], table: &mut [u64; SIZE], r: &[u8]) -> Turn
 {
     let f = frame::record::get(r, 8);
     let n = f.len;
-    let readable = frame::check::before_reading(f.id, n, 0);
-    if let Checked::Refused(r) = readable {
-        return Turn::Off(Failure::Refused(r));
+    let unreadable = frame::check::unreadable(f.id, n, 0);
+    if 0 < unreadable {
+        return Turn::Off(unreadable);
     }
     let h = frame::head::read(f.id, r[12 + n]);
-    let checked = frame::check::of_head(h, n, h.destination);
-    if let Checked::Refused(r) = checked {
-        return Turn::Off(Failure::Refused(r));
+    let refused = frame::check::refusal(h, n, h.destination);
+    if 0 < refused {
+        return Turn::Off(refused);
     }
     let v = Seen {
         id: f.id,
@@ -77,8 +74,8 @@ pub fn feed(state: &[u8], table: &mut [u64; SIZE], records: &[u8]) -> Fed
             Turn::On => {
                 i += 1;
             }
-            Turn::Off(failure) => {
-                return Fed::Off(failure, i);
+            Turn::Off(number) => {
+                return Fed::Off(number, i);
             }
         }
     }

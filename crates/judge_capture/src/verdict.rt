@@ -2,13 +2,11 @@
 ghost use Rattle.std.specs.Prelude.{◌≡◌};
 ghost use Rattle.judge_capture.specs.Answer.{number_of, frame_of};
 
-use judge_rules::failure::Failure;
-
-// `Fails` holds what is wrong and the frame that it is wrong with, counted from 0.
+// `Fails` holds the number and the frame that it is for, counted from 0.
 #[derive(Drop)]
 pub enum Verdict {
     Pass,
-    Fails(Failure, usize),
+    Fails(u8, usize),
     NoCapture,
     Unacceptable,
 }
@@ -19,7 +17,7 @@ impl Verdict {
     {
         match self {
             Verdict::Pass => 0,
-            Verdict::Fails(failure, _) => failure.number(),
+            Verdict::Fails(n, _) => n,
             Verdict::NoCapture => 22,
             Verdict::Unacceptable => 13,
         }

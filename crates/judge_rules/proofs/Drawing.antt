@@ -12,7 +12,7 @@ use lib.Seq.{get_or-set_same, get_or-set_other}
 use borrow.Author.Tests.{eqb-true, eqb-false, eq-eqb, leb-true, le-leb, ltb-false}
 use Rattle.rules.specs.Frame.{Stream}
 use Rattle.rules.specs.Map.{Topic, Slot, free, used, Map, same_topic, is_of, is_free, is_unused, slot_for, drawn, times, slot_fits, sound}
-use Rattle.rules.specs.Sending.{Call, topic_of, is_response, not_sendable, frame_count, Outcome, unsendable, long, small, full, number_of, frames_of, Step, refuse, transmit, send_at, send_in, send_as, send_step}
+use Rattle.rules.specs.Sending.{Call, topic_of, is_response, not_sendable, frame_count, Outcome, unsendable, long, small, full, frames_of, Step, refuse, transmit, send_at, send_in, send_as, send_step}
 use Rattle.rules.specs.SendingLaws.{InRange}
 use Rattle.rules.specs.Sent.{flag}
 use Rattle.rules.specs.Session.{next}
@@ -73,37 +73,29 @@ chosen k now m = go (seek (is_of k) m) (sought (is_of k) m) (seek is_free m) (so
 
 -- ── one send ──
 
--- a call that is answered 0: its transfer ID, and the map after it
-pub data Went (c : Call) (m : Map) : ℕ → Map → Type 0 where
-  response : InRange c → length c.payload ≤ 512 → c.transfer_type ≡ 2 → Went c m c.transfer m
-  placed : (i : ℕ) → InRange c → length c.payload ≤ 512 → (c.transfer_type ≡ 2 → ⊥) → Chosen (topic_of c) c.time m i
-      → Went c m (drawn (topic_of c) (get_or m i free)) (set m i (used (topic_of c) (next (drawn (topic_of c) (get_or m i free))) c.time))
-
-pub in-range-of : {c : Call} {m : Map} {y : ℕ} {after : Map} → Went c m y after → InRange c
-in-range-of (response r size k) = r
-in-range-of (placed i r size k h) = r
-
 pub data Result (c : Call) (m : Map) : Step → Type 0 where
-  refused : (o : Outcome) → (number_of o ≡ 0 → ⊥) → frames_of o ≡ 0 → Result c m (refuse o m)
-  went : (y : ℕ) (after : Map) → Went c m y after → Result c m (transmit c y after)
+  refused : (o : Outcome) → frames_of o ≡ 0 → Result c m (refuse o m)
+  response : InRange c → length c.payload ≤ 512 → c.transfer_type ≡ 2 → Result c m (transmit c c.transfer m)
+  placed : (i : ℕ) → InRange c → length c.payload ≤ 512 → (c.transfer_type ≡ 2 → ⊥) → Chosen (topic_of c) c.time m i
+      → Result c m (transmit c (drawn (topic_of c) (get_or m i free)) (set m i (used (topic_of c) (next (drawn (topic_of c) (get_or m i free))) c.time)))
 
 pub returned : (c : Call) (m : Map) (room : ℕ) → Result c m (send_step c m room)
 unfolding send_step send_as send_in send_at
 returned c m room = fit (not_sendable c) refl (ltb 512 (length c.payload)) refl (ltb room (13 * frame_count (length c.payload)))
   where
     at : InRange c → length c.payload ≤ 512 → (c.transfer_type ≡ 2 → ⊥) → (o : Option ℕ) → Choice (topic_of c) c.time m o → Result c m (send_in o c m)
-    at ok size n none h = refused full (λ e. omega arith) refl
-    at ok size n (some i) h = went _ _ (placed i ok size n h)
+    at ok size n none h = refused full refl
+    at ok size n (some i) h = placed i ok size n h
 
     of-kind : InRange c → length c.payload ≤ 512 → (b : Bool) → is_response c ≡ b → Result c m (send_as b c m)
-    of-kind ok size true e = went _ _ (response ok size (eqb-true c.transfer_type 2 e))
+    of-kind ok size true e = response ok size (eqb-true c.transfer_type 2 e)
     of-kind ok size false e = at ok size (eqb-false c.transfer_type 2 e) (slot_for (topic_of c) c.time m) (chosen (topic_of c) c.time m)
 
     fit : (a : Bool) → not_sendable c ≡ a → (b : Bool) → ltb 512 (length c.payload) ≡ b → (r : Bool)
         → Result c m (pick a (refuse unsendable m) (pick b (refuse long m) (pick r (refuse small m) (send_as (is_response c) c m))))
-    fit true e b q r = refused unsendable (λ e. omega arith) refl
-    fit false e true q r = refused long (λ e. omega arith) refl
-    fit false e false q true = refused small (λ e. omega arith) refl
+    fit true e b q r = refused unsendable refl
+    fit false e true q r = refused long refl
+    fit false e false q true = refused small refl
     fit false e false q false = of-kind (in-range c e) (ltb-false 512 (length c.payload) q) (is_response c) refl
 
 -- ── what the map knows of a stream's last transfer ──

@@ -18,7 +18,6 @@ use Rattle.rules.specs.Session.{sum_ok}
 use Rattle.rules.specs.Tests.{pick, same_bool}
 use Rattle.rules.proofs.Delivery.{same_self}
 use Rattle.rules.proofs.Frames.{fulls, pieces-length, sent-laws}
-use Rattle.judge_rules.specs.declared.failure.Failure.TheVariants.{TooLong, BadChecksum, OtherRule}
 use Rattle.judge_rules.specs.Good.{Transfer, stamped, data_of, Whole, Before, start_of, may_follow, WholeBefore, Link, Series, all_frames, Sends}
 use Rattle.judge_rules.specs.Verdict.{Seen, seen, Followed, idle, amid, Next, goes, refuses, as_before, opened, begins, continues, extends, follow}
 use Rattle.judge_rules.proofs.Completion.{Completed, completed}
@@ -249,7 +248,7 @@ module _ (signature : ℕ) (d : Stream) where
       is-frame l q = λ i. frame_at (sym ok.id i) (framed v.payload (tail_byte (sym st i) (sym q i) (sym (ok.start st) i) v.transfer)) v.time
 
       go : (m : Bool) → may_follow d b v.transfer v.time ≡ m → (l : Bool) → v.last ≡ l
-          → Allows (idle b) v (pick m (goes (pick l (idle (some (as_before v))) (amid v.id (as_before v) true v.payload))) (refuses OtherRule))
+          → Allows (idle b) v (pick m (goes (pick l (idle (some (as_before v))) (amid v.id (as_before v) true v.payload))) (refuses 24))
       go false e l q = tt
       go true e true q = record {
         fits = tt;
@@ -280,7 +279,7 @@ module _ (signature : ℕ) (d : Stream) where
           λ i. frame_at (e1 i) (framed v.payload (tail_byte (sym st i) (sym q i) (e3 i) (e2 i))) v.time
 
       go : (x : Bool) → ltb 514 (length (gathered ++ v.payload)) ≡ x → (l : Bool) → v.last ≡ l → (y : Bool) → sum_ok signature (gathered ++ v.payload) ≡ y → (z : Bool) → leb (length (gathered ++ v.payload)) 9 ≡ z
-          → Allows (amid id b toggle gathered) v (pick x (refuses TooLong) (pick l (pick y (pick z (refuses OtherRule) (goes (idle (some b)))) (refuses BadChecksum)) (goes (amid id b (not toggle) (gathered ++ v.payload)))))
+          → Allows (amid id b toggle gathered) v (pick x (refuses 11) (pick l (pick y (pick z (refuses 24) (goes (idle (some b)))) (refuses 12)) (goes (amid id b (not toggle) (gathered ++ v.payload)))))
       go true e l q y r z w = tt
       go false e true q true r true w = tt
       go false e true q true r false w = record {
@@ -311,13 +310,13 @@ module _ (signature : ℕ) (d : Stream) where
   unfolding follow
   allows (idle b) v h ok = go v.start refl
     where
-      go : (x : Bool) → v.start ≡ x → Allows (idle b) v (pick x (begins d b v) (refuses OtherRule))
+      go : (x : Bool) → v.start ≡ x → Allows (idle b) v (pick x (begins d b v) (refuses 24))
       go true e = begins-back b v ok e
       go false e = tt
   allows (amid id b toggle gathered) v h ok = go v.start refl (continues id b toggle v) refl
     where
       go : (x : Bool) → v.start ≡ x → (c : Bool) → continues id b toggle v ≡ c
-          → Allows (amid id b toggle gathered) v (pick x (refuses OtherRule) (pick c (extends signature id b toggle (gathered ++ v.payload) v) (refuses OtherRule)))
+          → Allows (amid id b toggle gathered) v (pick x (refuses 24) (pick c (extends signature id b toggle (gathered ++ v.payload) v) (refuses 24)))
       go true e c q = tt
       go false e true q = extends_back id b toggle gathered v h ok e q
       go false e false q = tt
@@ -334,7 +333,7 @@ module _ (signature : ℕ) (d : Stream) where
   unfolding follow begins
   begun b priority t l xs x small f =
       ap (follow signature d (idle b)) (sees (id_of d priority) true l false t xs x small)
-      ∙ ap (λ m. pick m (goes (opened (view (id_of d priority) true l false t xs x))) (refuses OtherRule)) f
+      ∙ ap (λ m. pick m (goes (opened (view (id_of d priority) true l false t xs x))) (refuses 24)) f
 
   pub gone-on : (id : ℕ) (b : Before) (toggle l : Bool) (gathered xs : List ℕ) (x : ℕ) → b.transfer < 32
       → follow signature d (amid id b toggle gathered) (seen (frame_at id (framed xs (tail_byte false l toggle b.transfer)) x))
@@ -342,7 +341,7 @@ module _ (signature : ℕ) (d : Stream) where
   unfolding follow
   gone-on id b toggle l gathered xs x small =
       ap (follow signature d (amid id b toggle gathered)) (sees id false l toggle b.transfer xs x small)
-      ∙ ap (λ c. pick c (extends signature id b toggle (gathered ++ xs) (view id false l toggle b.transfer xs x)) (refuses OtherRule)) same
+      ∙ ap (λ c. pick c (extends signature id b toggle (gathered ++ xs) (view id false l toggle b.transfer xs x)) (refuses 24)) same
     where
       same : continues id b toggle (view id false l toggle b.transfer xs x) ≡ true
       same = and_intro (eq-eqb id id refl) (and_intro (eq-eqb b.transfer b.transfer refl) (same_self toggle))

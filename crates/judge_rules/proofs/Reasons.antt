@@ -18,10 +18,6 @@ use Rattle.rules.specs.Setup.{Setup}
 use Rattle.rules.specs.Tests.{pick, same_bool}
 use Rattle.rules.proofs.Delivery.{same_self}
 use Rattle.rules.proofs.Table.{same_refl, same-eq}
-use Rattle.judge_rules.specs.declared.failure.Failure.{Failure}
-use Rattle.judge_rules.specs.Failure.{refused_by}
-use Rattle.rules.specs.Answer.{Refusal}
-use Rattle.judge_rules.specs.declared.failure.Failure.TheVariants.{TooManyStreams, TooLong, BadChecksum, OtherRule}
 use Rattle.judge_rules.specs.Good.{data_of, Before, as_before, may_follow, Series, all_frames, signature_of, frame_check, of_stream, add, streams_in, Good}
 use Rattle.judge_rules.specs.Laws.{Bytes}
 use Rattle.judge_rules.specs.Numbers.{brought, On, brought_with, Counted, Reason, check, stream, long, differs, other, NumberLaws}
@@ -92,11 +88,11 @@ after-step u a i st f h = go (frame_check u f) refl (is_anonymous f.id) refl
         state-at d n false z = unmoved d n z ∙ ap goes (sym (put_other (idle none) (stream_of f.id) d s st z))
 
     room : (b : Bool) → frame_check u f ≡ none → is_anonymous f.id ≡ false
-        → AfterJ u (a ++ f ∷ []) (pick b (off TooManyStreams i) (entered i (stream_of f.id) st (followed u st f)))
+        → AfterJ u (a ++ f ∷ []) (pick b (off 9 i) (entered i (stream_of f.id) st (followed u st f)))
     room true e k = tt
     room false e k = moved (followed u st f) refl e k
 
-    go : (o : Option Refusal) → frame_check u f ≡ o → (b : Bool) → is_anonymous f.id ≡ b → AfterJ u (a ++ f ∷ []) (judged gathering u o b i st f)
+    go : (o : Option ℕ) → frame_check u f ≡ o → (b : Bool) → is_anonymous f.id ≡ b → AfterJ u (a ++ f ∷ []) (judged gathering u o b i st f)
     go (some n) e b k = tt
     go none e true k = record {
       at = ap suc h.at ∙ sym (longer a f);
@@ -167,7 +163,7 @@ module _ (u : Setup) (a : List Frame) (f : Frame) (i : ℕ) (st : List (Entry Fo
           let z : ◌≡◌ {A = ℕ} 0 1 = cc in
           omega arith
 
-      go : (x y : Bool) → ReasonN (pick x (pick y (goes (opened (seen f))) (refuses OtherRule)) (refuses OtherRule))
+      go : (x y : Bool) → ReasonN (pick x (pick y (goes (opened (seen f))) (refuses 24)) (refuses 24))
       go true true = tt
       go true false = other so (λ x. absurd (never x))
       go false y = other so (λ x. absurd (never x))
@@ -208,7 +204,7 @@ module _ (u : Setup) (a : List Frame) (f : Frame) (i : ℕ) (st : List (Entry Fo
       ended : is_start (tail_of f.bytes) ≡ false → continues id b toggle (seen f) ≡ true
           → (x : Bool) → ltb 514 (length (gathered ++ payload_of f.bytes)) ≡ x → (l : Bool) → is_end (tail_of f.bytes) ≡ l
           → (y : Bool) → sum_ok sig (gathered ++ payload_of f.bytes) ≡ y → (z : Bool)
-          → ReasonN (pick x (refuses TooLong) (pick l (pick y (pick z (refuses OtherRule) (goes (idle (some b)))) (refuses BadChecksum)) (goes (amid id b (not toggle) (gathered ++ payload_of f.bytes)))))
+          → ReasonN (pick x (refuses 11) (pick l (pick y (pick z (refuses 24) (goes (idle (some b)))) (refuses 12)) (goes (amid id b (not toggle) (gathered ++ payload_of f.bytes)))))
       ended q c true r l w y v z =
           let m = goes_on q c in
           long so m (subst (λ l. 514 < length (l ++ payload_of f.bytes)) (bytes m) (ltb-true 514 (length (gathered ++ payload_of f.bytes)) r))
@@ -225,7 +221,7 @@ module _ (u : Setup) (a : List Frame) (f : Frame) (i : ℕ) (st : List (Entry Fo
       ended q c false r false w y v z = tt
 
       go : (x : Bool) → is_start (tail_of f.bytes) ≡ x → (c : Bool) → continues id b toggle (seen f) ≡ c
-          → ReasonN (pick x (refuses OtherRule) (pick c (extends sig id b toggle (gathered ++ payload_of f.bytes) (seen f)) (refuses OtherRule)))
+          → ReasonN (pick x (refuses 24) (pick c (extends sig id b toggle (gathered ++ payload_of f.bytes) (seen f)) (refuses 24)))
       go true q c k = other so (λ x. absurd (false≢true (sym x.start ∙ q)))
       go false q false k = other so (λ x. absurd (false≢true (sym k ∙ must x)))
       go false q true k =
@@ -246,14 +242,14 @@ module _ (u : Setup) (a : List Frame) (f : Frame) (i : ℕ) (st : List (Entry Fo
       next (refuses n) r = r
 
       room : frame_check u f ≡ none → is_anonymous f.id ≡ false → (b : Bool) → ltb 64 (length (add (stream_of f.id) (streams st))) ≡ b
-          → ReasonJ (pick b (off TooManyStreams i) (entered i (stream_of f.id) st (followed u st f)))
+          → ReasonJ (pick b (off 9 i) (entered i (stream_of f.id) st (followed u st f)))
       room e k true q = stream e k (subst (λ ds. 64 < length ds) (sym (counted k)) (ltb-true 64 (length (add (stream_of f.id) (streams st))) q))
       room e k false q =
           next (followed u st f)
           (classify (record { checks = e; named = k; few = subst (λ ds. length ds ≤ 64) (sym (counted k)) (ltb-false 64 (length (add (stream_of f.id) (streams st))) q) })
           (source-named u f e k) (known (stream_of f.id) st) refl)
 
-      go : (o : Option Refusal) → frame_check u f ≡ o → (b : Bool) → is_anonymous f.id ≡ b → ReasonJ (judged gathering u o b i st f)
+      go : (o : Option ℕ) → frame_check u f ≡ o → (b : Bool) → is_anonymous f.id ≡ b → ReasonJ (judged gathering u o b i st f)
       go (some n) e b k = check e
       go none e true k = tt
       go none e false k = room e k (ltb 64 (length (add (stream_of f.id) (streams st)))) refl
@@ -263,7 +259,7 @@ module _ (u : Setup) (a : List Frame) (f : Frame) (i : ℕ) (st : List (Entry Fo
   same_bytes : 0 < d.source → (x y : On u a f) → brought sig x.transfer ≡ brought sig y.transfer
   same_bytes n x y = let k = sym (shown n x) ∙ shown n y in cc
 
-  not-both : {n : Refusal} → frame_check u f ≡ some n → frame_check u f ≡ none → ⊥
+  not-both : {n : ℕ} → frame_check u f ≡ some n → frame_check u f ≡ none → ⊥
   not-both e k = let z : ◌≡◌ {A = ℕ} 0 1 = cc in omega arith
 
   crowded : 64 < length (streams_in [] (a ++ f ∷ [])) → Counted u a f → ⊥
@@ -274,11 +270,8 @@ module _ (u : Setup) (a : List Frame) (f : Frame) (i : ℕ) (st : List (Entry Fo
       let e = ap (λ l. length (l ++ payload_of f.bytes)) (same_bytes (source-named u f s.checks s.named) x y) in
       omega arith
 
-  same_check : {x y : Refusal} → frame_check u f ≡ some x → frame_check u f ≡ some y → refused_by x ≡ refused_by y
-  same_check {x} {y} e k = let q : x ≡ y = cc in ap refused_by q
-
-  one : {m n : Failure} → Reason u a f m → Reason u a f n → m ≡ n
-  one (check e) (check k) = same_check e k
+  one : {m n : ℕ} → Reason u a f m → Reason u a f n → m ≡ n
+  one (check e) (check k) = cc
   one (check e) (stream k a c) = absurd (not-both e k)
   one (check e) (long s g c) = absurd (not-both e s.checks)
   one (check e) (differs s g c l w) = absurd (not-both e s.checks)
@@ -304,7 +297,7 @@ module _ (u : Setup) (a : List Frame) (f : Frame) (i : ℕ) (st : List (Entry Fo
   one (other s c) (differs s' g' c' l w) = absurd (w ((c g').1 l))
   one (other s c) (other s' c') = refl
 
-one_at : (u : Setup) (a : List Frame) (f : Frame) (m n : Failure) → Good u a → Reason u a f m → Reason u a f n → m ≡ n
+one_at : (u : Setup) (a : List Frame) (f : Frame) (m n : ℕ) → Good u a → Reason u a f m → Reason u a f n → m ≡ n
 one_at u a f m n g x y = go (judgement u a) (good-passes u a g) (after-all u a)
   where
     go : (j : Judging Followed) → Passing j → AfterJ u a j → m ≡ n
@@ -317,7 +310,7 @@ bytes-front : (a b : List Frame) → Bytes (a ++ b) → Bytes a
 bytes-front [] b h = tt
 bytes-front (f ∷ a) b h = (h.0, bytes-front a b h.1)
 
-reason-at : (u : Setup) (a : List Frame) (f : Frame) (more : List Frame) (n : Failure) → Bytes (a ++ f ∷ more) → judgement u (a ++ f ∷ more) ≡ off n (length a) → Reason u a f n
+reason-at : (u : Setup) (a : List Frame) (f : Frame) (more : List Frame) (n : ℕ) → Bytes (a ++ f ∷ more) → judgement u (a ++ f ∷ more) ≡ off n (length a) → Reason u a f n
 unfolding run
 reason-at u a f more n bs e = go (judgement u a) refl (sym (run-append gathering u (on 0 []) a (f ∷ more)) ∙ e) (after-all u a)
   where

@@ -33,10 +33,10 @@ use Rattle.rules.proofs.Sends.{map_lasts}
 use Rattle.rules.proofs.Table.{same_refl, same-eq}
 use Rattle.judge_rules.specs.Good.{Transfer, stamped, Before, may_follow, WholeBefore, Series, all_frames, signature_of, Sends, frame_check, Checked, of_stream, Good}
 use Rattle.judge_rules.specs.Laws.{Bytes}
-use Rattle.judge_rules.specs.Sender.{Send, recorded, sent_from, Proper, last_time, Orderly, Run, given, by_rules, SenderPasses}
+use Rattle.judge_rules.specs.Sender.{Send, done, recorded, sent_from, Proper, Orderly, Run, SenderPasses}
 use Rattle.judge_rules.specs.Verdict.{verdict_by, verdict}
 use Rattle.judge_rules.proofs.Bytes.{sent-bytes}
-use Rattle.judge_rules.proofs.Drawing.{Went, response, placed, in-range-of, Result, refused, went, returned, topic, any, Known, later, kept, follows, inside_of, entered}
+use Rattle.judge_rules.proofs.Drawing.{Result, refused, response, placed, returned, topic, any, Known, later, kept, follows, inside_of, entered}
 use Rattle.judge_rules.proofs.Passing.{IdPasses, id-passes, anonymous-passes, sent-passes, single-passes}
 use Rattle.judge_rules.proofs.Theorem.{judgement, good-passes, passing-pass}
 
@@ -57,7 +57,7 @@ tab-stamped id time (c ∷ l) f i h =
 abbrev data_of : Call → ℕ → List (List ℕ)
 data_of c t = sent c.signature t c.payload
 
-recorded-is : (c : Call) (t : ℕ) (m : Map) → id_for c < 2 ^ 29 → (given c.time (transmit c t m)).frames ≡ at_once (id_for c) c.time (data_of c t)
+recorded-is : (c : Call) (t : ℕ) (m : Map) → id_for c < 2 ^ 29 → recorded c.time (transmit c t m) ≡ at_once (id_for c) c.time (data_of c t)
 unfolding transmit
 recorded-is c t m small =
     ap (tabulate (frame_in (records_of (id_for c) (data_of c t)) c.time) 0) (sym (sent-length c.signature t c.payload))
@@ -65,7 +65,7 @@ recorded-is c t m small =
     (λ k b. let z : 0 + k ≡ k = omega arith in
     ap (frame_in (records_of (id_for c) (data_of c t)) c.time) z ∙ back (id_for c) (omega arith) c.time (data_of c t) k (sent-short c.signature t c.payload) b)
 
-none-recorded : (o : Outcome) (m : Map) (time : ℕ) → sending.frames_of o ≡ 0 → (given time (refuse o m)).frames ≡ []
+none-recorded : (o : Outcome) (m : Map) (time : ℕ) → sending.frames_of o ≡ 0 → recorded time (refuse o m) ≡ []
 unfolding tabulate
 none-recorded o m time z = ap (tabulate (frame_in [] time) 0) z
 
@@ -115,28 +115,22 @@ all_append P (f ∷ a) b h k = (h.0, all_append P a b h.1 k)
 
 module _ (u : Setup) (own : ℕ) (P : Frame → Type 0)
     (each : (t : ℕ) (c : Call) → Proper u own t c → InRange c → (x : ℕ) → x < 32 → All P (at_once (id_for c) c.time (data_of c x))) where
-  sent-all : (t : ℕ) (c : Call) → Proper u own t c → (x : ℕ) (after : Map) → x < 32 → InRange c → All P (given c.time (transmit c x after)).frames
-  sent-all t c pr x after h r = subst (All P) (sym (recorded-is c x after (facts u c own t r pr).small)) (each t c pr r x h)
+  went-all : (t : ℕ) (c : Call) → Proper u own t c → (x : ℕ) (after : Map) → x < 32 → InRange c → All P (recorded c.time (transmit c x after))
+  went-all t c pr x after h r = subst (All P) (sym (recorded-is c x after (facts u c own t r pr).small)) (each t c pr r x h)
 
-  went-all : (t : ℕ) (c : Call) → Proper u own t c → (m : Map) → sound m ≡ true → (x : ℕ) (after : Map) → Went c m x after
-      → All P (given c.time (transmit c x after)).frames
-  went-all t c pr m ok _ _ (response r size k) = sent-all t c pr c.transfer m (r.response k) r
-  went-all t c pr m ok _ _ (placed i r size k h) =
-      sent-all t c pr (drawn (topic_of c) (get_or m i free)) _ (drawn-small (topic_of c) m (get_or m i free) (all-fit m ok i)) r
+  step-all : (t : ℕ) (c : Call) → Proper u own t c → (m : Map) → sound m ≡ true → (o : Step) → Result c m o → All P (recorded c.time o)
+  step-all t c pr m ok o (refused x z) = subst (All P) (sym (none-recorded x m c.time z)) tt
+  step-all t c pr m ok o (response r size k) = went-all t c pr c.transfer m (r.response k) r
+  step-all t c pr m ok o (placed i r size k h) =
+      went-all t c pr (drawn (topic_of c) (get_or m i free)) _ (drawn-small (topic_of c) m (get_or m i free) (all-fit m ok i)) r
 
-  step-all : (t : ℕ) (c : Call) (m : Map) → sound m ≡ true → (o : Step) → Result c m o → (sending.number_of o.answer ≡ 0 → Proper u own t c)
-      → All P (given c.time o).frames
-  unfolding transmit
-  step-all t c m ok _ (refused x n z) pr = subst (All P) (sym (none-recorded x m c.time z)) tt
-  step-all t c m ok _ (went x after w) pr = went-all t c (pr refl) m ok x after w
-
-  run-all : (t : ℕ) (l : List Send) (m : Map) → sound m ≡ true → Orderly by_rules u own t m l → All P (sent_from by_rules m l)
+  run-all : (t : ℕ) (l : List Send) (m : Map) → sound m ≡ true → Orderly u own t l → All P (sent_from m l)
   unfolding sent_from
   run-all t [] m ok h = tt
   run-all t (s ∷ l) m ok h =
-      all_append P (by_rules m s).frames (sent_from by_rules (by_rules m s).state l)
-      (step-all t s.call m ok _ (returned s.call m (length s.out)) h.0)
-      (run-all _ l (by_rules m s).state (map_lasts.send s.call m (length s.out) ok) h.1)
+      all_append P (recorded s.call.time (done m s)) (sent_from (done m s).map l)
+      (step-all t s.call h.0 m ok (done m s) (returned s.call m s.room))
+      (run-all s.call.time l (done m s).map (map_lasts.send s.call m s.room ok) h.1)
 
 -- ── the frames of one stream ──
 
@@ -163,11 +157,17 @@ of-same d id e (c ∷ l) (t ∷ ts) = rw e (ap (λ r. frame_at id c t ∷ r) (of
 
 -- ── a stream that the run sends nothing on, so far ──
 
-went-other : (u : Setup) (own t : ℕ) (c : Call) → Proper u own t c → (d : Stream) → same_stream (sending.stream_of c) d ≡ false → (y : ℕ) (after : Map) → InRange c
-    → of_stream d (given c.time (transmit c y after)).frames ≡ []
-went-other u own t c pr d x y after r =
-    let f = facts u c own t r pr in
-    ap (of_stream d) (recorded-is c y after f.small) ∙ of_other d (id_for c) (ap (λ s. same_stream s d) f.stream ∙ x) (data_of c y) (replicate (length (data_of c y)) c.time)
+module _ (u : Setup) (own t : ℕ) (c : Call) (pr : Proper u own t c) (m : Map) (d : Stream) (x : same_stream (sending.stream_of c) d ≡ false) where
+  went-other : (y : ℕ) (after : Map) → InRange c → of_stream d (recorded c.time (transmit c y after)) ≡ []
+  went-other y after r =
+      let f = facts u c own t r pr in
+      ap (of_stream d) (recorded-is c y after f.small) ∙ of_other d (id_for c) (ap (λ s. same_stream s d) f.stream ∙ x) (data_of c y) (replicate (length (data_of c y)) c.time)
+
+  step_other : (o : Step) → Result c m o → of_stream d (recorded c.time o) ≡ []
+  unfolding of_stream
+  step_other o (refused y z) = ap (of_stream d) (none-recorded y m c.time z)
+  step_other o (response r size k) = went-other c.transfer m r
+  step_other o (placed i r size k h) = went-other (drawn (topic_of c) (get_or m i free)) _ r
 
 not_same : (a b : Stream) → (a ≡ b → ⊥) → same_stream a b ≡ false
 not_same a b n = go (same_stream a b) refl
@@ -176,18 +176,15 @@ not_same a b n = go (same_stream a b) refl
     go false q = refl
     go true q = absurd (n (same-eq a b q))
 
-foreign : (u : Setup) (own t : ℕ) (l : List Send) (m : Map) (d : Stream) → (d.source ≡ own → ⊥) → Orderly by_rules u own t m l → of_stream d (sent_from by_rules m l) ≡ []
-unfolding sent_from of_stream transmit
+foreign : (u : Setup) (own t : ℕ) (l : List Send) (m : Map) (d : Stream) → (d.source ≡ own → ⊥) → Orderly u own t l → of_stream d (sent_from m l) ≡ []
+unfolding sent_from of_stream
 foreign u own t [] m d n h = refl
 foreign u own t (s ∷ l) m d n h =
-    of-append d (by_rules m s).frames (sent_from by_rules (by_rules m s).state l)
-    ∙ ap₂ (λ a b. a ++ b) (step _ (returned s.call m (length s.out)) h.0) (foreign u own _ l (by_rules m s).state d n h.1)
-  where
-    step : (o : Step) → Result s.call m o → (sending.number_of o.answer ≡ 0 → Proper u own t s.call) → of_stream d (given s.call.time o).frames ≡ []
-    step _ (refused x k z) pr = ap (of_stream d) (none-recorded x m s.call.time z)
-    step _ (went x after w) pr =
-        went-other u own t s.call (pr refl) d
-        (not_same (sending.stream_of s.call) d (λ e. n (sym (ap (λ (x : Stream). x.source) e) ∙ (pr refl).stays))) x after (in-range-of w)
+    of-append d (recorded s.call.time (done m s)) (sent_from (done m s).map l)
+    ∙ ap₂ (λ a b. a ++ b)
+    (step_other u own t s.call h.0 m d (not_same (sending.stream_of s.call) d (λ e. n (sym (ap (λ (x : Stream). x.source) e) ∙ h.0.stays)))
+    (done m s) (returned s.call m s.room))
+    (foreign u own s.call.time l (done m s).map d n h.1)
 
 -- ── a stream of the run ──
 
@@ -214,7 +211,7 @@ module _ (u : Setup) (own t : ℕ) (c : Call) (pr : Proper u own t c) (named : 0
   -- a transfer in front of others
   went-own : (b : Option Before) (y : ℕ) (after : Map) (rest : List Frame) → y < 32 → InRange c → length c.payload ≤ 512 → may_follow d b y c.time ≡ true
       → Sends (signature_of u d) d (some (record { transfer = y; since = c.time })) (of_stream d rest)
-      → Sends (signature_of u d) d b (of_stream d ((given c.time (transmit c y after)).frames ++ rest))
+      → Sends (signature_of u d) d b (of_stream d (recorded c.time (transmit c y after) ++ rest))
   unfolding all_frames
   went-own b y after rest hy r size f s =
       let k = facts u c own t r pr in
@@ -224,7 +221,7 @@ module _ (u : Setup) (own t : ℕ) (c : Call) (pr : Proper u own t c) (named : 0
       let x : Transfer = record { priority = c.priority; transfer = y; payload = c.payload; times = replicate (length l) c.time } in
       let at : get_or (replicate (length l) c.time) 0 0 ≡ c.time = first_of (length l) c.time some-frame in
       let id : id_for c ≡ id_of d c.priority = ap (λ z. pick z (anonymous_id c) (id_of d c.priority)) (ne_eqb c.own 0 (λ z. omega arith)) in
-      let own-frames : of_stream d (given c.time (transmit c y after)).frames ≡ stamped (id_of d c.priority) l (replicate (length l) c.time) =
+      let own-frames : of_stream d (recorded c.time (transmit c y after)) ≡ stamped (id_of d c.priority) l (replicate (length l) c.time) =
       ap (of_stream d) (recorded-is c y after k.small)
       ∙ of-same d (id_for c) (ap (λ s. same_stream s d) k.stream ∙ same_refl d) (data_of c y) (replicate (length (data_of c y)) c.time)
       ∙ ap₂ (λ i g. stamped i (sent g y c.payload) (replicate (length (sent g y c.payload)) c.time)) id (sym signature-is) in
@@ -238,32 +235,35 @@ module _ (u : Setup) (own t : ℕ) (c : Call) (pr : Proper u own t c) (named : 0
           },
           subst (λ z. Series (signature_of u d) d (some (record { transfer = y; since = z })) s.transfers) (sym at) s.series,
         );
-        frames = of-append d (given c.time (transmit c y after)).frames rest ∙ ap₂ (λ a b. a ++ b) own-frames s.frames;
+        frames = of-append d (recorded c.time (transmit c y after)) rest ∙ ap₂ (λ a b. a ++ b) own-frames s.frames;
       }
     where
       whole_before : (x : Transfer) (ys : List Transfer) → length x.times ≡ length (sent (signature_of u d) x.transfer x.payload) → WholeBefore (signature_of u d) x ys
       whole_before x [] h = tt
       whole_before x (y ∷ ys) h = h
 
-  step-own : (b : Option Before) (rest : List Frame) (y : ℕ) (after : Map) → Went c m y after → Known d m c.time b
-      → ((b : Option Before) → Known d after c.time b → Sends (signature_of u d) d b (of_stream d rest))
-      → Sends (signature_of u d) d b (of_stream d ((given c.time (transmit c y after)).frames ++ rest))
-  step-own b rest _ _ (response r size k) h ih =
+  step-own : (b : Option Before) (rest : List Frame) (o : Step) → Result c m o → Known d m c.time b
+      → ((b : Option Before) → Known d o.map c.time b → Sends (signature_of u d) d b (of_stream d rest))
+      → Sends (signature_of u d) d b (of_stream d (recorded c.time o ++ rest))
+  unfolding transmit
+  step-own b rest o (refused x z) h ih =
+      subst (λ l. Sends (signature_of u d) d b (of_stream d (l ++ rest))) (sym (none-recorded x m c.time z)) (ih b h)
+  step-own b rest o (response r size k) h ih =
       went-own b c.transfer m rest (r.response k) r size (free-id b) (ih (some (record { transfer = c.transfer; since = c.time })) (any k))
     where
       free-id : (b : Option Before) → may_follow d b c.transfer c.time ≡ true
       free-id none = refl
       free-id (some x) = rw (eq-eqb c.transfer_type 2 k)
-  step-own b rest _ _ (placed i r size k ch) h ih =
-      went-own b (drawn (topic_of c) (get_or m i free)) _ rest (drawn-small (topic_of c) m (get_or m i free) (all-fit m ok i)) r size (follows d m i c.time b ok ch h)
+  step-own b rest o (placed i r size k ch) h ih =
+      went-own b (drawn (topic_of c) (get_or m i free)) (set m i (used (topic_of c) (next (drawn (topic_of c) (get_or m i free))) c.time)) rest (drawn-small (topic_of c) m (get_or m i free) (all-fit m ok i)) r size (follows d m i c.time b ok ch h)
       (ih (some (record { transfer = drawn (topic_of c) (get_or m i free); since = c.time })) (entered d m i (drawn (topic_of c) (get_or m i free)) c.time (inside_of ch)))
 
   -- another stream of the same source
-  step_kept : (e : Stream) → e.source ≡ c.own → same_stream d e ≡ false → (b : Option Before) (y : ℕ) (after : Map) → Went c m y after
-      → Known e m c.time b → Known e after c.time b
-  step_kept e s x b _ _ (response r size k) h = h
-  step_kept e s x b _ _ (placed i r size k ch) h =
-      kept e m (topic_of c) (next (drawn (topic_of c) (get_or m i free))) c.time i b ok (topics (same_topic (topic_of c) (topic e)) refl) ch h
+  step_kept : (e : Stream) → e.source ≡ c.own → same_stream d e ≡ false → (b : Option Before) (o : Step) → Result c m o → Known e m c.time b → Known e o.map c.time b
+  unfolding transmit
+  step_kept e s x b o (refused y z) h = h
+  step_kept e s x b o (response r size k) h = h
+  step_kept e s x b o (placed i r size k ch) h = kept e m (topic_of c) (next (drawn (topic_of c) (get_or m i free))) c.time i b ok (topics (same_topic (topic_of c) (topic e)) refl) ch h
     where
       topics : (y : Bool) → same_topic (topic_of c) (topic e) ≡ y → y ≡ false
       topics false q = refl
@@ -272,74 +272,58 @@ module _ (u : Setup) (own t : ℕ) (c : Call) (pr : Proper u own t c) (named : 0
           let v : d ≡ e = λ i. record { transfer_type = (w i).transfer_type; type = (w i).type; source = sym s i; destination = (w i).destination } in
           absurd (false≢true (sym x ∙ ap (λ z. same_stream z e) v ∙ same_refl e))
 
--- one call and what comes after it
-module _ (u : Setup) (own t : ℕ) (c : Call) (m : Map) (d : Stream) (b : Option Before) (named : 0 < own) (e : d.source ≡ own) (ok : sound m ≡ true)
-    (k : Known d m t b) (rest : List Frame) where
-  went_on : Proper u own t c → (y : ℕ) (after : Map) → Went c m y after
-      → ((b : Option Before) → Known d after c.time b → Sends (signature_of u d) d b (of_stream d rest))
-      → Sends (signature_of u d) d b (of_stream d ((given c.time (transmit c y after)).frames ++ rest))
-  went_on pr y after w ih = go (same_stream (sending.stream_of c) d) refl (later d m t c.time b pr.forward k)
-    where
-      src : 0 < c.own
-      src = subst (λ x. 0 < x) (sym pr.stays) named
-
-      go : (x : Bool) → same_stream (sending.stream_of c) d ≡ x → Known d m c.time b
-          → Sends (signature_of u d) d b (of_stream d ((given c.time (transmit c y after)).frames ++ rest))
-      go false q k =
-          subst (Sends (signature_of u d) d b)
-          (sym (of-append d (given c.time (transmit c y after)).frames rest
-          ∙ ap (λ a. a ++ of_stream d rest) (went-other u own t c pr d q y after (in-range-of w))))
-          (ih b (step_kept u own t c pr src m ok d (e ∙ sym pr.stays) q b y after w k))
-      go true q k =
-          subst (λ (d : Stream). Known d m c.time b
-          → ((b : Option Before) → Known d after c.time b → Sends (signature_of u d) d b (of_stream d rest))
-          → Sends (signature_of u d) d b (of_stream d ((given c.time (transmit c y after)).frames ++ rest)))
-          (same-eq (sending.stream_of c) d q)
-          (step-own u own t c pr src m ok b rest y after w) k ih
-
-  step-on : (o : Step) → Result c m o → (sending.number_of o.answer ≡ 0 → Proper u own t c)
-      → ((b : Option Before) → Known d o.map (last_time (sending.number_of o.answer) t c) b → Sends (signature_of u d) d b (of_stream d rest))
-      → Sends (signature_of u d) d b (of_stream d ((given c.time o).frames ++ rest))
-  unfolding transmit
-  step-on _ (refused x n z) pr ih =
-      subst (λ l. Sends (signature_of u d) d b (of_stream d (l ++ rest))) (sym (none-recorded x m c.time z))
-      (ih b (subst (λ y. Known d m (pick y c.time t) b) (sym (ne_eqb (sending.number_of x) 0 n)) k))
-  step-on _ (went y after w) pr ih = went_on (pr refl) y after w ih
-
-own-stream : (u : Setup) (own t : ℕ) (l : List Send) (m : Map) (d : Stream) (b : Option Before) → 0 < own → d.source ≡ own → sound m ≡ true
-    → Orderly by_rules u own t m l → Known d m t b → Sends (signature_of u d) d b (of_stream d (sent_from by_rules m l))
+own-stream : (u : Setup) (own t : ℕ) (l : List Send) (m : Map) (d : Stream) (b : Option Before) → 0 < own → d.source ≡ own → sound m ≡ true → Orderly u own t l
+    → Known d m t b → Sends (signature_of u d) d b (of_stream d (sent_from m l))
 unfolding sent_from of_stream all_frames
 own-stream u own t [] m d b named e ok h k = record { transfers = []; series = tt; frames = refl }
 own-stream u own t (s ∷ l) m d b named e ok h k =
-    step-on u own t s.call m d b named e ok k (sent_from by_rules (by_rules m s).state l) _ (returned s.call m (length s.out)) h.0
-    (λ b k. own-stream u own _ l (by_rules m s).state d b named e (map_lasts.send s.call m (length s.out) ok) h.1 k)
+    go (same_stream (sending.stream_of s.call) d) refl (later d m t s.call.time b h.0.forward k)
+    (λ b k. own-stream u own s.call.time l (done m s).map d b named e (map_lasts.send s.call m s.room ok) h.1 k)
+  where
+    src : 0 < s.call.own
+    src = subst (λ x. 0 < x) (sym h.0.stays) named
+
+    go : (x : Bool) → same_stream (sending.stream_of s.call) d ≡ x → Known d m s.call.time b
+        → ((b : Option Before) → Known d (done m s).map s.call.time b → Sends (signature_of u d) d b (of_stream d (sent_from (done m s).map l)))
+        → Sends (signature_of u d) d b (of_stream d (recorded s.call.time (done m s) ++ sent_from (done m s).map l))
+    go false q k ih =
+        subst (Sends (signature_of u d) d b)
+        (sym (of-append d (recorded s.call.time (done m s)) (sent_from (done m s).map l)
+        ∙ ap (λ a. a ++ of_stream d (sent_from (done m s).map l)) (step_other u own t s.call h.0 m d q (done m s) (returned s.call m s.room))))
+        (ih b (step_kept u own t s.call h.0 src m ok d (e ∙ sym h.0.stays) q b (done m s) (returned s.call m s.room) k))
+    go true q k ih =
+        subst (λ (d : Stream). Known d m s.call.time b
+        → ((b : Option Before) → Known d (done m s).map s.call.time b → Sends (signature_of u d) d b (of_stream d (sent_from (done m s).map l)))
+        → Sends (signature_of u d) d b (of_stream d (recorded s.call.time (done m s) ++ sent_from (done m s).map l)))
+        (same-eq (sending.stream_of s.call) d q)
+        (step-own u own t s.call h.0 src m ok b (sent_from (done m s).map l) (done m s) (returned s.call m s.room)) k ih
 
 -- ── the run ──
 
-module _ (u : Setup) (own : ℕ) (m : Map) (l : List Send) (ok : sound m ≡ true) (h : Run by_rules u own m l) where
-  run-checked : Checked u (sent_from by_rules m l)
+module _ (u : Setup) (own : ℕ) (m : Map) (l : List Send) (h : Run u own m l) where
+  run-checked : Checked u (sent_from m l)
   run-checked =
-      run-all u own (λ f. frame_check u f ≡ none) (λ t c pr r x k. (facts u c own t r pr).checked x k (replicate (length (data_of c x)) c.time)) 0 l m ok h.calls
+      run-all u own (λ f. frame_check u f ≡ none) (λ t c pr r x k. (facts u c own t r pr).checked x k (replicate (length (data_of c x)) c.time)) 0 l m h.map h.calls
 
-  run-bytes : Bytes (sent_from by_rules m l)
+  run-bytes : Bytes (sent_from m l)
   run-bytes =
       run-all u own (λ f. Octets f.bytes)
-      (λ t c pr r x k. sent-bytes c.signature x c.payload k pr.bytes (id_for c) (replicate (length (data_of c x)) c.time)) 0 l m ok h.calls
+      (λ t c pr r x k. sent-bytes c.signature x c.payload k pr.bytes (id_for c) (replicate (length (data_of c x)) c.time)) 0 l m h.map h.calls
 
-  run-good : Good u (sent_from by_rules m l)
+  run-good : Good u (sent_from m l)
   unfolding all_frames
   run-good = record { checks = run-checked; few = h.few; streams = λ d n. go d n (eqb d.source own) refl }
     where
-      go : (d : Stream) → 0 < d.source → (b : Bool) → eqb d.source own ≡ b → Sends (signature_of u d) d none (of_stream d (sent_from by_rules m l))
+      go : (d : Stream) → 0 < d.source → (b : Bool) → eqb d.source own ≡ b → Sends (signature_of u d) d none (of_stream d (sent_from m l))
       go d n true e =
           let s : d.source ≡ own = eqb-true d.source own e in
-          own-stream u own 0 l m d none (omega arith) s ok h.calls tt
+          own-stream u own 0 l m d none (omega arith) s h.map h.calls tt
       go d n false e = record { transfers = []; series = tt; frames = foreign u own 0 l m d (eqb-false d.source own e) h.calls }
 
 pub sender-passes : SenderPasses
 unfolding verdict verdict_by
 sender-passes = record {
   good = run-good;
-  passes = λ u own m l ok h. passing-pass (judgement u (sent_from by_rules m l)) (good-passes u (sent_from by_rules m l) (run-good u own m l ok h));
+  passes = λ u own m l h. passing-pass (judgement u (sent_from m l)) (good-passes u (sent_from m l) (run-good u own m l h));
   bytes = run-bytes;
 }

@@ -16,8 +16,6 @@ use Rattle.rules.specs.Session.{sum_ok}
 use Rattle.rules.specs.Setup.{Setup}
 use Rattle.rules.specs.Tests.{pick}
 use Rattle.rules.proofs.Table.{same-eq}
-use Rattle.rules.specs.Answer.{Refusal}
-use Rattle.judge_rules.specs.declared.failure.Failure.TheVariants.{TooManyStreams, TooLong, BadChecksum, OtherRule}
 use Rattle.judge_rules.specs.Good.{may_follow, signature_of, frame_check, add}
 use Rattle.judge_rules.specs.Laws.{Bytes}
 use Rattle.judge_rules.specs.Verdict.{Seen, seen, Followed, idle, amid, Next, goes, refuses, as_before, continues, begins, extends, follow, Entry, streams, state_of, put, Judging, on, off, entered, named, judged, advance, run, gathering, verdict_of, verdict_by, verdict}
@@ -58,8 +56,8 @@ unfolding goes_on starts_in grows_to follow begins extends
 same-follow signature d (idle b) v h = go v.start (may_follow d b v.transfer v.time) v.last
   where
     go : (x y l : Bool)
-        → pick x (pick y (goes (pick l (rests (some (as_before v))) (within v.id (as_before v) true (length v.payload) (front v.payload) (checksum signature (drop 2 v.payload))))) (refuses OtherRule)) (refuses OtherRule)
-        ≡ brief_next signature (pick x (pick y (goes (pick l (idle (some (as_before v))) (amid v.id (as_before v) true v.payload))) (refuses OtherRule)) (refuses OtherRule))
+        → pick x (pick y (goes (pick l (rests (some (as_before v))) (within v.id (as_before v) true (length v.payload) (front v.payload) (checksum signature (drop 2 v.payload))))) (refuses 24)) (refuses 24)
+        ≡ brief_next signature (pick x (pick y (goes (pick l (idle (some (as_before v))) (amid v.id (as_before v) true v.payload))) (refuses 24)) (refuses 24))
     go true true true = refl
     go true true false = refl
     go true false l = refl
@@ -70,8 +68,8 @@ same-follow signature d (amid id b toggle g) v h = go v.start (continues id b to
     k = fronts signature g v.payload (omega (arith, h.full))
 
     inner : (x l y z : Bool)
-        → pick x (refuses TooLong) (pick l (pick y (pick z (refuses OtherRule) (goes (rests (some b)))) (refuses BadChecksum)) (goes (within id b (not toggle) (length (g ++ v.payload)) (front (g ++ v.payload)) (checksum signature (drop 2 (g ++ v.payload))))))
-        ≡ brief_next signature (pick x (refuses TooLong) (pick l (pick y (pick z (refuses OtherRule) (goes (idle (some b)))) (refuses BadChecksum)) (goes (amid id b (not toggle) (g ++ v.payload)))))
+        → pick x (refuses 11) (pick l (pick y (pick z (refuses 24) (goes (rests (some b)))) (refuses 12)) (goes (within id b (not toggle) (length (g ++ v.payload)) (front (g ++ v.payload)) (checksum signature (drop 2 (g ++ v.payload))))))
+        ≡ brief_next signature (pick x (refuses 11) (pick l (pick y (pick z (refuses 24) (goes (idle (some b)))) (refuses 12)) (goes (amid id b (not toggle) (g ++ v.payload)))))
     inner true l y z = refl
     inner false true true true = refl
     inner false true true false = refl
@@ -79,14 +77,14 @@ same-follow signature d (amid id b toggle g) v h = go v.start (continues id b to
     inner false false y z = refl
 
     go : (x c : Bool)
-        → pick x (refuses OtherRule) (pick c (grows_to id b toggle (length g + length v.payload) (front g) (crc_over ccitt (checksum signature (drop 2 g)) v.payload) v.last) (refuses OtherRule))
-        ≡ brief_next signature (pick x (refuses OtherRule) (pick c (extends signature id b toggle (g ++ v.payload) v) (refuses OtherRule)))
+        → pick x (refuses 24) (pick c (grows_to id b toggle (length g + length v.payload) (front g) (crc_over ccitt (checksum signature (drop 2 g)) v.payload) v.last) (refuses 24))
+        ≡ brief_next signature (pick x (refuses 24) (pick c (extends signature id b toggle (g ++ v.payload) v) (refuses 24)))
     go true c = refl
     go false false = refl
     go false true =
         (λ i. grows_to id b toggle (sym (length-append g v.payload) i) (front g) (crc_over ccitt (checksum signature (drop 2 g)) v.payload) v.last)
-        ∙ (λ i. pick (ltb 514 (length (g ++ v.payload))) (refuses TooLong)
-        (pick v.last (pick (sym k.sum i) (pick (leb (length (g ++ v.payload)) 9) (refuses OtherRule) (goes (rests (some b)))) (refuses BadChecksum))
+        ∙ (λ i. pick (ltb 514 (length (g ++ v.payload))) (refuses 11)
+        (pick v.last (pick (sym k.sum i) (pick (leb (length (g ++ v.payload)) 9) (refuses 24) (goes (rests (some b)))) (refuses 12))
         (goes (within id b (not toggle) (length (g ++ v.payload)) (sym k.same i) (sym k.register i)))))
         ∙ inner (ltb 514 (length (g ++ v.payload))) v.last (sum_ok signature (g ++ v.payload)) (leb (length (g ++ v.payload)) 9)
 
@@ -140,12 +138,12 @@ module _ (u : Setup) (i : ℕ) (st : List (Entry Followed)) (f : Frame) (h : Rea
   same-named : named summing u i d (briefs u st) f ≡ briefly u (named gathering u i d st f)
   unfolding named briefly
   same-named =
-      ap (λ ds. pick (ltb 64 (length (add d ds))) (off TooManyStreams i) (entered i d (briefs u st) (goes_on (signature_of u d) d (state_of (rests none) d (briefs u st)) (seen f)))) (same-streams u st)
+      ap (λ ds. pick (ltb 64 (length (add d ds))) (off 9 i) (entered i d (briefs u st) (goes_on (signature_of u d) d (state_of (rests none) d (briefs u st)) (seen f)))) (same-streams u st)
       ∙ counted (ltb 64 (length (add d (streams st))))
     where
       counted : (b : Bool)
-          → pick b (off TooManyStreams i) (entered i d (briefs u st) (goes_on (signature_of u d) d (state_of (rests none) d (briefs u st)) (seen f)))
-          ≡ briefly u (pick b (off TooManyStreams i) (entered i d st (followed u st f)))
+          → pick b (off 9 i) (entered i d (briefs u st) (goes_on (signature_of u d) d (state_of (rests none) d (briefs u st)) (seen f)))
+          ≡ briefly u (pick b (off 9 i) (entered i d st (followed u st f)))
       counted true = refl
       counted false =
           ap (entered i d (briefs u st))
@@ -156,7 +154,7 @@ module _ (u : Setup) (i : ℕ) (st : List (Entry Followed)) (f : Frame) (h : Rea
   unfolding advance judged briefly
   same-advance = go (frame_check u f) (is_anonymous f.id)
     where
-      go : (o : Option Refusal) (b : Bool) → judged summing u o b i (briefs u st) f ≡ briefly u (judged gathering u o b i st f)
+      go : (o : Option ℕ) (b : Bool) → judged summing u o b i (briefs u st) f ≡ briefly u (judged gathering u o b i st f)
       go (some n) b = refl
       go none true = refl
       go none false = same-named

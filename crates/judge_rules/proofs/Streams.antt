@@ -18,10 +18,6 @@ use Rattle.rules.specs.Tests.{pick}
 use Rattle.rules.proofs.Checks.{named-not-anonymous}
 use Rattle.rules.proofs.Lasting.{stream-fits}
 use Rattle.rules.proofs.Table.{same_refl, same-eq}
-use Rattle.judge_rules.specs.declared.failure.Failure.{Failure}
-use Rattle.judge_rules.specs.Failure.{refused_by}
-use Rattle.rules.specs.Answer.{Refusal}
-use Rattle.judge_rules.specs.declared.failure.Failure.TheVariants.{TooManyStreams}
 use Rattle.judge_rules.specs.Good.{signature_of, frame_check, Checked, of_stream, add, streams_in}
 use Rattle.judge_rules.specs.Laws.{Bytes}
 use Rattle.judge_rules.specs.Verdict.{seen, Followed, idle, Next, goes, refuses, follow, Entry, streams, state_of, put, Judging, on, off, entered, Follower, named, judged, advance, run, gathering}
@@ -103,12 +99,12 @@ abbrev pub Passing : Judging Followed → Type 0
 Passing (on i st) = Unit {0}
 Passing (off n i) = ⊥
 
-pub off-stays : (F : Follower) (u : Setup) (n : Failure) (i : ℕ) (l : List Frame) → run F u (off n i) l ≡ off n i
+pub off-stays : (F : Follower) (u : Setup) (n i : ℕ) (l : List Frame) → run F u (off n i) l ≡ off n i
 unfolding run advance
 off-stays F u n i [] = refl
 off-stays F u n i (f ∷ l) = off-stays F u n i l
 
-off-fails : (u : Setup) (n : Failure) (i : ℕ) (l : List Frame) → Passing (run gathering u (off n i) l) → ⊥
+off-fails : (u : Setup) (n i : ℕ) (l : List Frame) → Passing (run gathering u (off n i) l) → ⊥
 off-fails u n i l h = subst Passing (off-stays gathering u n i l) h
 
 -- an anonymous frame is of no stream with a named source
@@ -170,16 +166,16 @@ sound-step u f l i st h o ih p = go (frame_check u f) refl (is_anonymous f.id) r
         flow-at d x false z r = subst (λ s. Continues (signature_of u d) d s (of_stream d l)) (put_other (idle none) (stream_of f.id) d s st z) (r.flows d x)
 
     counted : frame_check u f ≡ none → is_anonymous f.id ≡ false → (b : Bool) → ltb 64 (length (add (stream_of f.id) (streams st))) ≡ b
-        → Passing (run gathering u (pick b (off TooManyStreams i) (entered i (stream_of f.id) st (followed u st f))) l)
+        → Passing (run gathering u (pick b (off 9 i) (entered i (stream_of f.id) st (followed u st f))) l)
         → Rest u st (f ∷ l)
-    counted e a true z q = absurd (off-fails u TooManyStreams i l q)
+    counted e a true z q = absurd (off-fails u 9 i l q)
     counted e a false z q =
         taken e a (ltb-false 64 (length (add (stream_of f.id) (streams st))) z)
         (followed u st f)
         (allows (signature_of u (stream_of f.id)) (stream_of f.id) (known (stream_of f.id) st) (seen f) (h.fits (stream_of f.id)) (named-frame u f e a o).valid) q
 
-    go : (o : Option Refusal) → frame_check u f ≡ o → (b : Bool) → is_anonymous f.id ≡ b → Passing (run gathering u (judged gathering u o b i st f) l) → Rest u st (f ∷ l)
-    go (some c) e b a q = absurd (off-fails u (refused_by c) i l q)
+    go : (o : Option ℕ) → frame_check u f ≡ o → (b : Bool) → is_anonymous f.id ≡ b → Passing (run gathering u (judged gathering u o b i st f) l) → Rest u st (f ∷ l)
+    go (some n) e b a q = absurd (off-fails u n i l q)
     go none e true a q =
         let r : Rest u st l = ih st h q in
         record {
@@ -211,7 +207,7 @@ complete-step u f l i st ih r = subst (λ o. Passing (run gathering u (judged ga
     taken a few k =
         let small : ltb 64 (length (add (stream_of f.id) (streams st))) ≡ false =
         le-ltb 64 (length (add (stream_of f.id) (streams st))) (omega (arith, streams-grow (add (stream_of f.id) (streams st)) l)) in
-        subst (λ b. Passing (run gathering u (pick b (off TooManyStreams i) (entered i (stream_of f.id) st (followed u st f))) l))
+        subst (λ b. Passing (run gathering u (pick b (off 9 i) (entered i (stream_of f.id) st (followed u st f))) l))
         (sym small)
         (subst (λ n. Passing (run gathering u (entered i (stream_of f.id) st n) l)) (sym k.taken)
         (ih (put (stream_of f.id) k.next st) (record {
@@ -270,14 +266,14 @@ reached-step u i st f h o = go (frame_check u f) refl (is_anonymous f.id) refl
         fits-at d false z = subst (Fits (signature_of u d) d) (sym (put_other (idle none) (stream_of f.id) d s st z)) (h.fits d)
 
     counted : frame_check u f ≡ none → is_anonymous f.id ≡ false → (b : Bool) → ltb 64 (length (add (stream_of f.id) (streams st))) ≡ b
-        → ReachedJ u (pick b (off TooManyStreams i) (entered i (stream_of f.id) st (followed u st f)))
+        → ReachedJ u (pick b (off 9 i) (entered i (stream_of f.id) st (followed u st f)))
     counted e a true z = tt
     counted e a false z =
         next (followed u st f)
         (allows (signature_of u (stream_of f.id)) (stream_of f.id) (known (stream_of f.id) st) (seen f) (h.fits (stream_of f.id)) (named-frame u f e a o).valid)
         (ltb-false 64 (length (add (stream_of f.id) (streams st))) z)
 
-    go : (x : Option Refusal) → frame_check u f ≡ x → (b : Bool) → is_anonymous f.id ≡ b → ReachedJ u (judged gathering u x b i st f)
+    go : (x : Option ℕ) → frame_check u f ≡ x → (b : Bool) → is_anonymous f.id ≡ b → ReachedJ u (judged gathering u x b i st f)
     go (some n) e b a = tt
     go none e true a = h
     go none e false a = counted e a (ltb 64 (length (add (stream_of f.id) (streams st)))) refl

@@ -12,9 +12,6 @@ use borrow.Author.Tests.{ltb-true, ltb-false}
 use Rattle.rules.specs.Frame.{Frame, is_anonymous, stream_of}
 use Rattle.rules.specs.Setup.{Setup}
 use Rattle.rules.specs.Tests.{pick}
-use Rattle.judge_rules.specs.declared.failure.Failure.{Failure}
-use Rattle.rules.specs.Answer.{Refusal}
-use Rattle.judge_rules.specs.declared.failure.Failure.TheVariants.{TooManyStreams}
 use Rattle.judge_rules.specs.Good.{Good, CouldPass, frame_check, add}
 use Rattle.judge_rules.specs.Laws.{Bytes, JudgeLaws}
 use Rattle.judge_rules.specs.Verdict.{Followed, Next, goes, refuses, Entry, streams, state_of, Judging, on, off, entered, Follower, named, judged, advance, run, gathering, pass, fail, verdict_of, verdict_by, verdict}
@@ -93,28 +90,28 @@ steps u k st f = go (frame_check u f) (is_anonymous f.id)
     next (goes s) = refl
     next (refuses n) = refl
 
-    counted : (b : Bool) (n : Next Followed) → Steps k (pick b (off TooManyStreams k) (entered k (stream_of f.id) st n))
+    counted : (b : Bool) (n : Next Followed) → Steps k (pick b (off 9 k) (entered k (stream_of f.id) st n))
     counted true n = refl
     counted false n = next n
 
-    go : (o : Option Refusal) (b : Bool) → Steps k (judged gathering u o b k st f)
+    go : (o : Option ℕ) (b : Bool) → Steps k (judged gathering u o b k st f)
     go (some n) b = refl
     go none true = refl
     go none false =
         counted (ltb 64 (length (add (stream_of f.id) (streams st))))
         (followed u st f)
 
-pub record Stops (u : Setup) (k : ℕ) (st : List (Entry Followed)) (l : List Frame) (n : Failure) (i : ℕ) : Type 0 where
+pub record Stops (u : Setup) (k : ℕ) (st : List (Entry Followed)) (l : List Frame) (n i : ℕ) : Type 0 where
   pub m : ℕ
   pub at : i ≡ k + m
   pub inside : m < length l
   pub before : Passing (run gathering u (on k st) (take m l))
   pub there : run gathering u (on k st) (take (suc m) l) ≡ off n i
 
-pub off-same : (n : Failure) (i : ℕ) (n' : Failure) (i' : ℕ) → ◌≡◌ {A = Judging Followed} (off n i) (off n' i') → (n ≡ n') × (i ≡ i')
+pub off-same : (n i n' i' : ℕ) → ◌≡◌ {A = Judging Followed} (off n i) (off n' i') → (n ≡ n') × (i ≡ i')
 off-same n i n' i' e = (cc, cc)
 
-pub stops : (u : Setup) (l : List Frame) (k : ℕ) (st : List (Entry Followed)) (n : Failure) (i : ℕ) → run gathering u (on k st) l ≡ off n i → Stops u k st l n i
+pub stops : (u : Setup) (l : List Frame) (k : ℕ) (st : List (Entry Followed)) (n i : ℕ) → run gathering u (on k st) l ≡ off n i → Stops u k st l n i
 unfolding run
 stops u [] k st n i e = let z : ◌≡◌ {A = ℕ} 0 1 = cc in absurd (omega arith)
 stops u (f ∷ l) k st n i e = go (advance gathering u (on k st) f) refl (steps u k st f) e (λ st e. stops u l (suc k) st n i e)
@@ -136,7 +133,7 @@ stops u (f ∷ l) k st n i e = go (advance gathering u (on k st) f) refl (steps 
           there = ap (λ j. run gathering u j (take (suc t.m) l)) w ∙ t.there;
         }
 
-pub fail-off : (j : Judging Followed) (n : Failure) (i : ℕ) → verdict_of j ≡ fail n i → j ≡ off n i
+pub fail-off : (j : Judging Followed) (n i : ℕ) → verdict_of j ≡ fail n i → j ≡ off n i
 fail-off (on k st) n i e = let z : ◌≡◌ {A = ℕ} 0 1 = cc in absurd (omega arith)
 fail-off (off a k) n i e =
     let x : a ≡ n = cc in
@@ -144,12 +141,12 @@ fail-off (off a k) n i e =
     λ t. off (x t) (y t)
 
 module _ (u : Setup) (l : List Frame) (b : Bytes l) where
-  pub record StopsAt (n : Failure) (i : ℕ) : Type 0 where
+  pub record StopsAt (n i : ℕ) : Type 0 where
     pub inside : i < length l
     pub before : Passing (judgement u (take i l))
     pub there : judgement u (take (suc i) l) ≡ off n i
 
-  pub stops_at : (n : Failure) (i : ℕ) → judgement u l ≡ off n i → StopsAt n i
+  pub stops_at : (n i : ℕ) → judgement u l ≡ off n i → StopsAt n i
   stops_at n i e =
       let s : Stops u 0 [] l n i = stops u l 0 [] n i e in
       let w : s.m ≡ i = omega (arith, s.at) in
@@ -159,10 +156,10 @@ module _ (u : Setup) (l : List Frame) (b : Bytes l) where
         there = subst (λ m. judgement u (take (suc m) l) ≡ off n i) w s.there;
       }
 
-  not_there : (n : Failure) (i : ℕ) → StopsAt n i → Good u (take (suc i) l) → ⊥
+  not_there : (n i : ℕ) → StopsAt n i → Good u (take (suc i) l) → ⊥
   not_there n i s g = subst Passing s.there (good-passes u (take (suc i) l) g)
 
-  first-at : (n : Failure) (i : ℕ) → StopsAt n i → (i < length l) × (CouldPass u (take i l) × (CouldPass u (take (suc i) l) → ⊥))
+  first-at : (n i : ℕ) → StopsAt n i → (i < length l) × (CouldPass u (take i l) × (CouldPass u (take (suc i) l) → ⊥))
   first-at n i s = (
     s.inside,
     (
@@ -172,7 +169,7 @@ module _ (u : Setup) (l : List Frame) (b : Bytes l) where
   )
 
   -- two such frames are one
-  only : (n : Failure) (j i : ℕ) → StopsAt n j → CouldPass u (take i l) → (CouldPass u (take (suc i) l) → ⊥) → j ≡ i
+  only : (n j i : ℕ) → StopsAt n j → CouldPass u (take i l) → (CouldPass u (take (suc i) l) → ⊥) → j ≡ i
   only n j i s c x = go (ltb j i) refl (ltb i j) refl
     where
       go : (p : Bool) → ltb j i ≡ p → (q : Bool) → ltb i j ≡ q → j ≡ i
@@ -187,10 +184,10 @@ module _ (u : Setup) (l : List Frame) (b : Bytes l) where
           absurd (x (subst (CouldPass u) (take-take (suc i) j l h) (could-take u (take j l) (suc i) g)))
       go false e false r = omega (arith, ltb-false j i e, ltb-false i j r)
 
-  named-at : (i : ℕ) → CouldPass u (take i l) → (CouldPass u (take (suc i) l) → ⊥) → (n : Failure) × (verdict_of (judgement u l) ≡ fail n i)
+  named-at : (i : ℕ) → CouldPass u (take i l) → (CouldPass u (take (suc i) l) → ⊥) → (n : ℕ) × (verdict_of (judgement u l) ≡ fail n i)
   named-at i c x = go (judgement u l) refl
     where
-      go : (j : Judging Followed) → judgement u l ≡ j → (n : Failure) × (verdict_of j ≡ fail n i)
+      go : (j : Judging Followed) → judgement u l ≡ j → (n : ℕ) × (verdict_of j ≡ fail n i)
       go (on k st) e = absurd (x (could-take u l (suc i) (passes-good u l b (subst Passing (sym e) tt))))
       go (off n k) e = (n, ap (fail n) (only n k i (stops_at n k e) c x))
 

@@ -3,7 +3,6 @@
 use Rattle.std.specs.Prelude.{◌≡◌, Bool, true, ◌&&◌, ◌||◌, List, [], ◌∷◌, ◌++◌, ℕ, ◌+◌, ◌≤◌, ◌<◌, leb, eqb, length, get_or}
 use Rattle.std.proofs.Math.Option.{Option, none, some}
 use Rattle.bits.specs.Order.{Octets}
-use Rattle.rules.specs.Answer.{Refusal, wrong_id, wrong_length, nameless_service, wrong_tail, no_subscription}
 use Rattle.rules.specs.Check.{or_zero, large_id, bad_length, unnamed_service, bad_tail, not_subscribed, first}
 use Rattle.rules.specs.Condition3.{keep, All}
 use Rattle.rules.specs.Frame.{Frame, Stream, same_stream, stream_of, is_anonymous, tail_of, is_start, is_end, toggle_of}
@@ -104,16 +103,16 @@ pub record Sends (signature : ℕ) (d : Stream) (b : Option Before) (fs : List F
 
 -- RULES 19.3: the first of the receiver's frame checks (4.1) 2 to 5 and 7 that refuses a frame. There is no interface and no node that it is for, so
 -- neither 19 nor 6, and the setup's own ID is not looked at.
-unfoldable pub frame_check : Setup → Frame → Option Refusal
+unfoldable pub frame_check : Setup → Frame → Option ℕ
 frame_check u f =
-    first (record { holds = large_id f.id; gives = wrong_id } ∷
-    record { holds = bad_length (length f.bytes); gives = wrong_length } ∷
-    record { holds = unnamed_service (stream_of f.id); gives = nameless_service } ∷
+    first (record { holds = large_id f.id; number = 2 } ∷
+    record { holds = bad_length (length f.bytes); number = 3 } ∷
+    record { holds = unnamed_service (stream_of f.id); number = 4 } ∷
     record {
       holds = bad_tail (is_anonymous f.id) (is_start (tail_of f.bytes)) (is_end (tail_of f.bytes)) (toggle_of (tail_of f.bytes)) (length f.bytes);
-      gives = wrong_tail;
+      number = 5;
     } ∷
-    record { holds = not_subscribed u f; gives = no_subscription } ∷ [])
+    record { holds = not_subscribed u f; number = 7 } ∷ [])
 
 abbrev pub Checked : Setup → List Frame → Type 0
 Checked u l = All (λ f. frame_check u f ≡ none) l

@@ -8,7 +8,6 @@ use Rattle.rules.specs.Sent.{flag}
 use Rattle.rules.specs.Setup.{Setup}
 use Rattle.judge_rules.specs.Good.{frame_check, streams_in, Good, CouldPass}
 use Rattle.judge_rules.specs.Verdict.{pass, fail, verdict}
-use Rattle.judge_rules.specs.declared.failure.Failure.{Failure}
 
 -- every data byte is below 256
 abbrev pub Bytes : List Frame → Type 0
@@ -21,11 +20,11 @@ pub record JudgeLaws : Type 0 where
   pub beginning : (u : Setup) (l more : List Frame) → Bytes l → Good u (l ++ more) → Good u l
   pub could : (u : Setup) (l : List Frame) → Bytes l → CouldPass u l ↔ Good u l
   -- a failure names the first frame, counted from 0, after which no continuation could pass
-  pub first : (u : Setup) (l : List Frame) (n : Failure) (i : ℕ) → Bytes l → verdict u l ≡ fail n i
+  pub first : (u : Setup) (l : List Frame) (n i : ℕ) → Bytes l → verdict u l ≡ fail n i
       → (i < length l) × (CouldPass u (take i l) × (CouldPass u (take (suc i) l) → ⊥))
   -- and where there is such a frame, it is named
   pub named : (u : Setup) (l : List Frame) (i : ℕ) → Bytes l → i < length l → CouldPass u (take i l) → (CouldPass u (take (suc i) l) → ⊥)
-      → (n : Failure) × (verdict u l ≡ fail n i)
+      → (n : ℕ) × (verdict u l ≡ fail n i)
 
 -- ── two definitions read once more ──
 

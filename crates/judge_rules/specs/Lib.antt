@@ -1,5 +1,4 @@
 pub mod Limits
-pub mod Failure
 pub mod Good
 pub mod Verdict
 pub mod Laws

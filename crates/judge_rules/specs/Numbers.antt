@@ -1,20 +1,16 @@
--- RULES 19.7: what a failure means, by the transfers of Good.antt and not by what the pass keeps.
+-- RULES 19.7: the number of a failure, by the transfers of Good.antt and not by what the pass keeps.
 use Rattle.std.specs.Prelude.{◌≡◌, true, false, List, [], ◌∷◌, ◌++◌, ℕ, ◌*◌, ◌≤◌, ◌<◌, length, take}
 use Rattle.std.proofs.Math.Option.{none, some}
 use Rattle.bits.specs.Order.{odd}
-use Rattle.rules.specs.Answer.{Refusal}
 use Rattle.rules.specs.Frame.{Frame, Stream, stream_of, is_anonymous, tail_of, payload_of, is_start, is_end, toggle_of, transfer_of}
 use Rattle.rules.specs.Limits.{frame_payload, gathered_max}
 use Rattle.rules.specs.Sent.{carried, id_of}
 use Rattle.rules.specs.Session.{sum_ok}
 use Rattle.rules.specs.Setup.{Setup}
-use Rattle.judge_rules.specs.Failure.{refused_by}
 use Rattle.judge_rules.specs.Good.{Transfer, data_of, Series, all_frames, signature_of, frame_check, of_stream, streams_in, Good}
 use Rattle.judge_rules.specs.Laws.{Bytes}
 use Rattle.judge_rules.specs.Limits.{streams_max}
 use Rattle.judge_rules.specs.Verdict.{fail, verdict}
-use Rattle.judge_rules.specs.declared.failure.Failure.{Failure}
-use Rattle.judge_rules.specs.declared.failure.Failure.TheVariants.{TooManyStreams, TooLong, BadChecksum, OtherRule}
 
 -- it has more frames than are seen
 abbrev pub Cut : ℕ → Transfer → Type 0
@@ -57,21 +53,21 @@ pub record Counted (u : Setup) (a : List Frame) (f : Frame) : Type 0 where
   pub named : is_anonymous f.id ≡ false
   pub few : length (streams_in [] (a ++ f ∷ [])) ≤ streams_max
 
-pub data Reason (u : Setup) (a : List Frame) (f : Frame) : Failure → Type 0 where
+pub data Reason (u : Setup) (a : List Frame) (f : Frame) : ℕ → Type 0 where
   -- 2 to 5 and 7
-  check : {c : Refusal} → frame_check u f ≡ some c → Reason u a f (refused_by c)
-  stream : frame_check u f ≡ none → is_anonymous f.id ≡ false → streams_max < length (streams_in [] (a ++ f ∷ [])) → Reason u a f TooManyStreams
-  long : Counted u a f → (g : On u a f) → gathered_max < length (brought_with u f g.transfer) → Reason u a f TooLong
+  check : {n : ℕ} → frame_check u f ≡ some n → Reason u a f n
+  stream : frame_check u f ≡ none → is_anonymous f.id ≡ false → streams_max < length (streams_in [] (a ++ f ∷ [])) → Reason u a f 9
+  long : Counted u a f → (g : On u a f) → gathered_max < length (brought_with u f g.transfer) → Reason u a f 11
   differs : Counted u a f → (g : On u a f) → length (brought_with u f g.transfer) ≤ gathered_max → is_end (tail_of f.bytes) ≡ true
-      → (SumOk u f g.transfer → ⊥) → Reason u a f BadChecksum
-  -- neither of these
+      → (SumOk u f g.transfer → ⊥) → Reason u a f 12
+  -- neither 11 nor 12
   other : Counted u a f
       → ((g : On u a f) → (length (brought_with u f g.transfer) ≤ gathered_max) × (is_end (tail_of f.bytes) ≡ true → SumOk u f g.transfer))
-      → Reason u a f OtherRule
+      → Reason u a f 24
 
 pub record NumberLaws : Type 0 where
-  -- a failure has its reason at the frame that is named
-  pub reason : (u : Setup) (a : List Frame) (f : Frame) (more : List Frame) (n : Failure) → Bytes (a ++ f ∷ more) → verdict u (a ++ f ∷ more) ≡ fail n (length a)
+  -- a failure's number has its reason at the frame that is named
+  pub reason : (u : Setup) (a : List Frame) (f : Frame) (more : List Frame) (n : ℕ) → Bytes (a ++ f ∷ more) → verdict u (a ++ f ∷ more) ≡ fail n (length a)
       → Reason u a f n
-  -- and after a capture that passes there is a reason for one failure alone
-  pub only : (u : Setup) (a : List Frame) (f : Frame) (m n : Failure) → Good u a → Reason u a f m → Reason u a f n → m ≡ n
+  -- and after a capture that passes there is a reason for one number alone
+  pub only : (u : Setup) (a : List Frame) (f : Frame) (m n : ℕ) → Good u a → Reason u a f m → Reason u a f n → m ≡ n

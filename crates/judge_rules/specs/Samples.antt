@@ -5,9 +5,7 @@ use Rattle.rules.specs.Frame.{Frame}
 use Rattle.rules.specs.Sent.{frame_at}
 use Rattle.rules.specs.SentLaws.{opening}
 use Rattle.rules.specs.Setup.{Setup}
-use Rattle.answers.specs.declared.Refusal.TheVariants.{WrongId, WrongLength, NamelessService, WrongTail, NoSubscription}
 use Rattle.judge_rules.specs.Verdict.{Verdict, pass, fail, verdict}
-use Rattle.judge_rules.specs.declared.failure.Failure.TheVariants.{Refused, TooManyStreams, TooLong, BadChecksum, OtherRule}
 
 pub record Sample : Type 0 where
   pub frames : List Frame
@@ -101,42 +99,42 @@ samples =
     is [] pass ∷
     is (now a ∷ now b ∷ now (tail 0xC6) ∷ now (tail 0xC7) ∷ []) pass ∷
     is (now (tail 0xDF) ∷ now (tail 0xC0) ∷ []) pass ∷
-    is (now (tail 0xC5) ∷ now (tail 0xC7) ∷ []) (fail OtherRule 1) ∷
-    is (now a ∷ now b ∷ now a ∷ now b ∷ []) (fail OtherRule 2) ∷
+    is (now (tail 0xC5) ∷ now (tail 0xC7) ∷ []) (fail 24 1) ∷
+    is (now a ∷ now b ∷ now a ∷ now b ∷ []) (fail 24 2) ∷
     is (at 1 (tail 0xC5) ∷ at 2000001 (tail 0xC0) ∷ []) pass ∷
     is (at 1 (tail 0xC5) ∷ at 2000001 (tail 0xC6) ∷ []) pass ∷
-    is (at 1 (tail 0xC5) ∷ at 2000001 (tail 0xC7) ∷ []) (fail OtherRule 1) ∷
-    is (at 1 (tail 0xC5) ∷ at 2000000 (tail 0xC0) ∷ []) (fail OtherRule 1) ∷
-    is (at 3000000 (tail 0xC5) ∷ at 1 (tail 0xC0) ∷ []) (fail OtherRule 1) ∷
+    is (at 1 (tail 0xC5) ∷ at 2000001 (tail 0xC7) ∷ []) (fail 24 1) ∷
+    is (at 1 (tail 0xC5) ∷ at 2000000 (tail 0xC0) ∷ []) (fail 24 1) ∷
+    is (at 3000000 (tail 0xC5) ∷ at 1 (tail 0xC0) ∷ []) (fail 24 1) ∷
     is (at 0 c ∷ at 2000000 d ∷ at 2000000 e ∷ at 2000000 (tail 0xC0) ∷ []) pass ∷
-    is (at 0 c ∷ at 5000000 d ∷ at 0 e ∷ at 1999999 (tail 0xC0) ∷ []) (fail OtherRule 3) ∷
+    is (at 0 c ∷ at 5000000 d ∷ at 0 e ∷ at 1999999 (tail 0xC0) ∷ []) (fail 24 3) ∷
     is (now c ∷ now d ∷ []) pass ∷
-    is (now c ∷ now d ∷ now (tail 0xC6) ∷ []) (fail OtherRule 2) ∷
+    is (now c ∷ now d ∷ now (tail 0xC6) ∷ []) (fail 24 2) ∷
     is (now c ∷ by second c ∷ now d ∷ by second d ∷ now e ∷ []) pass ∷
-    is (now c ∷ now e ∷ []) (fail OtherRule 1) ∷
-    is (now c ∷ now stray ∷ now e ∷ []) (fail OtherRule 1) ∷
-    is (now d ∷ now e ∷ []) (fail OtherRule 0) ∷
-    is (now a ∷ now a ∷ now b ∷ now b ∷ []) (fail OtherRule 1) ∷
-    is (now c ∷ by urgent d ∷ now e ∷ []) (fail OtherRule 1) ∷
+    is (now c ∷ now e ∷ []) (fail 24 1) ∷
+    is (now c ∷ now stray ∷ now e ∷ []) (fail 24 1) ∷
+    is (now d ∷ now e ∷ []) (fail 24 0) ∷
+    is (now a ∷ now a ∷ now b ∷ now b ∷ []) (fail 24 1) ∷
+    is (now c ∷ by urgent d ∷ now e ∷ []) (fail 24 1) ∷
     is (now a ∷ now b ∷ by urgent (tail 0xC6) ∷ []) pass ∷
-    is (now a ∷ now other ∷ []) (fail BadChecksum 1) ∷
-    is (now a ∷ by urgent other ∷ []) (fail OtherRule 1) ∷
-    is (now f ∷ now g ∷ []) (fail OtherRule 1) ∷
-    is (now f ∷ now (5 ∷ 7 ∷ 0x65 ∷ []) ∷ []) (fail BadChecksum 1) ∷
-    is (by request (tail 0xC5) ∷ by request (tail 0xC5) ∷ []) (fail OtherRule 1) ∷
+    is (now a ∷ now other ∷ []) (fail 12 1) ∷
+    is (now a ∷ by urgent other ∷ []) (fail 24 1) ∷
+    is (now f ∷ now g ∷ []) (fail 24 1) ∷
+    is (now f ∷ now (5 ∷ 7 ∷ 0x65 ∷ []) ∷ []) (fail 12 1) ∷
+    is (by request (tail 0xC5) ∷ by request (tail 0xC5) ∷ []) (fail 24 1) ∷
     is (by response (tail 0xC5) ∷ by response (tail 0xC5) ∷ by response (tail 0xC0) ∷ []) pass ∷
-    is (now (tail 0xC5) ∷ by 0x3001552A (tail 0xC6) ∷ []) (fail (Refused WrongId) 1) ∷
-    is (now (tail 0xC5) ∷ now [] ∷ []) (fail (Refused WrongLength) 1) ∷
-    is (by 0x1001AA80 (tail 0xC5) ∷ []) (fail (Refused NamelessService) 0) ∷
-    is (now a ∷ now (tail 0x65) ∷ []) (fail (Refused WrongTail) 1) ∷
-    is (now (tail 0xC5) ∷ by 0x1001562A (tail 0xC5) ∷ []) (fail (Refused NoSubscription) 1) ∷
-    is (by 0x10010100 (tail 0xC5) ∷ now (tail 0xC5) ∷ []) (fail (Refused NoSubscription) 0) ∷
+    is (now (tail 0xC5) ∷ by 0x3001552A (tail 0xC6) ∷ []) (fail 2 1) ∷
+    is (now (tail 0xC5) ∷ now [] ∷ []) (fail 3 1) ∷
+    is (by 0x1001AA80 (tail 0xC5) ∷ []) (fail 4 0) ∷
+    is (now a ∷ now (tail 0x65) ∷ []) (fail 5 1) ∷
+    is (now (tail 0xC5) ∷ by 0x1001562A (tail 0xC5) ∷ []) (fail 7 1) ∷
+    is (by 0x10010100 (tail 0xC5) ∷ now (tail 0xC5) ∷ []) (fail 7 0) ∷
     is nodes pass ∷
-    is (nodes ++ by 0x10015541 (tail 0xC0) ∷ []) (fail TooManyStreams 64) ∷
-    is (nodes ++ by 0x10015541 e ∷ []) (fail TooManyStreams 64) ∷
+    is (nodes ++ by 0x10015541 (tail 0xC0) ∷ []) (fail 9 64) ∷
+    is (nodes ++ by 0x10015541 e ∷ []) (fail 9 64) ∷
     is (endless 72) pass ∷
-    is (endless 73) (fail TooLong 73) ∷
-    is (now a ∷ now (5 ∷ 6 ∷ 7 ∷ 0x65 ∷ 0 ∷ 0 ∷ 0 ∷ 0 ∷ 0 ∷ []) ∷ []) (fail (Refused WrongLength) 1) ∷ []
+    is (endless 73) (fail 11 73) ∷
+    is (now a ∷ now (5 ∷ 6 ∷ 7 ∷ 0x65 ∷ 0 ∷ 0 ∷ 0 ∷ 0 ∷ 0 ∷ []) ∷ []) (fail 3 1) ∷ []
 
 abbrev pub Samples : Type 0
 Samples = map (λ s. verdict setup s.frames) samples ≡ map (λ s. s.judged) samples

@@ -1,39 +1,34 @@
--- RULES 19.10: a run of our sender passes. Runs are stated over any sender: the rules' map here, lent bytes in the crate `judge_sender`.
-use Rattle.std.specs.Prelude.{◌≡◌, true, List, [], ◌∷◌, ◌++◌, ℕ, ◌≤◌, eqb, length}
+-- RULES 19.10: a run of our sender passes.
+use Rattle.std.specs.Prelude.{◌≡◌, true, List, [], ◌∷◌, ◌++◌, ℕ, ◌≤◌, length}
 use Rattle.std.proofs.Math.Option.{some}
 use Rattle.bits.specs.Order.{Octets}
 use Rattle.bits.specs.Tabulate.{tabulate}
 use Rattle.rules.specs.Frame.{Frame}
 use Rattle.rules.specs.Map.{Map, sound}
-use Rattle.rules.specs.Sending.{Call, stream_of, Step, number_of, frames_of, send_step}
+use Rattle.rules.specs.Sending.{Call, stream_of, Step, frames_of, send_step}
 use Rattle.rules.specs.SendingLaws.{frame_in}
 use Rattle.rules.specs.Setup.{Setup, subscribed, kind_of}
-use Rattle.rules.specs.Tests.{pick}
 use Rattle.judge_rules.specs.Good.{Good, streams_in}
 use Rattle.judge_rules.specs.Laws.{Bytes}
 use Rattle.judge_rules.specs.Limits.{streams_max}
 use Rattle.judge_rules.specs.Verdict.{pass, verdict}
 
--- a call (RULES 7.1), and the output buffer that it is lent
+-- a call (RULES 7.1), and how many bytes its output has
 pub record Send : Type 0 where
   pub call : Call
-  pub out : List ℕ
+  pub room : ℕ
 
--- what a call gives on a state S: its number, the frames of the records that it writes, and the state for the next call
-pub record Gives (S : Type 0) : Type 0 where
-  pub number : ℕ
-  pub frames : List Frame
-  pub state : S
+abbrev pub done : Map → Send → Step
+done m s = send_step s.call m s.room
 
--- the frames of n records at the front of a buffer, at the call's time
-abbrev pub recorded : ℕ → List ℕ → ℕ → List Frame
-recorded time records n = tabulate (frame_in records time) 0 n
+-- the frames of the records that a call writes, at its time; a refused call writes none (RULES 7.6)
+abbrev pub recorded : ℕ → Step → List Frame
+recorded time o = tabulate (frame_in o.records time) 0 (frames_of o.answer)
 
--- ── a run of calls, each on the state that the last one left ──
-
-unfoldable pub sent_from : {S : Type 0} → (S → Send → Gives S) → S → List Send → List Frame
-sent_from sender m [] = []
-sent_from sender m (s ∷ more) = (sender m s).frames ++ sent_from sender (sender m s).state more
+-- each call gets the map that the last one left
+unfoldable pub sent_from : Map → List Send → List Frame
+sent_from m [] = []
+sent_from m (s ∷ more) = recorded s.call.time (done m s) ++ sent_from (done m s).map more
 
 -- a call after one at the time t
 pub record Proper (u : Setup) (own t : ℕ) (c : Call) : Type 0 where
@@ -43,30 +38,18 @@ pub record Proper (u : Setup) (own t : ℕ) (c : Call) : Type 0 where
   pub type : subscribed (kind_of (stream_of c)) c.type u.subscriptions ≡ some c.signature
   pub bytes : Octets c.payload
 
--- the time of the last call that was answered 0, where t was that of the one before
-abbrev pub last_time : ℕ → ℕ → Call → ℕ
-last_time number t c = pick (eqb number 0) c.time t
+abbrev pub Orderly : Setup → ℕ → ℕ → List Send → Type 0
+Orderly u own t [] = Unit {0}
+Orderly u own t (s ∷ more) = Proper u own t s.call × Orderly u own s.call.time more
 
--- of a call that is refused nothing is asked
-abbrev pub Orderly : {S : Type 0} → (S → Send → Gives S) → Setup → ℕ → ℕ → S → List Send → Type 0
-Orderly sender u own t m [] = Unit {0}
-Orderly sender u own t m (s ∷ more) =
-    ((sender m s).number ≡ 0 → Proper u own t s.call) × Orderly sender u own (last_time (sender m s).number t s.call) (sender m s).state more
+-- what is asked of a run; calls that are refused are calls too
+pub record Run (u : Setup) (own : ℕ) (m : Map) (l : List Send) : Type 0 where
+  -- the first map has no fault (RULES 8.5)
+  pub map : sound m ≡ true
+  pub calls : Orderly u own 0 l
+  pub few : length (streams_in [] (sent_from m l)) ≤ streams_max
 
-pub record Run {S : Type 0} (sender : S → Send → Gives S) (u : Setup) (own : ℕ) (m : S) (l : List Send) : Type 0 where
-  pub calls : Orderly sender u own 0 m l
-  pub few : length (streams_in [] (sent_from sender m l)) ≤ streams_max
-
--- ── by the rules ──
-
-abbrev pub given : ℕ → Step → Gives Map
-given time o = record { number = number_of o.answer; frames = recorded time o.records (frames_of o.answer); state = o.map }
-
-abbrev pub by_rules : Map → Send → Gives Map
-by_rules m s = given s.call.time (send_step s.call m (length s.out))
-
--- from a map without a fault (RULES 8.5)
 pub record SenderPasses : Type 0 where
-  pub good : (u : Setup) (own : ℕ) (m : Map) (l : List Send) → sound m ≡ true → Run by_rules u own m l → Good u (sent_from by_rules m l)
-  pub passes : (u : Setup) (own : ℕ) (m : Map) (l : List Send) → sound m ≡ true → Run by_rules u own m l → verdict u (sent_from by_rules m l) ≡ pass
-  pub bytes : (u : Setup) (own : ℕ) (m : Map) (l : List Send) → sound m ≡ true → Run by_rules u own m l → Bytes (sent_from by_rules m l)
+  pub good : (u : Setup) (own : ℕ) (m : Map) (l : List Send) → Run u own m l → Good u (sent_from m l)
+  pub passes : (u : Setup) (own : ℕ) (m : Map) (l : List Send) → Run u own m l → verdict u (sent_from m l) ≡ pass
+  pub bytes : (u : Setup) (own : ℕ) (m : Map) (l : List Send) → Run u own m l → Bytes (sent_from m l)

@@ -1,5 +1,4 @@
 // Checking a sender by its capture (RULES 19) as definitions, in specs/. The functions here have no body: each one's contract is a theorem about them.
-pub mod failure;
 pub mod limits;
 
 ghost use Rattle.judge_rules.specs.Laws.{JudgeLaws, Readings};

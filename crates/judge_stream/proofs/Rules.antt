@@ -17,7 +17,6 @@ use Rattle.rules.specs.Tests.{pick, same_bool}
 use Rattle.judge_rules.specs.inside.Brief.{Brief, rests, front, starts_in, grows_to, goes_on}
 use Rattle.judge_rules.specs.Good.{may_follow}
 use Rattle.judge_rules.specs.Verdict.{Next, goes, continues}
-use Rattle.judge_rules.specs.declared.failure.Failure.TheVariants.{TooLong, BadChecksum, OtherRule}
 use Rattle.judge_stream.specs.inside.Kept.{before_of, brief_in, stream_of, seen_of, resting, Opens, Grows, Follows}
 use Rattle.judge_stream.specs.declared.Kept.{Kept}
 use Rattle.judge_stream.specs.declared.Seen.{Seen}
@@ -93,12 +92,12 @@ module _ (signature : ℕ) (v : Seen) (p : List ℕ) (full : length p ≡ 7) whe
 -- ── a transfer that grows ──
 
 module _ (k : Kept) (n register : ℕ) (last : Bool) where
-  pub too_long : 514 < n → Grows k n register last (Refuses TooLong)
+  pub too_long : 514 < n → Grows k n register last (Refuses 11)
   unfolding grows_to
   too_long h = record { next = rw (lt-ltb 514 n h); keeps = tt }
 
   module _ (h : n ≤ 514) where
-    pub too_short : last ≡ true → k.sum ≡ register → n ≤ 9 → Grows k n register last (Refuses OtherRule)
+    pub too_short : last ≡ true → k.sum ≡ register → n ≤ 9 → Grows k n register last (Refuses 24)
     unfolding grows_to
     too_short l e m = record { next = rw (le-ltb 514 n h, l, eq-eqb k.sum register e, le-leb n 9 m); keeps = tt }
 
@@ -110,7 +109,7 @@ module _ (k : Kept) (n register : ℕ) (last : Bool) where
           keeps = (refl, record { transfer = t; count = omega arith });
         }
 
-    pub differs : last ≡ true → (k.sum ≡ register → ⊥) → Grows k n register last (Refuses BadChecksum)
+    pub differs : last ≡ true → (k.sum ≡ register → ⊥) → Grows k n register last (Refuses 12)
     unfolding grows_to
     differs l e = record { next = rw (le-ltb 514 n h, l, ne_eqb k.sum register e); keeps = tt }
 
@@ -146,7 +145,7 @@ module _ (signature : ℕ) (v : Seen) (p : List ℕ) where
   unfolding goes_on starts_in seen_of
   begun s k o = record { next = ap goes o.brief ∙ rw s; keeps = o.keeps }
 
-  pub not-begun : v.head.start ≡ false → Follows signature (rests none) v p (Refuses OtherRule)
+  pub not-begun : v.head.start ≡ false → Follows signature (rests none) v p (Refuses 24)
   unfolding goes_on starts_in seen_of
   not-begun s = record { next = rw s; keeps = tt }
 
@@ -158,7 +157,7 @@ module _ (signature : ℕ) (v : Seen) (p : List ℕ) where
     unfolding goes_on starts_in brief_in seen_of
     restarted z f r o = record { next = o.next ∙ rw (eq-eqb k.count 0 z, sym f); keeps = o.keeps }
 
-    pub not-next : k.count ≡ 0 → false ≡ follows → Follows signature (brief_in k) v p (Refuses OtherRule)
+    pub not-next : k.count ≡ 0 → false ≡ follows → Follows signature (brief_in k) v p (Refuses 24)
     unfolding goes_on starts_in brief_in seen_of
     not-next z f = record { next = rw (eq-eqb k.count 0 z, sym f) (neither v.head.start _); keeps = tt }
 
@@ -171,6 +170,6 @@ module _ (signature : ℕ) (v : Seen) (p : List ℕ) where
           keeps = rw (same_id k v g) at o.keeps;
         }
 
-    pub not-grown : (k.count ≡ 0 → ⊥) → false ≡ onward k v → Follows signature (brief_in k) v p (Refuses OtherRule)
+    pub not-grown : (k.count ≡ 0 → ⊥) → false ≡ onward k v → Follows signature (brief_in k) v p (Refuses 24)
     unfolding goes_on brief_in seen_of
     not-grown z g = record { next = rw (ne_eqb k.count 0 z) (not-both _ _ v.head.start _ g); keeps = tt }

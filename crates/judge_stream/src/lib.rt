@@ -8,7 +8,6 @@ ghost use Rattle.rules.specs.Limits.{unused_age};
 ghost use Rattle.judge_stream.specs.inside.Kept.{before_of, brief_in, stream_of, seen_of, resting, Passed, InRange, Opens, Grows, Follows};
 
 use frame::head::Head;
-use judge_rules::failure::Failure;
 use rules::limits::{FRAME_PAYLOAD, GATHERED, UNUSED_AGE};
 
 // What is kept of a stream: the ID, the start's time and the transfer ID of its last transfer. Of one that is not over yet, the next toggle, how many
@@ -32,11 +31,11 @@ pub struct Seen {
     pub head: Head,
 }
 
-// What is kept after a frame, or what is wrong with it.
+// What is kept after a frame, or the number of its refusal.
 #[derive(Drop)]
 pub enum Step {
     Goes(Kept),
-    Refuses(Failure),
+    Refuses(u8),
 }
 
 // So long after the last start that an ID may be 0. An earlier time is not after.
@@ -122,16 +121,16 @@ fn grow(k: Kept, count: usize, register: u16, last: bool) -> Step
     ensures { Grows k count register last result }
 {
     if GATHERED < count {
-        return Step::Refuses(Failure::TooLong);
+        return Step::Refuses(11);
     }
     if last {
         if k.sum == register {
             if count <= FRAME_PAYLOAD + 2 {
-                return Step::Refuses(Failure::OtherRule);
+                return Step::Refuses(24);
             }
             return Step::Goes(rest(k.id, k.since, k.transfer));
         }
-        return Step::Refuses(Failure::BadChecksum);
+        return Step::Refuses(12);
     }
     Step::Goes(Kept {
         id: k.id,
@@ -152,7 +151,7 @@ pub fn begin(signature: u64, v: Seen, p: &[u8]) -> Step
     if v.head.start {
         return Step::Goes(open(signature, v, p));
     }
-    Step::Refuses(Failure::OtherRule)
+    Step::Refuses(24)
 }
 
 // Internal. One frame more of a stream, with this payload.
@@ -164,12 +163,12 @@ pub fn follow(signature: u64, k: Kept, v: Seen, p: &[u8]) -> Step
         if may_follow(k, v) {
             return begin(signature, v, p);
         }
-        return Step::Refuses(Failure::OtherRule);
+        return Step::Refuses(24);
     }
     if continues(k, v) {
         let count = k.count + p.len();
         let register = checksum::crc16::over(k.register, p);
         return grow(k, count, register, v.head.end);
     }
-    Step::Refuses(Failure::OtherRule)
+    Step::Refuses(24)
 }

@@ -8,7 +8,6 @@ use borrow.Author.Tests.{le-ltb, lt-ltb}
 use lib.ListN.{length, get_or}
 use Rattle.judge_rules.specs.Good.{add}
 use Rattle.judge_rules.specs.Limits.{streams_max}
-use Rattle.judge_rules.specs.declared.failure.Failure.TheVariants.{TooManyStreams}
 use Rattle.judge_rules.specs.Verdict.{Entry, streams, state_of, put, on, entered}
 use Rattle.judge_rules.specs.inside.Brief.{Brief, rests}
 use Rattle.judge_stream.specs.inside.Kept.{brief_in, stream_of, seen_of, Follows}
@@ -56,7 +55,7 @@ module _ (signature : ℕ) (t : List ℕ) (v : Seen) (p : List ℕ) (ok : Table 
         (λ k t' w e. rw x.stream (known-put t v.id x.named j f l k t' ok w e))
 
     module _ (l : get_or t count_at 0 ≤ j) where
-      pub full : streams_max ≤ get_or t count_at 0 → Turns (entering signature (stream_of v) st (seen_of v p)) t (Off TooManyStreams) t
+      pub full : streams_max ≤ get_or t count_at 0 → Turns (entering signature (stream_of v) st (seen_of v p)) t (Off 9) t
       full h =
           record {
             next =

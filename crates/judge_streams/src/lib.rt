@@ -9,7 +9,6 @@ ghost use Rattle.judge_streams.specs.inside.Table.{table_size, kept_of, kept_at,
 ghost use Rattle.rules.specs.Frame.{is_anonymous};
 ghost use Rattle.rules.specs.Frame as rules;
 
-use judge_rules::failure::Failure;
 use judge_rules::limits::STREAMS;
 use judge_stream::{Kept, Seen, Step};
 
@@ -25,11 +24,11 @@ const STARTS_AT: usize = 1 + STREAMS;
 
 const PROGRESS_AT: usize = 1 + 2 * STREAMS;
 
-// What a frame does: nothing is wrong so far, or something is with this one.
+// What a frame does: nothing is wrong so far, or the number that it fails with.
 #[derive(Drop)]
 pub enum Turn {
     On,
-    Off(Failure),
+    Off(u8),
 }
 
 // What is kept of a stream when a frame of it comes.
@@ -104,7 +103,7 @@ fn put(table: &mut [u64; SIZE], j: usize, n: usize, s: Step) -> Turn
             store(table, j, n, k);
             Turn::On
         }
-        Step::Refuses(failure) => Turn::Off(failure),
+        Step::Refuses(number) => Turn::Off(number),
     }
 }
 
@@ -120,7 +119,7 @@ pub fn enter(table: &mut [u64; SIZE], signature: u64, v: Seen, p: &[u8]) -> Turn
         return put(table, j, n, s);
     }
     if STREAMS <= n {
-        return Turn::Off(Failure::TooManyStreams);
+        return Turn::Off(9);
     }
     let s = judge_stream::begin(signature, v, p);
     put(table, n, n + 1, s)

@@ -9,7 +9,7 @@ use lib.Dec.{ltb, leb, eqb, lit≤}
 use lib.IntN.{ℤ, pos}
 use lib.ListN.{length, get_or}
 use Rattle.shape.specs.Answer.{refused, refuse_if}
-use Rattle.shape.specs.Shape.{Shape, Values, tags, fits, encoded}
+use Rattle.shape.specs.Shape.{Shape, Values, all_below, tags, fits, encoded}
 use Rattle.shape.proofs.Fields.{and_left, and_right}
 use Rattle.protocol_param.specs.Value.{union, value_values, value_of_tag}
 use Rattle.protocol_param.specs.GetSetRequest.{name_only, request}
@@ -43,7 +43,7 @@ module _ (n : ℕ) (d : Shape) (rest : Values d) (text : List ℕ) where
   no-rest (Integer z) e = e
   no-rest (Real x) e = rw e (and_no (ltb x (2 ^ 32)))
   no-rest (Boolean z) e = e
-  no-rest Text e = rw e (and_no (leb (length text) 128))
+  no-rest Text e = rw (e, and_no (all_below 256 text)) (and_no (leb (length text) 128))
   no-rest Unknown e = e
 
   no-real : (x : ℕ) → 2 ^ 32 ≤ x → fits (union n d) (value_values (Real x) text n d rest) ≡ false

@@ -19,7 +19,7 @@ use Rattle.row.proofs.Rows.{both}
 
 -- ── reading ──
 
-pub two : (v : Value) (l : List ℕ) → get_or (value_words v) 0 0 ∷ get_or (value_words v) 1 0 ∷ l ≡ value_words v ++ l
+two : (v : Value) (l : List ℕ) → get_or (value_words v) 0 0 ∷ get_or (value_words v) 1 0 ∷ l ≡ value_words v ++ l
 two Empty l = refl
 two (Integer z) l = refl
 two (Real x) l = refl

@@ -2,8 +2,7 @@
 use Rattle.std.specs.Prelude.{not, List, [], ◌∷◌, ◌++◌, ℕ, ◌^◌, take, get_or}
 use Rattle.binary16.specs.Convert.{widened, narrowed}
 use Rattle.shape.specs.Answer.{Answer, refuse_if, map_answer}
-use Rattle.shape.specs.Cast.{unsigned}
-use Rattle.shape.specs.Shape.{Values, all_held, encoded}
+use Rattle.shape.specs.Shape.{all_below, encoded}
 use Rattle.shape.specs.declared.answer.Place.{Place}
 use Rattle.equipment_power.specs.BatteryInfo.{name_only, battery_info, raw_values, raw_in}
 use Rattle.equipment_power.specs.declared.battery_info.Raw.{Raw}
@@ -43,10 +42,7 @@ info_from ws =
       model_instance_id = count_at ws 12;
     }
 
-abbrev pub info_given : List ℕ → List ℕ → Values battery_info
-info_given ws name = raw_values (info_from ws) name_only name
-
 -- 17 for a float of 2^32 or more, which is none
 abbrev pub info_made : List ℕ → List ℕ → ℕ → Answer (List ℕ)
 info_made ws name room =
-    given 15 ws (refuse_if (not (all_held unsigned 32 (take 7 ws))) 17 (encoded battery_info (info_given ws name) room))
+    given 15 ws (refuse_if (not (all_below (2 ^ 32) (take 7 ws))) 17 (encoded battery_info (raw_values (info_from ws) name_only name) room))

@@ -51,8 +51,6 @@ numbers_from ws =
       hardware_version_minor = count_at ws 11;
     }
 
-abbrev pub response_given : List ℕ → List ℕ → List ℕ → List ℕ → Values response
-response_given ws unique certificate name = number_values (numbers_from ws) lists (unique, (certificate, name))
-
 abbrev pub response_made : List ℕ → List ℕ → List ℕ → List ℕ → ℕ → Answer (List ℕ)
-response_made ws unique certificate name room = given 18 ws (encoded response (response_given ws unique certificate name) room)
+response_made ws unique certificate name room =
+    given 18 ws (encoded response (number_values (numbers_from ws) lists (unique, (certificate, name))) room)

@@ -1,7 +1,7 @@
 -- RULES 13.5, 10.11 to 10.13: the value of a parameter, and GetSet's request and response, as rows.
 use Rattle.std.specs.Prelude.{List, [], ◌∷◌, ◌++◌, ℕ, ◌+◌, get_or}
 use Rattle.shape.specs.Answer.{Answer, map_answer}
-use Rattle.shape.specs.Shape.{Values, decoded, encoded}
+use Rattle.shape.specs.Shape.{decoded, encoded}
 use Rattle.protocol_param.specs.Value.{value_of_tag, value_values}
 use Rattle.protocol_param.specs.GetSetRequest.{name_only, request, request_of}
 use Rattle.protocol_param.specs.GetSetResponse.{response, response_of, response_values}
@@ -33,11 +33,8 @@ request_words x = word x.index ∷ (value_words x.value ++ place_words x.string_
 abbrev pub request_in : List ℕ → Answer (List ℕ)
 request_in p = map_answer request_words (map_answer request_of (decoded request p))
 
-abbrev pub request_given : List ℕ → List ℕ → List ℕ → Values request
-request_given ws text name = (count_at ws 0, value_values (value_from ws 1) text 5 name_only name)
-
 abbrev pub request_made : List ℕ → List ℕ → List ℕ → ℕ → Answer (List ℕ)
-request_made ws text name room = given 7 ws (encoded request (request_given ws text name) room)
+request_made ws text name room = given 7 ws (encoded request (count_at ws 0, value_values (value_from ws 1) text 5 name_only name) room)
 
 -- ── response ──
 
@@ -50,8 +47,6 @@ response_words x =
 abbrev pub response_in : List ℕ → Answer (List ℕ)
 response_in p = map_answer response_words (map_answer response_of (decoded response p))
 
-abbrev pub response_given : List ℕ → List ℕ → List ℕ → List ℕ → Values response
-response_given ws text other name = response_values (value_from ws 0) text (value_from ws 4) other (value_from ws 8) (value_from ws 10) name
-
 abbrev pub response_made : List ℕ → List ℕ → List ℕ → List ℕ → ℕ → Answer (List ℕ)
-response_made ws text other name room = given 14 ws (encoded response (response_given ws text other name) room)
+response_made ws text other name room =
+    given 14 ws (encoded response (response_values (value_from ws 0) text (value_from ws 4) other (value_from ws 8) (value_from ws 10) name) room)

@@ -7,6 +7,4 @@ pub mod BatteryInfo
 pub mod RawCommand
 pub mod GetSet
 pub mod ExecuteOpcode
-pub mod Places
-pub mod Laws
 pub mod inside

@@ -1,7 +1,7 @@
 -- RULES 13.5, 10.2: NodeStatus as a row.
 use Rattle.std.specs.Prelude.{List, [], ◌∷◌, ℕ}
 use Rattle.shape.specs.Answer.{Answer, map_answer}
-use Rattle.shape.specs.Shape.{end, Values, decoded, encoded}
+use Rattle.shape.specs.Shape.{end, decoded, encoded}
 use Rattle.protocol.specs.NodeStatus.{node_status, status_of, status_values}
 use Rattle.protocol.specs.declared.node_status.NodeStatus.{NodeStatus}
 use Rattle.row.specs.Row.{word, count_at, given}
@@ -23,8 +23,5 @@ status_from ws =
 abbrev pub status_in : List ℕ → Answer (List ℕ)
 status_in p = map_answer status_words (map_answer (status_of end) (decoded node_status p))
 
-abbrev pub status_given : List ℕ → Values node_status
-status_given ws = status_values (status_from ws) end tt
-
 abbrev pub status_made : List ℕ → ℕ → Answer (List ℕ)
-status_made ws room = given 5 ws (encoded node_status (status_given ws) room)
+status_made ws room = given 5 ws (encoded node_status (status_values (status_from ws) end tt) room)

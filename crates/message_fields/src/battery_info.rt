@@ -1,8 +1,7 @@
 // BatteryInfo as a row of 15 (RULES 10.9), each float as the 32 bits of a binary32 (RULES 9.12).
 ghost use Rattle.std.specs.Prelude.{◌≡◌, true, ◌^◌, ◌≤◌, ◌<◌, length, take, get_or};
 ghost use Rattle.binary16.specs.Convert.{widened, narrowed};
-ghost use Rattle.shape.specs.Cast.{unsigned};
-ghost use Rattle.shape.specs.Shape.{all_held};
+ghost use Rattle.shape.specs.Shape.{all_below};
 ghost use Rattle.row.specs.Row as form;
 ghost use Rattle.message_fields.specs.BatteryInfo.{info_words, info_in, info_from, info_made};
 
@@ -55,7 +54,7 @@ pub fn decode(payload: &[u8], fields: &mut [u64]) -> u32
 // The first seven words are floats.
 fn are_floats(fields: &[u64]) -> bool
     requires { 15 ≤ length fields.now }
-    ensures { result ≡ all_held unsigned 32 (take 7 fields.now) }
+    ensures { result ≡ all_below (2 ^ 32) (take 7 fields.now) }
 {
     let mut i = 0;
     while i < 7 {
@@ -69,14 +68,14 @@ fn are_floats(fields: &[u64]) -> bool
 
 // A float of the row as its nearest binary16.
 fn half(fields: &[u64], i: usize) -> u16
-    requires { (i < 7) × ((15 ≤ length fields.now) × (all_held unsigned 32 (take 7 fields.now) ≡ true)) }
+    requires { (i < 7) × ((15 ≤ length fields.now) × (all_below (2 ^ 32) (take 7 fields.now) ≡ true)) }
     ensures { result ≡ narrowed (get_or fields.now i 0) }
 {
     pattern::narrow(fields[i] as u32)
 }
 
 fn from(fields: &[u64]) -> Raw
-    requires { (15 ≤ length fields.now) × (all_held unsigned 32 (take 7 fields.now) ≡ true) }
+    requires { (15 ≤ length fields.now) × (all_below (2 ^ 32) (take 7 fields.now) ≡ true) }
     ensures { result ≡ info_from fields.now }
 {
     Raw {

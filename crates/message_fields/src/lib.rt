@@ -9,7 +9,6 @@ pub mod get_node_info_response;
 pub mod get_set_request;
 pub mod get_set_response;
 pub mod key_value;
-pub mod laws;
 pub mod log_message;
 pub mod node_status;
 mod param_value;

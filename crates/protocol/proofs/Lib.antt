@@ -2,4 +2,4 @@ mod NodeStatusFacts
 mod NameFacts
 mod ResponseReadFacts
 mod ResponseWriteFacts
-pub mod Trips
+mod Trips

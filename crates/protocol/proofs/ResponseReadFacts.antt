@@ -15,7 +15,7 @@ use Rattle.bits.proofs.Bytes.{length-unpack, drop-unpack}
 use Rattle.bits.proofs.Numbers.{from_bits-lt}
 use Rattle.bits.proofs.Octets.{octets-drop}
 use Rattle.shape.specs.Answer.{refused, got, numbered, map_answer}
-use Rattle.shape.specs.Shape.{Shape, byte_list, byte_tail, Values, decode, decoded}
+use Rattle.shape.specs.Shape.{Shape, list, tail, Values, decode, decoded}
 use Rattle.shape.proofs.Reading.{Slot, value, same, gap, with_head, head-short, head_bytes, refused-on, got-on, never, items-short, items-read, list-none, list-short, list_read, tail-long, tail-not, tail-got}
 use Rattle.shape.proofs.Reading as reading
 use Rattle.protocol.specs.NodeStatus.{status_at}
@@ -30,10 +30,10 @@ head =
     value 32 ∷ value 2 ∷ value 3 ∷ gap 3 ∷ value 16 ∷ value 8 ∷ value 8 ∷ value 8 ∷ value 32 ∷ same 64 ∷ value 8 ∷ value 8 ∷ []
 
 abbrev named : Shape
-named = byte_tail 80 is_name
+named = tail 8 80 is_name
 
 abbrev certified : Shape
-certified = byte_list 255 named
+certified = list 8 255 named
 
 pub eight : width_of 255 ≡ 8
 unfolding width_of width_in

@@ -11,10 +11,9 @@ use Rattle.bits.specs.Order.{Octets, unpack, to_bits, store}
 use Rattle.bits.specs.Width.{width_of}
 use Rattle.bits.proofs.Bytes.{length-unpack}
 use Rattle.bits.proofs.Numbers.{length-to_bits}
-use Rattle.shape.specs.Cast.{unsigned, saturated}
-use Rattle.shape.specs.Shape.{Shape, end, Values, clipped_items, encode, fits}
+use Rattle.shape.specs.Shape.{Shape, end, Values, all_below, encode, fits}
 use Rattle.shape.proofs.Fields.{and_left, and_right, length-item_bits}
-use Rattle.shape.proofs.Writing.{more, more-from, item-bytes, bytes_same}
+use Rattle.shape.proofs.Writing.{more, more-from, item-bytes, all-bytes}
 use Rattle.shape.proofs.CastFacts.{cast}
 use Rattle.protocol.specs.NodeStatus.{node_status, status_then, status_values}
 use Rattle.protocol.specs.declared.node_status.NodeStatus.{NodeStatus}
@@ -105,23 +104,23 @@ module _ (u c n : List ℕ) where
   size-lists h = simp (length-append, length-to_bits, length-item_bits) (omega (arith, eight))
 
   lists-are : fits lists (u, (c, n)) ≡ eqb (length u) 16 &&
-      (leb (length c) 255 && (leb (length n) 80 && is_name (clipped_items unsigned saturated 8 n)))
+      (all_below 256 u && (leb (length c) 255 && (all_below 256 c && (leb (length n) 80 && (all_below 256 n && is_name n)))))
   unfolding fits
   lists-are = refl
 
   pub no-id : (length u ≡ 16 → ⊥) → false ≡ fits lists (u, (c, n))
   no-id h = sym (lists-are ∙ rw (ne_eqb (length u) 16 h))
 
-  module _ (h : length u ≡ 16) where
+  module _ (ou : Octets u) (h : length u ≡ 16) where
     pub no-certificate : 255 < length c → false ≡ fits lists (u, (c, n))
-    no-certificate k = sym (lists-are ∙ rw (eq-eqb (length u) 16 h, lt-leb (length c) 255 k))
+    no-certificate k = sym (lists-are ∙ rw (eq-eqb (length u) 16 h, all-bytes u ou, lt-leb (length c) 255 k))
 
-    module _ (k : length c ≤ 255) where
+    module _ (oc : Octets c) (k : length c ≤ 255) where
       pub no_name : 80 < length n → false ≡ fits lists (u, (c, n))
-      no_name l = sym (lists-are ∙ rw (eq-eqb (length u) 16 h, le-leb (length c) 255 k, lt-leb (length n) 80 l))
+      no_name l = sym (lists-are ∙ rw (eq-eqb (length u) 16 h, all-bytes u ou, le-leb (length c) 255 k, all-bytes c oc, lt-leb (length n) 80 l))
 
       pub by_name : Octets n → length n ≤ 80 → is_name n ≡ fits lists (u, (c, n))
-      by_name on l = sym (lists-are ∙ rw (eq-eqb (length u) 16 h, le-leb (length c) 255 k, le-leb (length n) 80 l, bytes_same n on))
+      by_name on l = sym (lists-are ∙ rw (eq-eqb (length u) 16 h, all-bytes u ou, le-leb (length c) 255 k, all-bytes c oc, le-leb (length n) 80 l, all-bytes n on))
 
   -- what lists that fit tell
   pub record Sizes : Type 0 where
@@ -132,21 +131,23 @@ module _ (u c n : List ℕ) where
   pub sizes : fits lists (u, (c, n)) ≡ true → Sizes
   sizes e =
       let f₁ = sym lists-are ∙ e in
-      let named = is_name (clipped_items unsigned saturated 8 n) in
-      let f₂ = and_right (eqb (length u) 16) (leb (length c) 255 && (leb (length n) 80 && named)) f₁ in
-      let f₃ = and_right (leb (length c) 255) (leb (length n) 80 && named) f₂ in
+      let f₂ = and_right (all_below 256 u) (leb (length c) 255 && (all_below 256 c && (leb (length n) 80 && (all_below 256 n && is_name n))))
+      (and_right (eqb (length u) 16) (all_below 256 u && (leb (length c) 255 && (all_below 256 c && (leb (length n) 80 && (all_below 256 n && is_name n))))) f₁) in
+      let f₃ = and_right (all_below 256 c) (leb (length n) 80 && (all_below 256 n && is_name n))
+      (and_right (leb (length c) 255) (all_below 256 c && (leb (length n) 80 && (all_below 256 n && is_name n))) f₂) in
       record {
-        id = eqb-true (length u) 16 (and_left (eqb (length u) 16) (leb (length c) 255 && (leb (length n) 80 && named)) f₁);
-        certificate = leb-true (length c) 255 (and_left (leb (length c) 255) (leb (length n) 80 && named) f₂);
-        name = leb-true (length n) 80 (and_left (leb (length n) 80) named f₃);
+        id = eqb-true (length u) 16
+            (and_left (eqb (length u) 16) (all_below 256 u && (leb (length c) 255 && (all_below 256 c && (leb (length n) 80 && (all_below 256 n && is_name n))))) f₁);
+        certificate = leb-true (length c) 255 (and_left (leb (length c) 255) (all_below 256 c && (leb (length n) 80 && (all_below 256 n && is_name n))) f₂);
+        name = leb-true (length n) 80 (and_left (leb (length n) 80) (all_below 256 n && is_name n) f₃);
       }
 
   -- w: the width that the code works out
-  pub stored-lists : Octets u → Octets c → Octets n → (w : ℕ) → w ≡ width_of 255 → (m₀ m₁ m₂ m₃ m₄ : List ℕ) → length u ≡ 16 → 41 + length c ≤ length m₀ → m₁ ≡ store m₀ 192 (unpack u)
+  pub stored-lists : (w : ℕ) → w ≡ width_of 255 → (m₀ m₁ m₂ m₃ m₄ : List ℕ) → length u ≡ 16 → 41 + length c ≤ length m₀ → m₁ ≡ store m₀ 192 (unpack u)
       → m₂ ≡ store m₁ 320 (to_bits w (length c)) → m₃ ≡ store m₂ 328 (unpack c) → m₄ ≡ store m₃ ((41 + length c) * 8) (unpack n)
       → m₄ ≡ store m₀ 192 (encode lists (u, (c, n)))
   unfolding encode
-  stored-lists ou oc on w e m₀ m₁ m₂ m₃ m₄ h k e₁ e₂ e₃ e₄ =
+  stored-lists w e m₀ m₁ m₂ m₃ m₄ h k e₁ e₂ e₃ e₄ =
       let a = unpack u in
       let b = to_bits (width_of 255) (length c) in
       let l₁ : 192 + length a ≡ 320 = omega (arith, length-unpack u) in
@@ -155,7 +156,7 @@ module _ (u c n : List ℕ) where
       let f₂ = more-from 192 m₀ m₁ m₂ a b 320 e₁ l₁ (omega arith) (e₂ ∙ ap (λ (j : ℕ). store m₁ 320 (to_bits j (length c))) e) in
       let f₃ = more-from 192 m₀ m₂ m₃ (a ++ b) (unpack c) 328 f₂ l₂ (omega arith) e₃ in
       let f₄ = more-from 192 m₀ m₃ m₄ (a ++ b ++ unpack c) (unpack n) ((41 + length c) * 8) f₃ l₃ (omega arith) e₄ in
-      f₄ ∙ ap (λ (l : List Bool). store m₀ 192 l) (sym (rw (item-bytes u ou, item-bytes c oc, item-bytes n on) (sym (simp append_assoc))))
+      f₄ ∙ ap (λ (l : List Bool). store m₀ 192 l) (sym (rw (item-bytes u, item-bytes c, item-bytes n) (sym (simp append_assoc))))
 
 -- ── the whole response ──
 

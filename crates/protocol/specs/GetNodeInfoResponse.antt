@@ -5,7 +5,7 @@ use Rattle.bits.specs.Order.{unpack, from_bits}
 use Rattle.bits.specs.Part.{span}
 use Rattle.bits.specs.Width.{width_of}
 use Rattle.shape.specs.Answer.{refused, got, Numbered, numbered, map_answer}
-use Rattle.shape.specs.Shape.{Shape, uint, raw, byte_items, byte_list, byte_tail, Values, decoded}
+use Rattle.shape.specs.Shape.{Shape, uint, raw, items, list, tail, Values, decoded}
 use Rattle.protocol.specs.NodeStatus.{status_then, status_values, status_at}
 use Rattle.protocol.specs.Name.{is_name}
 use Rattle.protocol.specs.declared.get_node_info_response.Numbers.{Numbers}
@@ -23,7 +23,7 @@ versions_then d = software_then (uint 8 (uint 8 d))
 
 -- RULES 9.4: the name follows the certificate, so the certificate has a length field; nothing follows the name, so it has none
 abbrev pub lists : Shape
-lists = byte_items 16 (byte_list 255 (byte_tail 80 is_name))
+lists = items 8 16 (list 8 255 (tail 8 80 is_name))
 
 abbrev pub response : Shape
 response = status_then (versions_then lists)

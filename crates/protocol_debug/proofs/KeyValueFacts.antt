@@ -13,7 +13,7 @@ use Rattle.shape.specs.Answer.{refused, got, numbered}
 use Rattle.shape.specs.Shape.{Values, encode, decoded, fits}
 use Rattle.shape.proofs.Fields.{and-true, length-item_bits}
 use Rattle.shape.proofs.Reading.{Slot, same, refused-on, got-on, ht-short, ht-long, ht-held, ht-only}
-use Rattle.shape.proofs.Writing.{more, item-bytes}
+use Rattle.shape.proofs.Writing.{more, item-bytes, all-bytes}
 use Rattle.protocol_debug.specs.KeyValue.{key_value, key_in, key_value_of, key_value_in}
 use Rattle.protocol_debug.specs.Laws.{key_value_found}
 use Rattle.protocol_debug.specs.declared.key_value.KeyValue.{KeyValue}
@@ -43,12 +43,12 @@ module _ (v : ℕ) (key : List ℕ) where
   unfolding encode
   size = simp (length-append, length-to_bits, length-item_bits) (omega arith)
 
-  pub fit : v < 4294967296 → leb (length key) 58 ≡ fits key_value (v, key)
+  pub fit : v < 4294967296 → Octets key → leb (length key) 58 ≡ fits key_value (v, key)
   unfolding fits
-  fit h = rw (lt-ltb v 4294967296 h) (simp and-true)
+  fit h o = rw (lt-ltb v 4294967296 h, all-bytes key o) (simp and-true)
 
-  pub stored : Octets key → (m₀ m₁ m₂ : List ℕ) → 4 ≤ length m₀ → m₁ ≡ store m₀ 0 (to_bits 32 v) → m₂ ≡ store m₁ 32 (unpack key) → m₂ ≡ store m₀ 0 (encode key_value (v, key))
+  pub stored : (m₀ m₁ m₂ : List ℕ) → 4 ≤ length m₀ → m₁ ≡ store m₀ 0 (to_bits 32 v) → m₂ ≡ store m₁ 32 (unpack key) → m₂ ≡ store m₀ 0 (encode key_value (v, key))
   unfolding encode
-  stored o m₀ m₁ m₂ h e₁ e₂ =
+  stored m₀ m₁ m₂ h e₁ e₂ =
       more m₀ m₁ m₂ (to_bits 32 v) (unpack key) 32 e₁ (length-to_bits 32 v) (omega arith) e₂
-      ∙ ap (λ (l : List Bool). store m₀ 0 (to_bits 32 v ++ l)) (sym (item-bytes key o))
+      ∙ ap (λ (l : List Bool). store m₀ 0 (to_bits 32 v ++ l)) (sym (item-bytes key))

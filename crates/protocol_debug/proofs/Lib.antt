@@ -1,3 +1,3 @@
 mod KeyValueFacts
 mod LogMessageFacts
-pub mod Trips
+mod Trips

@@ -15,22 +15,21 @@ use Rattle.bits.proofs.Bytes.{length-unpack, drop-unpack}
 use Rattle.bits.proofs.Octets.{octets-drop}
 use Rattle.bits.proofs.Numbers.{length-to_bits, from_bits-lt}
 use Rattle.shape.specs.Answer.{refused, got, numbered, map_answer}
-use Rattle.shape.specs.Cast.{unsigned, saturated}
-use Rattle.shape.specs.Shape.{Shape, byte_list, byte_tail, Values, anything, item_bits, encode, decode, decoded, fits}
+use Rattle.shape.specs.Shape.{Shape, list, tail, Values, anything, item_bits, encode, decode, decoded, fits}
 use Rattle.shape.proofs.Fields.{and-true, length-item_bits}
 use Rattle.shape.proofs.Reading.{Slot, value, with_head, head_read, head-short, refused-on, got-on, never, list-short, list_read, tail-long, tail-got}
 use Rattle.shape.proofs.Reading as reading
-use Rattle.shape.proofs.Writing.{more, item-bytes}
+use Rattle.shape.proofs.Writing.{more, item-bytes, all-bytes}
 use Rattle.shape.proofs.CastFacts.{cast}
 use Rattle.protocol_debug.specs.LogMessage.{log_message, source_length, source_in, text_in, log_message_of, log_message_in}
 use Rattle.protocol_debug.specs.Laws.{log_message_found}
 use Rattle.protocol_debug.specs.declared.log_message.LogMessage.{LogMessage}
 
 abbrev text : Shape
-text = byte_tail 90 anything
+text = tail 8 90 anything
 
 abbrev lists : Shape
-lists = byte_list 31 text
+lists = list 8 31 text
 
 abbrev head : List Slot
 head = value 3 ∷ []
@@ -137,21 +136,21 @@ module _ (v : ℤ) (xs ys : List ℕ) where
   unfolding encode
   size = simp (length-append, length-to_bits, length-item_bits) (omega (arith, five))
 
-  pub fit : leb (length xs) 31 && leb (length ys) 90 ≡ fits log_message (v, (xs, ys))
+  pub fit : Octets xs → Octets ys → leb (length xs) 31 && leb (length ys) 90 ≡ fits log_message (v, (xs, ys))
   unfolding fits
-  fit = simp and-true
+  fit o q = rw (all-bytes xs o, all-bytes ys q) (simp and-true)
 
   -- w: the width that the code works out
-  pub stored : Octets xs → Octets ys → (w : ℕ) → w ≡ width_of 31 → (m₀ m₁ m₂ m₃ m₄ : List ℕ) → 1 + length xs ≤ length m₀ → m₁ ≡ store m₀ 0 (to_bits 3 level)
+  pub stored : (w : ℕ) → w ≡ width_of 31 → (m₀ m₁ m₂ m₃ m₄ : List ℕ) → 1 + length xs ≤ length m₀ → m₁ ≡ store m₀ 0 (to_bits 3 level)
       → m₂ ≡ store m₁ 3 (to_bits w (length xs))
       → m₃ ≡ store m₂ 8 (unpack xs) → m₄ ≡ store m₃ ((1 + length xs) * 8) (unpack ys) → m₄ ≡ store m₀ 0 (encode log_message (v, (xs, ys)))
   unfolding encode
-  stored o q w e m₀ m₁ m₂ m₃ m₄ h e₁ e₂ e₃ e₄ =
+  stored w e m₀ m₁ m₂ m₃ m₄ h e₁ e₂ e₃ e₄ =
       let a = to_bits 3 level in
       let b = to_bits (width_of 31) (length xs) in
       let f₂ = more m₀ m₁ m₂ a b 3 e₁ (length-to_bits 3 level) (omega arith) (e₂ ∙ ap (λ (k : ℕ). store m₁ 3 (to_bits k (length xs))) e) in
       let f₃ = more m₀ m₂ m₃ (a ++ b) (unpack xs) 8 f₂ (simp (length-append, length-to_bits) (omega (arith, five))) (omega arith) e₃ in
       let l : length ((a ++ b) ++ unpack xs) ≡ (1 + length xs) * 8 = simp (length-append, length-to_bits, length-unpack) (omega (arith, five)) in
       let f₄ = more m₀ m₃ m₄ ((a ++ b) ++ unpack xs) (unpack ys) ((1 + length xs) * 8) f₃ l (omega arith) e₄ in
-      f₄ ∙ ap (λ (k : List Bool). store m₀ 0 k) (simp append_assoc) ∙ ap (λ (k : List Bool). store m₀ 0 (a ++ (b ++ (k ++ unpack ys)))) (sym (item-bytes xs o))
-      ∙ ap (λ (k : List Bool). store m₀ 0 (a ++ (b ++ (item_bits unsigned saturated 8 xs ++ k)))) (sym (item-bytes ys q))
+      f₄ ∙ ap (λ (k : List Bool). store m₀ 0 k) (simp append_assoc) ∙ ap (λ (k : List Bool). store m₀ 0 (a ++ (b ++ (k ++ unpack ys)))) (sym (item-bytes xs))
+      ∙ ap (λ (k : List Bool). store m₀ 0 (a ++ (b ++ (item_bits 8 xs ++ k)))) (sym (item-bytes ys))

@@ -1,13 +1,13 @@
 -- RULES 10.4: KeyValue. Float32 kept as its 32 bits, key list of at most 58.
 use Rattle.std.specs.Prelude.{ℕ, List, length, drop}
 use Rattle.shape.specs.Answer.{refused, got, Numbered, numbered, map_answer}
-use Rattle.shape.specs.Shape.{Shape, raw, byte_tail, Values, anything, decoded}
+use Rattle.shape.specs.Shape.{Shape, raw, tail, Values, anything, decoded}
 use Rattle.protocol_debug.specs.declared.key_value.KeyValue.{KeyValue}
 use Rattle.protocol_debug.specs.declared.key_value.Read.{Read}
 use Rattle.protocol_debug.specs.declared.key_value.Read.TheVariants.{Refused, Got}
 
 abbrev pub key_value : Shape
-key_value = raw 32 (byte_tail 58 anything)
+key_value = raw 32 (tail 8 58 anything)
 
 -- RULES 9.9: the key as a part of the payload
 abbrev pub key_in : List ℕ → List ℕ

@@ -3,13 +3,13 @@ use Rattle.std.specs.Prelude.{ℕ, ◌+◌, List, length, take, drop}
 use Rattle.bits.specs.Order.{unpack, from_bits}
 use Rattle.bits.specs.Width.{width_of}
 use Rattle.shape.specs.Answer.{refused, got, Numbered, numbered, map_answer}
-use Rattle.shape.specs.Shape.{Shape, uint, byte_list, byte_tail, Values, anything, decoded}
+use Rattle.shape.specs.Shape.{Shape, uint, list, tail, Values, anything, decoded}
 use Rattle.protocol_debug.specs.declared.log_message.LogMessage.{LogMessage}
 use Rattle.protocol_debug.specs.declared.log_message.Read.{Read}
 use Rattle.protocol_debug.specs.declared.log_message.Read.TheVariants.{Refused, Got}
 
 abbrev pub log_message : Shape
-log_message = uint 3 (byte_list 31 (byte_tail 90 anything))
+log_message = uint 3 (list 8 31 (tail 8 90 anything))
 
 -- RULES 9.9: source and text as parts of the payload
 unfoldable pub source_length : List ℕ → ℕ

@@ -13,7 +13,7 @@ use Rattle.shape.specs.Answer.{refused, got, numbered}
 use Rattle.shape.specs.Shape.{Values, encode, decoded, fits}
 use Rattle.shape.proofs.Fields.{and-true, length-item_bits}
 use Rattle.shape.proofs.Reading.{Slot, value, refused-on, got-on, ht-short, ht-long, ht-held, ht-only}
-use Rattle.shape.proofs.Writing.{more, item-bytes}
+use Rattle.shape.proofs.Writing.{more, item-bytes, all-bytes}
 use Rattle.shape.proofs.CastFacts.{cast}
 use Rattle.protocol_dynamic_node_id.specs.Allocation.{allocation, unique_id_in, allocation_of, allocation_in}
 use Rattle.protocol_dynamic_node_id.specs.Laws.{allocation_found}
@@ -45,16 +45,16 @@ module _ (n f : ℤ) (u : List ℕ) where
   unfolding encode
   size = simp (length-append, length-to_bits, length-item_bits) (omega arith)
 
-  pub fit : leb (length u) 16 ≡ fits allocation (n, (f, u))
+  pub fit : Octets u → leb (length u) 16 ≡ fits allocation (n, (f, u))
   unfolding fits
-  fit = simp and-true
+  fit o = rw (all-bytes u o) (simp and-true)
 
-  pub stored : Octets u → (m₀ m₁ m₂ m₃ : List ℕ) → 1 ≤ length m₀ → m₁ ≡ store m₀ 0 (to_bits 7 (cast 7 n)) → m₂ ≡ store m₁ 7 (to_bits 1 (cast 1 f)) → m₃ ≡ store m₂ 8 (unpack u)
+  pub stored : (m₀ m₁ m₂ m₃ : List ℕ) → 1 ≤ length m₀ → m₁ ≡ store m₀ 0 (to_bits 7 (cast 7 n)) → m₂ ≡ store m₁ 7 (to_bits 1 (cast 1 f)) → m₃ ≡ store m₂ 8 (unpack u)
       → m₃ ≡ store m₀ 0 (encode allocation (n, (f, u)))
   unfolding encode
-  stored o m₀ m₁ m₂ m₃ h e₁ e₂ e₃ =
+  stored m₀ m₁ m₂ m₃ h e₁ e₂ e₃ =
       let a = to_bits 7 (cast 7 n) in
       let b = to_bits 1 (cast 1 f) in
       let f₂ = more m₀ m₁ m₂ a b 7 e₁ (length-to_bits 7 (cast 7 n)) (omega arith) e₂ in
       let f₃ = more m₀ m₂ m₃ (a ++ b) (unpack u) 8 f₂ (simp (length-append, length-to_bits)) (omega arith) e₃ in
-      f₃ ∙ ap (λ (l : List Bool). store m₀ 0 l) (append_assoc a b (unpack u)) ∙ ap (λ (l : List Bool). store m₀ 0 (a ++ (b ++ l))) (sym (item-bytes u o))
+      f₃ ∙ ap (λ (l : List Bool). store m₀ 0 l) (append_assoc a b (unpack u)) ∙ ap (λ (l : List Bool). store m₀ 0 (a ++ (b ++ l))) (sym (item-bytes u))

@@ -1,13 +1,13 @@
 -- RULES 10.3: Allocation. Node ID 7, first part 1, unique ID list of at most 16 bytes.
 use Rattle.std.specs.Prelude.{ℕ, List, length, drop}
 use Rattle.shape.specs.Answer.{refused, got, Numbered, numbered, map_answer}
-use Rattle.shape.specs.Shape.{Shape, uint, byte_tail, Values, anything, decoded}
+use Rattle.shape.specs.Shape.{Shape, uint, tail, Values, anything, decoded}
 use Rattle.protocol_dynamic_node_id.specs.declared.allocation.Allocation.{Allocation}
 use Rattle.protocol_dynamic_node_id.specs.declared.allocation.Read.{Read}
 use Rattle.protocol_dynamic_node_id.specs.declared.allocation.Read.TheVariants.{Refused, Got}
 
 abbrev pub allocation : Shape
-allocation = uint 7 (uint 1 (byte_tail 16 anything))
+allocation = uint 7 (uint 1 (tail 8 16 anything))
 
 -- RULES 9.9: the unique ID as a part of the payload
 abbrev pub unique_id_in : List ℕ → List ℕ

@@ -19,8 +19,6 @@ use Rattle.protocol_param.specs.Value.{union, value_at, text_in, size_at, value_
 use Rattle.protocol_param.specs.inside.Value.{sized}
 use Rattle.protocol_param.specs.GetSetRequest.{name_only, request, request_text_in, request_name_at, request_name_in, request_of}
 use Rattle.protocol_param.specs.GetSetResponse.{min_then, max_then, default_then, response, default_at, max_at, min_at, name_at, default_text_in, name_in, response_of}
-use Rattle.protocol_param.specs.inside.Offsets.{offsets_in}
-use Rattle.protocol_param.specs.declared.get_set_response.Offsets.{Offsets}
 use Rattle.protocol_param.specs.Laws.{request_found, response_found}
 use Rattle.protocol_param.specs.declared.value.Value.{Value}
 use Rattle.protocol_param.specs.declared.get_set_request.Request.{Request}
@@ -119,22 +117,13 @@ module _ (p : List ℕ) (o : Octets p) where
     pub request-there : 2 ≤ length p
     request-there = omega (arith, length-drop 1 p, a.there, size-at-some 5 rest)
 
-    pub name-inside : request_name_at p ≤ length p
-    unfolding request_name_at
-    name-inside = omega (arith, length-drop 1 p, a.there, size-at-some 5 rest)
-
     -- the struct of what the code reads at each place
     pub request-made : (i : ℤ) (v : Value) (k at l : ℕ) → i ≡ pos (from_bits 13 (unpack p)) → v ≡ value_at 5 rest → k ≡ length (request_text_in p) → at ≡ request_name_at p
         → l ≡ length (request_name_in p)
-        → ◌≡◌ {A = Request} (record { index = i; value = v; string_value = record { at = at - k; len = k }; name = record { at = at; len = l } }) (request_of (request_found p))
+        → ◌≡◌ {A = Request} (record { index = i; value = v; string_value = record { at = 3; len = k }; name = record { at = at; len = l } }) (request_of (request_found p))
     unfolding request_name_at
     request-made i v k at l ei ev ek ea el =
         rw (case-found (value_at 5 rest) (text_in rest) 5 name_only (request_name_in p), size-shown 5 rest a.there, text-shown rest, ei, ev, ek, ea, el)
-
--- the bytes of its value, by where its name begins
-pub name-takes : (p : List ℕ) (at : ℕ) → at ≡ request_name_at p → (1 ≤ at) × (at - 1 ≡ size_at 5 (drop 1 p))
-unfolding request_name_at
-name-takes p at e = (omega arith, omega arith)
 
 -- a request that is not refused
 pub record GoodRequest (p : List ℕ) : Type 0 where
@@ -165,36 +154,6 @@ max-lt p = omega (arith, default_lt p, size-at-lt 5 (drop (default_at p) p))
 pub min-lt : (p : List ℕ) → min_at p < 774
 unfolding min_at
 min-lt p = omega (arith, max-lt p, size-at-lt 3 (drop (max_at p) p))
-
--- where each begins, as the code hands it on, and the bytes that it takes
-module _ (p : List ℕ) (at : Offsets) (e : at ≡ offsets_in p) where
-  pub default-is : at.default_at ≡ default_at p
-  default-is = ap (λ (x : Offsets). x.default_at) e
-
-  pub max-is : at.max_at ≡ max_at p
-  max-is = ap (λ (x : Offsets). x.max_at) e
-
-  pub min-is : at.min_at ≡ min_at p
-  min-is = ap (λ (x : Offsets). x.min_at) e
-
-  pub name-is : at.name_at ≡ name_at p
-  name-is = ap (λ (x : Offsets). x.name_at) e
-
-  pub value-takes : at.default_at ≡ size_at 5 p
-  unfolding default_at
-  value-takes = default-is
-
-  pub default-takes : (at.default_at ≤ at.max_at) × (at.max_at - at.default_at ≡ size_at 5 (drop (default_at p) p))
-  unfolding max_at
-  default-takes = (omega (arith, default-is, max-is), omega (arith, default-is, max-is))
-
-  pub max-takes : (at.max_at ≤ at.min_at) × (at.min_at - at.max_at ≡ size_at 3 (drop (max_at p) p))
-  unfolding min_at
-  max-takes = (omega (arith, max-is, min-is), omega (arith, max-is, min-is))
-
-  pub min-takes : (at.min_at ≤ at.name_at) × (at.name_at - at.min_at ≡ size_at 3 (drop (min_at p) p))
-  unfolding name_at
-  min-takes = (omega (arith, min-is, name-is), omega (arith, min-is, name-is))
 
 module _ (p : List ℕ) (o : Octets p) where
   abbrev s₂ : List ℕ
@@ -267,27 +226,23 @@ module _ (p : List ℕ) (o : Octets p) where
               (next-got 3 6 (lit≤ tt) (lit≤ tt) six min_then s₃ o₃ a₃ s₄ f₄ _
               (next-got 3 6 (lit≤ tt) (lit≤ tt) six name_only s₄ o₄ a₄ (name_in p) f₅ _ (name-got (name_in p) oₙ h))))
 
-          pub ends-inside : name_at p ≤ length p
-          unfolding name_at
-          ends-inside = omega (arith, length-drop (min_at p) p, a₄.there, size-at-some 3 s₄)
-
           -- the struct of what the code reads at each place
-          pub response-made : (v₁ v₂ v₃ v₄ : Value) (k₁ k₂ at₂ at₃ at l : ℕ) → v₁ ≡ value_at 5 p → k₁ ≡ length (text_in p) → v₂ ≡ value_at 5 s₂ → at₂ ≡ default_at p → at₃ ≡ max_at p
+          pub response-made : (v₁ v₂ v₃ v₄ : Value) (k₁ k₂ at₂ at l : ℕ) → v₁ ≡ value_at 5 p → k₁ ≡ length (text_in p) → v₂ ≡ value_at 5 s₂ → at₂ ≡ default_at p
               → k₂ ≡ length (default_text_in p)
               → v₃ ≡ value_at 3 s₃ → v₄ ≡ value_at 3 s₄ → at ≡ name_at p → l ≡ length (name_in p)
               → ◌≡◌ {A = Response}
               (record {
                 value = v₁;
-                string_value = record { at = at₂ - k₁; len = k₁ };
+                string_value = record { at = 2; len = k₁ };
                 default_value = v₂;
-                default_string_value = record { at = at₃ - k₂; len = k₂ };
+                default_string_value = record { at = at₂ + 2; len = k₂ };
                 max_value = v₃;
                 min_value = v₄;
                 name = record { at = at; len = l };
               })
               (response_of (response_found p))
           unfolding default_at max_at min_at name_at
-          response-made v₁ v₂ v₃ v₄ k₁ k₂ at₂ at₃ at l e₁ f₁ e₂ g g₃ h e₃ e₄ m n =
+          response-made v₁ v₂ v₃ v₄ k₁ k₂ at₂ at l e₁ f₁ e₂ g h e₃ e₄ m n =
               rw (
                 case-found (value_at 5 p) (text_in p) 5 default_then _,
                 case-found (value_at 5 s₂) (text_in s₂) 5 max_then _,
@@ -303,7 +258,6 @@ module _ (p : List ℕ) (o : Octets p) where
                 f₁,
                 e₂,
                 g,
-                g₃,
                 h,
                 e₃,
                 e₄,

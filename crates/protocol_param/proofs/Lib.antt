@@ -2,4 +2,4 @@ mod ValueFacts
 pub mod WriteFacts
 mod GetSetFacts
 mod OpcodeFacts
-pub mod Trips
+mod Trips

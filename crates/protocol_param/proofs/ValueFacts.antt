@@ -6,7 +6,7 @@ use Prim.Native.Nat.{ℕ, zero, suc, ◌+◌, ◌*◌, ◌-◌, ◌/◌, ◌%◌
 use native.Mathlib.Omega.{arith}
 use borrow.Author.Tests.{lt-ltb, le-ltb, lt-leb, le-leb, ltb-true, ltb-false, leb-false}
 use lib.Dec.{ltb, leb, lit<, lit≤}
-use lib.ListN.{length, take, drop, get_or, length-drop}
+use lib.ListN.{length, take, drop, length-drop}
 use lib.Seq.{drop-drop, take_all, length-take-le}
 use lib.IntN.{ℤ, pos, negsuc}
 use mir.Syntax.{w64}
@@ -18,16 +18,15 @@ use Rattle.bits.specs.Order as order
 use Rattle.bits.specs.Part.{span}
 use Rattle.bits.specs.Width.{width_in, width_of}
 use Rattle.bits.proofs.Bytes.{length-unpack, drop-unpack}
-use Rattle.bits.proofs.Digits.{value-digits, digits-middle}
 use Rattle.bits.proofs.Numbers.{from_bits-lt}
 use Rattle.bits.proofs.Octets.{octets-drop}
 use Rattle.bits.proofs.Widths.{width-law}
 use Rattle.shape.specs.Answer.{Answer, refused, got, numbered, refuse_if, map_answer}
-use Rattle.shape.specs.Shape.{Shape, void, byte_list, tag_width, Values, items_of, decode}
+use Rattle.shape.specs.Shape.{Shape, void, list, tag_width, Values, decode}
 use Rattle.shape.proofs.There.{tag_fits}
-use Rattle.shape.proofs.Reading.{Slot, integer, same, value, slots, with_head, map-map, head_bytes, head-short, total, choice-at, choice-short, list-none, list-short, list-long, list_read, byte-items, refused-on, got-on}
+use Rattle.shape.proofs.Reading.{Slot, integer, same, value, slots, with_head, map-map, head_bytes, head-short, total, choice-at, choice-short, list-none, list-short, list-long, list_read, refused-on, got-on}
 use Rattle.protocol_param.specs.Value.{value_then, union, value_values, value_of_tag, case_of, size_of, tag_at, case_at, known_or, value_at, announced, text_length, text_in, size_at, value_found}
-use Rattle.protocol_param.specs.inside.Value.{sized, text_size}
+use Rattle.protocol_param.specs.inside.Value.{sized}
 use Rattle.protocol_param.specs.declared.value.Value.{Value}
 use Rattle.protocol_param.specs.declared.value.Value.TheVariants.{Empty, Integer, Real, Boolean, Text, Unknown}
 
@@ -111,40 +110,6 @@ unfolding tag_at unpack
 tag-none n [] h = ap (λ (l : List Bool). from_bits (tag_width n) l) (drop-none (8 - tag_width n)) ∙ from-none (tag_width n)
 tag-none n (b ∷ s) h = absurd (omega arith)
 
--- ── the tag and the length field, as the code reads them from one byte ──
-
-low-three : (b : ℕ) (s : List ℕ) → from_bits 3 (drop 5 (unpack (b ∷ s))) ≡ b % 8
-unfolding from_bits number unpack
-low-three b s = ap order.value (digits-middle 5 3 0 b (unpack s)) ∙ value-digits 3 (b / 2 ^ 0) ∙ omega arith
-
-low-two : (b : ℕ) (s : List ℕ) → from_bits 2 (drop 6 (unpack (b ∷ s))) ≡ b % 4
-unfolding from_bits number unpack
-low-two b s = ap order.value (digits-middle 6 2 0 b (unpack s)) ∙ value-digits 2 (b / 2 ^ 0) ∙ omega arith
-
-two-wide : (n : ℕ) → 3 ≤ n → n < 5 → tag_width n ≡ 2
-unfolding width_of width_in
-two-wide (suc (suc (suc zero))) l h = refl
-two-wide (suc (suc (suc (suc zero)))) l h = refl
-two-wide zero l h = absurd (omega arith)
-two-wide (suc zero) l h = absurd (omega arith)
-two-wide (suc (suc zero)) l h = absurd (omega arith)
-two-wide (suc (suc (suc (suc (suc n))))) l h = absurd (omega arith)
-
-pub tag-of-five : (s : List ℕ) → 1 ≤ length s → get_or s 0 0 % 8 ≡ tag_at 5 s
-unfolding tag_at
-tag-of-five [] h = absurd (omega arith)
-tag-of-five (b ∷ s) h = rw three (sym (low-three b s))
-
-pub tag-of-four : (n : ℕ) (s : List ℕ) → 3 ≤ n → n < 5 → 1 ≤ length s → get_or s 0 0 % 4 ≡ tag_at n s
-unfolding tag_at
-tag-of-four n [] l m h = absurd (omega arith)
-tag-of-four n (b ∷ s) l m h = rw (two-wide n l m) (sym (low-two b s))
-
-pub byte-first : (s : List ℕ) → Octets s → 1 ≤ length s → get_or s 0 0 ≡ from_bits (width_of 128) (unpack s)
-unfolding items_of
-byte-first [] o h = absurd (omega arith)
-byte-first (b ∷ s) o h = rw eight (sym (ap (λ (l : List ℕ). get_or l 0 0) (byte-items 1 (b ∷ s) o h)))
-
 -- ── one number of k bytes at the front of s ──
 
 one : (x : Slot) (k : ℕ) → total (x ∷ []) ≡ k * 8 → (d : Shape) (s : List ℕ) (b : Bool) → ltb (length s) k ≡ b
@@ -185,10 +150,10 @@ module _ (n : ℕ) (d : Shape) (s : List ℕ) (o : Octets s) (some : 1 ≤ lengt
       ∙ ap (λ (l : List ℕ). map_answer f (decode d (unpack l))) (drop-drop k 1 s ∙ ap (λ (i : ℕ). drop i s) j))
 
   module _ (eN : N ≡ from_bits (width_of 128) (unpack (drop 1 s))) where
-    abbrev text : Values (byte_list 128 d) → Values (union n d)
+    abbrev text : Values (list 8 128 d) → Values (union n d)
     text v = (4, v)
 
-    none : length (drop 1 s) < 1 → map_answer text (decode (byte_list 128 d) (unpack (drop 1 s))) ≡ held_by Text
+    none : length (drop 1 s) < 1 → map_answer text (decode (list 8 128 d) (unpack (drop 1 s))) ≡ held_by Text
     unfolding map_answer refuse_if
     none h = rw (list-none 128 d (unpack (drop 1 s)) (omega (arith, eight, length-unpack (drop 1 s))), lt-ltb (length s) (2 + N) (omega (arith, length-drop 1 s)))
 
@@ -205,30 +170,30 @@ module _ (n : ℕ) (d : Shape) (s : List ℕ) (o : Octets s) (some : 1 ≤ lengt
       size : length (drop 1 (drop 1 s)) + 2 ≡ length s
       size = omega (arith, length-drop 1 (drop 1 s), length-drop 1 s)
 
-      short : length (drop 1 (drop 1 s)) < N → map_answer text (decode (byte_list 128 d) (unpack (drop 1 s))) ≡ held_by Text
+      short : length (drop 1 (drop 1 s)) < N → map_answer text (decode (list 8 128 d) (unpack (drop 1 s))) ≡ held_by Text
       unfolding map_answer refuse_if
       short k =
           rw (list-short 128 d (unpack (drop 1 s)) l (drop 1 (drop 1 s)) os e N eN k, lt-ltb (length s) (2 + N) (omega (arith, size)))
 
-      long : N ≤ length (drop 1 (drop 1 s)) → 128 < N → map_answer text (decode (byte_list 128 d) (unpack (drop 1 s))) ≡ held_by Text
+      long : N ≤ length (drop 1 (drop 1 s)) → 128 < N → map_answer text (decode (list 8 128 d) (unpack (drop 1 s))) ≡ held_by Text
       unfolding map_answer refuse_if
       long k m =
           rw (list-long 128 d (unpack (drop 1 s)) l (drop 1 (drop 1 s)) os e N eN k m, le-ltb (length s) (2 + N) (omega (arith, size)), lt-ltb 130 (2 + N) (omega arith))
 
-      read : N ≤ length (drop 1 (drop 1 s)) → N ≤ 128 → map_answer text (decode (byte_list 128 d) (unpack (drop 1 s))) ≡ held_by Text
+      read : N ≤ length (drop 1 (drop 1 s)) → N ≤ 128 → map_answer text (decode (list 8 128 d) (unpack (drop 1 s))) ≡ held_by Text
       unfolding refuse_if
       read k m =
           let r = decode d (unpack (drop N (drop 1 (drop 1 s)))) in
           rw (le-ltb (length s) (2 + N) (omega (arith, size)), le-ltb 130 (2 + N) (omega arith))
-          (ap (λ (a : Answer (Values (byte_list 128 d))). map_answer text a) (list_read 128 d (unpack (drop 1 s)) l (drop 1 (drop 1 s)) os e N eN k m)
+          (ap (λ (a : Answer (Values (list 8 128 d))). map_answer text a) (list_read 128 d (unpack (drop 1 s)) l (drop 1 (drop 1 s)) os e N eN k m)
           ∙ map-map text (λ (v : Values d). (take N (drop 1 (drop 1 s)), v)) r
           ∙ ap (λ (l : List ℕ). map_answer (λ (v : Values d). text (take N l, v)) (decode d (unpack (drop N l)))) (drop-drop 1 1 s)
           ∙ ap (λ (l : List ℕ). map_answer (λ (v : Values d). text (span s 2 N, v)) (decode d (unpack l))) (drop-drop N 2 s))
 
-    text-case : map_answer text (decode (byte_list 128 d) (unpack (drop 1 s))) ≡ held_by Text
+    text-case : map_answer text (decode (list 8 128 d) (unpack (drop 1 s))) ≡ held_by Text
     text-case = go (ltb (length (drop 1 s)) 1) (ltb (length (drop 1 (drop 1 s))) N) (ltb 128 N) refl refl refl where
       go : (a b c : Bool) → ltb (length (drop 1 s)) 1 ≡ a → ltb (length (drop 1 (drop 1 s))) N ≡ b → ltb 128 N ≡ c
-          → map_answer text (decode (byte_list 128 d) (unpack (drop 1 s))) ≡ held_by Text
+          → map_answer text (decode (list 8 128 d) (unpack (drop 1 s))) ≡ held_by Text
       go true b c ea eb ec = none (ltb-true (length (drop 1 s)) 1 ea)
       go false true c ea eb ec = short (ltb-false (length (drop 1 s)) 1 ea) (ltb-true (length (drop 1 (drop 1 s))) N eb)
       go false false true ea eb ec = long (ltb-false (length (drop 1 s)) 1 ea) (ltb-false (length (drop 1 (drop 1 s))) N eb) (ltb-true 128 N ec)
@@ -452,41 +417,6 @@ size-by Unknown s N h = refl
 pub size-shown : (n : ℕ) (s : List ℕ) → size_at n s ≤ length s → size_of (value_at n s) (length (text_or (value_at n s) (text_in s))) ≡ size_at n s
 unfolding size_at
 size-shown n s h = size-by (value_at n s) s (text_length s) h
-
--- ── the text, by the bytes that the value takes ──
-
-text-by : (x : Value) (s : List ℕ) (N : ℕ) → size_of x N ≤ length s → text_size x (size_of x N) ≡ length (text_or x (span s 2 N))
-text-by Empty s N h = refl
-text-by (Integer z) s N h = refl
-text-by (Real x) s N h = refl
-text-by (Boolean z) s N h = refl
-text-by Text s N h = omega (arith, length-take-le N (drop 2 s) (omega (arith, length-drop 2 s)))
-text-by Unknown s N h = refl
-
-pub text-there : (s : List ℕ) → size_at 5 s ≤ length s → (v : Value) (n k : ℕ) → v ≡ value_at 5 s → n ≡ size_at 5 s → k ≡ text_size v n → k ≡ length (text_in s)
-unfolding size_at
-text-there s h v n k ev en ek =
-    ek ∙ rw (ev, en) (text-by (value_at 5 s) s (text_length s) h ∙ ap (λ (l : List ℕ). length l) (text-shown s))
-
-pub text-le : (x : Value) (n : ℕ) → text_size x n ≤ n
-text-le Empty n = omega arith
-text-le (Integer z) n = omega arith
-text-le (Real x) n = omega arith
-text-le (Boolean z) n = omega arith
-text-le Text n = omega arith
-text-le Unknown n = omega arith
-
-least : (x : Value) (N : ℕ) → size_of x 0 ≤ size_of x N
-least Empty N = lit≤ tt
-least (Integer z) N = lit≤ tt
-least (Real x) N = lit≤ tt
-least (Boolean z) N = lit≤ tt
-least Text N = omega arith
-least Unknown N = lit≤ tt
-
-pub text-room : (s : List ℕ) (v : Value) (n : ℕ) → v ≡ value_at 5 s → n ≡ size_at 5 s → size_of v 0 ≤ n
-unfolding size_at
-text-room s v n ev en = rw (ev, en) (least (value_at 5 s) (text_length s))
 
 -- ── places ──
 

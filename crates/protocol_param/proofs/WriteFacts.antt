@@ -15,7 +15,7 @@ use Rattle.bits.proofs.Bytes.{length-unpack}
 use Rattle.shape.specs.Cast.{unsigned, saturated, cast_bits}
 use Rattle.shape.specs.Shape.{Shape, void, tag_width, Values, item_bits, encode, tags, fits}
 use Rattle.shape.proofs.Fields.{and-true, length-item_bits}
-use Rattle.shape.proofs.Writing.{more-from, more, item-bytes}
+use Rattle.shape.proofs.Writing.{more-from, more, all-bytes, item-bytes}
 use Rattle.protocol_param.specs.Value.{union, value_values, size_of}
 use Rattle.protocol_param.specs.inside.Value.{tag_of, text_bits, content_bits, union_bits, padded_bits, value_bits, all_known, text_fits}
 use Rattle.protocol_param.specs.GetSetRequest.{name_only, request}
@@ -58,14 +58,14 @@ module _ (n : ℕ) (d : Shape) (rest : Values d) where
   tags-are Text text = refl
   tags-are Unknown text = refl
 
-  pub fits-are : (x : Value) (text : List ℕ) → Held x → fits (union n d) (value_values x text n d rest) ≡ text_fits x text && fits d rest
+  pub fits-are : (x : Value) (text : List ℕ) → Held x → Octets text → fits (union n d) (value_values x text n d rest) ≡ text_fits x text && fits d rest
   unfolding fits
-  fits-are Empty text h = refl
-  fits-are (Integer z) text h = refl
-  fits-are (Real x) text h = rw (lt-ltb x (2 ^ 32) h)
-  fits-are (Boolean z) text h = refl
-  fits-are Text text h = refl
-  fits-are Unknown text h = refl
+  fits-are Empty text h o = refl
+  fits-are (Integer z) text h o = refl
+  fits-are (Real x) text h o = rw (lt-ltb x (2 ^ 32) h)
+  fits-are (Boolean z) text h o = refl
+  fits-are Text text h o = rw (all-bytes text o)
+  fits-are Unknown text h o = refl
 
   pub bits_are : (x : Value) (text : List ℕ) → encode (union n d) (value_values x text n d rest) ≡ union_bits n x text ++ encode d rest
   unfolding encode
@@ -74,7 +74,7 @@ module _ (n : ℕ) (d : Shape) (rest : Values d) where
   bits_are (Real x) text = sym (append_assoc (to_bits (tag_width n) 2) (content_bits (Real x) text) (encode d rest))
   bits_are (Boolean z) text = sym (append_assoc (to_bits (tag_width n) 3) (content_bits (Boolean z) text) (encode d rest))
   bits_are Text text =
-      ap (λ (b : List Bool). to_bits (tag_width n) 4 ++ b) (sym (append_assoc (to_bits (width_of 128) (length text)) (item_bits unsigned saturated 8 text) (encode d rest)))
+      ap (λ (b : List Bool). to_bits (tag_width n) 4 ++ b) (sym (append_assoc (to_bits (width_of 128) (length text)) (item_bits 8 text) (encode d rest)))
       ∙ sym (append_assoc (to_bits (tag_width n) 4) (text_bits text) (encode d rest))
   bits_are Unknown text = ap (λ (b : List Bool). b ++ encode d rest) (sym (append-nil (to_bits (tag_width n) 5)))
 
@@ -84,7 +84,7 @@ content-length (Integer z) text = ap (λ (k : ℕ). k + 8) (length-to_bits 64 _)
 content-length (Real x) text = ap (λ (k : ℕ). k + 8) (length-to_bits 32 x)
 content-length (Boolean z) text = ap (λ (k : ℕ). k + 8) (length-to_bits 8 _)
 content-length Text text =
-    omega (arith, length-append (to_bits (width_of 128) (length text)) (item_bits unsigned saturated 8 text), length-to_bits (width_of 128) (length text), length-item_bits unsigned saturated 8 text, eight)
+    omega (arith, length-append (to_bits (width_of 128) (length text)) (item_bits 8 text), length-to_bits (width_of 128) (length text), length-item_bits 8 text, eight)
 content-length Unknown text = refl
 
 pub union-length : (n : ℕ) (x : Value) (text : List ℕ) → length (union_bits n x text) + 8 ≡ tag_width n + size_of x (length text) * 8
@@ -161,13 +161,13 @@ module _ (v w a b : Value) where
       then-fourth e = rw (k, l, e)
 
 -- a text after its length
-pub text-stored : (text : List ℕ) → Octets text → (m m₁ m₂ : List ℕ) (at w : ℕ) → w ≡ width_of 128 → at + 1 + length text ≤ length m → m₁ ≡ store m (at * 8) (to_bits w (length text))
+pub text-stored : (text m m₁ m₂ : List ℕ) (at w : ℕ) → w ≡ width_of 128 → at + 1 + length text ≤ length m → m₁ ≡ store m (at * 8) (to_bits w (length text))
     → m₂ ≡ store m₁ ((at + 1) * 8) (unpack text) → m₂ ≡ store m (at * 8) (text_bits text)
-text-stored text o m m₁ m₂ at w e h f g =
+text-stored text m m₁ m₂ at w e h f g =
     let a = to_bits (width_of 128) (length text) in
     more-from (at * 8) m m₁ m₂ a (unpack text) ((at + 1) * 8) (f ∙ ap (λ (k : ℕ). store m (at * 8) (to_bits k (length text))) e)
     (omega (arith, length-to_bits (width_of 128) (length text), eight)) (omega arith) g
-    ∙ ap (λ (b : List Bool). store m (at * 8) (a ++ b)) (sym (item-bytes text o))
+    ∙ ap (λ (b : List Bool). store m (at * 8) (a ++ b)) (sym (item-bytes text))
 
 -- a tag, and the fields of its case
 pub union-stored : (n : ℕ) → n ≤ 5 → (x : Value) (text m m₁ m₂ : List ℕ) (at w t : ℕ) → w ≡ tag_width n → t ≡ tag_of x → at + 1 ≤ length m
@@ -203,13 +203,13 @@ padded-length n h x text =
 -- ── the name ──
 
 module _ (name : List ℕ) where
-  name-bits : Octets name → encode name_only name ≡ unpack name
+  name-bits : encode name_only name ≡ unpack name
   unfolding encode
-  name-bits o = item-bytes name o
+  name-bits = item-bytes name
 
-  name-fits : fits name_only name ≡ leb (length name) 92
+  name-fits : Octets name → fits name_only name ≡ leb (length name) 92
   unfolding fits
-  name-fits = and-true (leb (length name) 92)
+  name-fits o = rw (all-bytes name o) (and-true (leb (length name) 92))
 
 -- ── the request ──
 
@@ -223,31 +223,31 @@ module _ (i : ℤ) (x : Value) (text name : List ℕ) where
   pub request-tags : tags request asked ≡ ltb (tag_of x) 5
   request-tags = tags-are 5 name_only name x text ∙ and-true (ltb (tag_of x) 5)
 
-  pub request-fits : Held x → fits request asked ≡ text_fits x text && leb (length name) 92
+  pub request-fits : Held x → Octets text → Octets name → fits request asked ≡ text_fits x text && leb (length name) 92
   unfolding fits
-  request-fits h = fits-are 5 name_only name x text h ∙ ap (λ (b : Bool). text_fits x text && b) (name-fits name)
+  request-fits h o q = fits-are 5 name_only name x text h o ∙ ap (λ (b : Bool). text_fits x text && b) (name-fits name q)
 
-  request-bits : Octets name → encode request asked ≡ to_bits 13 index ++ (union_bits 5 x text ++ unpack name)
+  request-bits : encode request asked ≡ to_bits 13 index ++ (union_bits 5 x text ++ unpack name)
   unfolding encode
-  request-bits o =
-      ap (λ (b : List Bool). to_bits 13 index ++ b) (bits_are 5 name_only name x text ∙ ap (λ (b : List Bool). union_bits 5 x text ++ b) (name-bits name o))
+  request-bits =
+      ap (λ (b : List Bool). to_bits 13 index ++ b) (bits_are 5 name_only name x text ∙ ap (λ (b : List Bool). union_bits 5 x text ++ b) (name-bits name))
 
   front : length (to_bits 13 index ++ union_bits 5 x text) ≡ (1 + size_of x (length text)) * 8
   front = omega (arith, length-append (to_bits 13 index) (union_bits 5 x text), length-to_bits 13 index, union-length 5 x text, three)
 
-  pub request-size : Octets name → length (encode request asked) ≡ (1 + size_of x (length text) + length name) * 8
-  request-size o =
-      ap length (request-bits o ∙ sym (append_assoc (to_bits 13 index) (union_bits 5 x text) (unpack name)))
+  pub request-size : length (encode request asked) ≡ (1 + size_of x (length text) + length name) * 8
+  request-size =
+      ap length (request-bits ∙ sym (append_assoc (to_bits 13 index) (union_bits 5 x text) (unpack name)))
       ∙ length-append (to_bits 13 index ++ union_bits 5 x text) (unpack name) ∙ omega (arith, front, length-unpack name)
 
-  pub request-stored : Octets name → (m m₁ m₂ m₃ : List ℕ) → 1 + size_of x (length text) + length name ≤ length m → m₁ ≡ store m 0 (to_bits 13 index)
+  pub request-stored : (m m₁ m₂ m₃ : List ℕ) → 1 + size_of x (length text) + length name ≤ length m → m₁ ≡ store m 0 (to_bits 13 index)
       → m₂ ≡ store m₁ (1 * 8 + (8 - tag_width 5)) (union_bits 5 x text) → m₃ ≡ store m₂ ((1 + size_of x (length text)) * 8) (unpack name)
       → m₃ ≡ store m 0 (encode request asked)
-  request-stored o m m₁ m₂ m₃ h e f g =
+  request-stored m m₁ m₂ m₃ h e f g =
       more m m₂ m₃ (to_bits 13 index ++ union_bits 5 x text) (unpack name) ((1 + size_of x (length text)) * 8)
       (more m m₁ m₂ (to_bits 13 index) (union_bits 5 x text) (1 * 8 + (8 - tag_width 5)) e (omega (arith, length-to_bits 13 index, three)) (omega (arith, three, size-some x (length text))) f)
       front (omega arith) g
-      ∙ ap (λ (b : List Bool). store m 0 b) (append_assoc (to_bits 13 index) (union_bits 5 x text) (unpack name) ∙ sym (request-bits o))
+      ∙ ap (λ (b : List Bool). store m 0 b) (append_assoc (to_bits 13 index) (union_bits 5 x text) (unpack name) ∙ sym request-bits)
 
 -- ── the response ──
 
@@ -269,13 +269,14 @@ module _ (v : Value) (text : List ℕ) (w : Value) (other : List ℕ) (a b : Val
       (tags-are 5 max_then _ w other ∙ ap (λ (c : Bool). ltb (tag_of w) 5 && c)
       (tags-are 3 min_then _ a [] ∙ ap (λ (c : Bool). ltb (tag_of a) 3 && c) (tags-are 3 name_only name b [] ∙ and-true (ltb (tag_of b) 3))))
 
-  pub response-fits : Held v → Held w → Held a → Held b → fits response told ≡ text_fits v text && (text_fits w other && leb (length name) 92)
+  pub response-fits : Held v → Octets text → Held w → Octets other → Held a → Held b → Octets name
+      → fits response told ≡ text_fits v text && (text_fits w other && leb (length name) 92)
   unfolding fits
-  response-fits h k i j =
-      fits-are 5 default_then _ v text h ∙ ap (λ (c : Bool). text_fits v text && c)
-      (fits-are 5 max_then _ w other k ∙ ap (λ (c : Bool). text_fits w other && c)
-      (fits-are 3 min_then _ a [] i ∙ ap (λ (c : Bool). c && fits min_then (value_values b [] 3 name_only name)) (none-fits a)
-      ∙ fits-are 3 name_only name b [] j ∙ ap (λ (c : Bool). c && fits name_only name) (none-fits b) ∙ name-fits name))
+  response-fits h o k q i j r =
+      fits-are 5 default_then _ v text h o ∙ ap (λ (c : Bool). text_fits v text && c)
+      (fits-are 5 max_then _ w other k q ∙ ap (λ (c : Bool). text_fits w other && c)
+      (fits-are 3 min_then _ a [] i tt ∙ ap (λ (c : Bool). c && fits min_then (value_values b [] 3 name_only name)) (none-fits a)
+      ∙ fits-are 3 name_only name b [] j tt ∙ ap (λ (c : Bool). c && fits name_only name) (none-fits b) ∙ name-fits name r))
 
   abbrev sizes : ℕ
   sizes = size_of v (length text) + size_of w (length other) + size_of a 0 + size_of b 0
@@ -297,20 +298,20 @@ module _ (v : Value) (text : List ℕ) (w : Value) (other : List ℕ) (a b : Val
       length-append p₁ (p₂ ++ (p₃ ++ p₄))
       ∙ omega (arith, length-append p₂ (p₃ ++ p₄), length-append p₃ p₄, padded-length 5 (omega (arith, three)) v text, padded-length 5 (omega (arith, three)) w other, padded-length 3 (omega (arith, two)) a [], padded-length 3 (omega (arith, two)) b [])
 
-  response-bits : Octets name → encode response told ≡ value_bits v text w other a b ++ unpack name
-  response-bits o =
+  response-bits : encode response told ≡ value_bits v text w other a b ++ unpack name
+  response-bits =
       padded_are 5 5 five default_then _ v text
       ∙ ap (λ (c : List Bool). p₁ ++ c)
       (padded_are 5 5 five max_then _ w other
       ∙ ap (λ (c : List Bool). p₂ ++ c)
       (padded_are 3 6 six min_then _ a []
-      ∙ ap (λ (c : List Bool). p₃ ++ c) (padded_are 3 6 six name_only name b [] ∙ ap (λ (c : List Bool). p₄ ++ c) (name-bits name o))))
+      ∙ ap (λ (c : List Bool). p₃ ++ c) (padded_are 3 6 six name_only name b [] ∙ ap (λ (c : List Bool). p₄ ++ c) (name-bits name))))
       ∙ sym (append_assoc p₁ (p₂ ++ (p₃ ++ p₄)) (unpack name)
       ∙ ap (λ (c : List Bool). p₁ ++ c) (append_assoc p₂ (p₃ ++ p₄) (unpack name) ∙ ap (λ (c : List Bool). p₂ ++ c) (append_assoc p₃ p₄ (unpack name))))
 
-  pub response-size : Octets name → length (encode response told) ≡ (sizes + length name) * 8
-  response-size o =
-      ap length (response-bits o) ∙ length-append (value_bits v text w other a b) (unpack name) ∙ omega (arith, values_length, length-unpack name)
+  pub response-size : length (encode response told) ≡ (sizes + length name) * 8
+  response-size =
+      ap length response-bits ∙ length-append (value_bits v text w other a b) (unpack name) ∙ omega (arith, values_length, length-unpack name)
 
   pub values-stored : (m m₁ m₂ m₃ m₄ : List ℕ) (k₁ k₂ k₃ : ℕ) → sizes ≤ length m → k₁ ≡ size_of v (length text) → k₂ ≡ k₁ + size_of w (length other) → k₃ ≡ k₂ + size_of a 0
       → m₁ ≡ store m (0 * 8) p₁ → m₂ ≡ store m₁ (k₁ * 8) p₂ → m₃ ≡ store m₂ (k₂ * 8) p₃ → m₄ ≡ store m₃ (k₃ * 8) p₄
@@ -324,7 +325,7 @@ module _ (v : Value) (text : List ℕ) (w : Value) (other : List ℕ) (a b : Val
       let g₄ = more m m₃ m₄ ((p₁ ++ p₂) ++ p₃) p₄ (k₃ * 8) g₃ (omega (arith, length-append (p₁ ++ p₂) p₃, length-append p₁ p₂, l₁, l₂, l₃)) (omega arith) f₄ in
       g₄ ∙ ap (λ (c : List Bool). store m 0 c) (append_assoc (p₁ ++ p₂) p₃ p₄ ∙ append_assoc p₁ p₂ (p₃ ++ p₄))
 
-  pub response-stored : Octets name → (m m₁ m₂ : List ℕ) → sizes + length name ≤ length m → m₁ ≡ store m 0 (value_bits v text w other a b)
+  pub response-stored : (m m₁ m₂ : List ℕ) → sizes + length name ≤ length m → m₁ ≡ store m 0 (value_bits v text w other a b)
       → m₂ ≡ store m₁ (sizes * 8) (unpack name) → m₂ ≡ store m 0 (encode response told)
-  response-stored o m m₁ m₂ h e f =
-      more m m₁ m₂ (value_bits v text w other a b) (unpack name) (sizes * 8) e values_length (omega arith) f ∙ ap (λ (c : List Bool). store m 0 c) (sym (response-bits o))
+  response-stored m m₁ m₂ h e f =
+      more m m₁ m₂ (value_bits v text w other a b) (unpack name) (sizes * 8) e values_length (omega arith) f ∙ ap (λ (c : List Bool). store m 0 c) (sym response-bits)

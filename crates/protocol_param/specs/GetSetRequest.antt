@@ -1,15 +1,15 @@
 -- RULES 10.12: GetSet's request. Index 13, value, name list of at most 92.
 use Rattle.std.specs.Prelude.{ℕ, ◌+◌, List, length, drop}
 use Rattle.shape.specs.Answer.{refused, got, Numbered, numbered, map_answer}
-use Rattle.shape.specs.Shape.{Shape, uint, byte_tail, Values, anything, decoded}
-use Rattle.protocol_param.specs.Value.{union, case_of, size_of, ending_at, text_in, size_at}
+use Rattle.shape.specs.Shape.{Shape, uint, tail, Values, anything, decoded}
+use Rattle.protocol_param.specs.Value.{union, case_of, size_of, text_in, size_at}
 use Rattle.protocol_param.specs.declared.get_set_request.Request.{Request}
 use Rattle.protocol_param.specs.declared.get_set_request.Read.{Read}
 use Rattle.protocol_param.specs.declared.get_set_request.Read.TheVariants.{Refused, Got}
 
 -- the name, last in request and response: any bytes
 abbrev pub name_only : Shape
-name_only = byte_tail 92 anything
+name_only = tail 8 92 anything
 
 abbrev pub request : Shape
 request = uint 13 (union 5 name_only)
@@ -27,12 +27,11 @@ request_name_in p = drop (request_name_at p) p
 abbrev pub request_of : Values request → Request
 request_of v =
     let x = case_of v.1.0 name_only v.1.1 in
-    let name = 1 + size_of x.value (length x.text) in
     record {
       index = v.0;
       value = x.value;
-      string_value = ending_at name (length x.text);
-      name = record { at = name; len = length x.rest };
+      string_value = record { at = 3; len = length x.text };
+      name = record { at = 1 + size_of x.value (length x.text); len = length x.rest };
     }
 
 abbrev pub answer_of : Read → Numbered Request

@@ -2,7 +2,7 @@
 use Rattle.std.specs.Prelude.{ℕ, ◌+◌, List, [], length, drop}
 use Rattle.shape.specs.Answer.{refused, got, Numbered, numbered, map_answer}
 use Rattle.shape.specs.Shape.{Shape, void, Values, decoded}
-use Rattle.protocol_param.specs.Value.{union, value_values, case_of, size_of, ending_at, text_in, size_at}
+use Rattle.protocol_param.specs.Value.{union, value_values, case_of, size_of, text_in, size_at}
 use Rattle.protocol_param.specs.GetSetRequest.{name_only}
 use Rattle.protocol_param.specs.declared.value.Value.{Value}
 use Rattle.protocol_param.specs.declared.get_set_response.Response.{Response}
@@ -57,9 +57,9 @@ response_of v =
     let min = max + size_of c.value (length c.text) in
     record {
       value = a.value;
-      string_value = ending_at default (length a.text);
+      string_value = record { at = 2; len = length a.text };
       default_value = b.value;
-      default_string_value = ending_at max (length b.text);
+      default_string_value = record { at = default + 2; len = length b.text };
       max_value = c.value;
       min_value = d.value;
       name = record { at = min + size_of d.value (length d.text); len = length d.rest };

@@ -5,8 +5,7 @@ use Rattle.bits.specs.Part.{span}
 use Rattle.bits.specs.Width.{width_of}
 use Rattle.shape.specs.Cast.{signed, saturated}
 use Rattle.shape.specs.Signed.{signed_of}
-use Rattle.shape.specs.declared.answer.Place.{Place}
-use Rattle.shape.specs.Shape.{Shape, num, raw, uint, byte_list, choice, tag_width, Values}
+use Rattle.shape.specs.Shape.{Shape, num, raw, uint, list, choice, tag_width, Values}
 use Rattle.protocol_param.specs.declared.value.Value.{Value}
 use Rattle.protocol_param.specs.declared.value.Value.TheVariants.{Empty, Integer, Real, Boolean, Text, Unknown}
 
@@ -16,7 +15,7 @@ value_then d zero = d
 value_then d (suc zero) = num signed saturated 64 d
 value_then d (suc (suc zero)) = raw 32 d
 value_then d (suc (suc (suc zero))) = uint 8 d
-value_then d (suc (suc (suc (suc zero)))) = byte_list 128 d
+value_then d (suc (suc (suc (suc zero)))) = list 8 128 d
 value_then d (suc (suc (suc (suc (suc t))))) = d
 
 -- a union of the first n cases: 5 for Value, 3 for NumericValue
@@ -68,10 +67,6 @@ size_of (Real x) n = 5
 size_of (Boolean z) n = 2
 size_of Text n = 2 + n
 size_of Unknown n = 1
-
--- RULES 10.11: a text ends where its value does, and so does the place of a text that is not there
-abbrev pub ending_at : ℕ → ℕ → Place
-ending_at next n = record { at = next - n; len = n }
 
 -- ── RULES 9.9: what stands in a payload, s being the part of it from the byte on whose lowest bits are the tag ──
 

@@ -48,16 +48,15 @@ pub fn name(payload: &[u8]) -> &[u8]
     part::behind(payload, name_at(payload))
 }
 
-// What the payload is refused for, whose name begins at byte `at`; 0 if it is not.
-fn refusal(payload: &[u8], at: usize) -> u32
-    requires { at ≡ request_name_at payload.now }
+// What the payload is refused for; 0 if it is not.
+fn refusal(payload: &[u8]) -> u32
     ensures { result ≡ (numbered (decoded request payload.now)).number }
 {
-    let n = value::refusal(part::behind(payload, 1), 5, at - 1);
+    let n = value::refusal(part::behind(payload, 1), 5);
     if n != 0 {
         return n;
     }
-    if 92 < part::behind(payload, at).len() {
+    if 92 < name(payload).len() {
         return 16;
     }
     0
@@ -67,23 +66,20 @@ fn refusal(payload: &[u8], at: usize) -> u32
 pub fn decode(payload: &[u8]) -> Read
     ensures { answer_of result ≡ request_in payload.now }
 {
-    let at = name_at(payload);
-    let n = refusal(payload, at);
+    let n = refusal(payload);
     if n != 0 {
         return Read::Refused(n);
     }
-    let v = value::read(part::behind(payload, 1), 5);
-    let text = value::text_size(v, at - 1);
     Read::Got(Request {
         index: number::read(payload, 0, 13),
-        value: v,
+        value: value::read(part::behind(payload, 1), 5),
         string_value: Place {
-            at: at - text,
-            len: text,
+            at: 3,
+            len: string_value(payload).len(),
         },
         name: Place {
-            at,
-            len: payload.len() - at,
+            at: name_at(payload),
+            len: name(payload).len(),
         },
     })
 }

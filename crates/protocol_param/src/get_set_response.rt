@@ -5,9 +5,8 @@ ghost use Rattle.shape.specs.Answer as answer;
 ghost use Rattle.shape.specs.Answer.{numbered};
 ghost use Rattle.shape.specs.Shape.{decoded, written};
 ghost use Rattle.protocol_param.specs.Value.{size_of, text_in};
-ghost use Rattle.protocol_param.specs.inside.Offsets.{offsets_in};
 ghost use Rattle.protocol_param.specs.inside.Value.{all_known, padded_bits, value_bits};
-ghost use Rattle.protocol_param.specs.GetSetResponse.{response, response_values, default_text_in, name_in, response_in, answer_of};
+ghost use Rattle.protocol_param.specs.GetSetResponse.{response, response_values, default_at, max_at, min_at, name_at, default_text_in, name_in, response_in, answer_of};
 
 use super::value;
 use super::value::Value;
@@ -35,26 +34,31 @@ pub enum Read {
 }
 
 // Where the values after the first begin, and the name.
-#[derive(Drop)]
-struct Offsets {
-    default_at: usize,
-    max_at: usize,
-    min_at: usize,
-    name_at: usize,
+fn default_at(payload: &[u8]) -> usize
+    ensures { result ≡ default_at payload.now }
+{
+    value::size(payload, 5)
 }
 
-fn locate(payload: &[u8]) -> Offsets
-    ensures { result ≡ offsets_in payload.now }
+fn max_at(payload: &[u8]) -> usize
+    ensures { result ≡ max_at payload.now }
 {
-    let default_at = value::size(payload, 5);
-    let max_at = default_at + value::size(part::behind(payload, default_at), 5);
-    let min_at = max_at + value::size(part::behind(payload, max_at), 3);
-    Offsets {
-        default_at,
-        max_at,
-        min_at,
-        name_at: min_at + value::size(part::behind(payload, min_at), 3),
-    }
+    let at = default_at(payload);
+    at + value::size(part::behind(payload, at), 5)
+}
+
+fn min_at(payload: &[u8]) -> usize
+    ensures { result ≡ min_at payload.now }
+{
+    let at = max_at(payload);
+    at + value::size(part::behind(payload, at), 3)
+}
+
+fn name_at(payload: &[u8]) -> usize
+    ensures { result ≡ name_at payload.now }
+{
+    let at = min_at(payload);
+    at + value::size(part::behind(payload, at), 3)
 }
 
 // The text of the value, as a part of the payload; nothing if the value is no text.
@@ -68,43 +72,37 @@ pub fn string_value(payload: &[u8]) -> &[u8]
 pub fn default_string_value(payload: &[u8]) -> &[u8]
     ensures { result.now ≡ default_text_in payload.now }
 {
-    value::text(part::behind(payload, value::size(payload, 5)))
+    value::text(part::behind(payload, default_at(payload)))
 }
 
 // The name, as a part of the payload: all after the values.
 pub fn name(payload: &[u8]) -> &[u8]
     ensures { result.now ≡ name_in payload.now }
 {
-    let at = locate(payload);
-    part::behind(payload, at.name_at)
+    part::behind(payload, name_at(payload))
 }
 
 // What the payload is refused for; 0 if it is not.
-fn refusal(payload: &[u8], at: Offsets) -> u32
-    requires { at ≡ offsets_in payload.now }
+fn refusal(payload: &[u8]) -> u32
     ensures { result ≡ (numbered (decoded response payload.now)).number }
 {
-    let a = value::refusal(payload, 5, at.default_at);
+    let a = value::refusal(payload, 5);
     if a != 0 {
         return a;
     }
-    let b = value::refusal(
-        part::behind(payload, at.default_at),
-        5,
-        at.max_at - at.default_at,
-    );
+    let b = value::refusal(part::behind(payload, default_at(payload)), 5);
     if b != 0 {
         return b;
     }
-    let c = value::refusal(part::behind(payload, at.max_at), 3, at.min_at - at.max_at);
+    let c = value::refusal(part::behind(payload, max_at(payload)), 3);
     if c != 0 {
         return c;
     }
-    let d = value::refusal(part::behind(payload, at.min_at), 3, at.name_at - at.min_at);
+    let d = value::refusal(part::behind(payload, min_at(payload)), 3);
     if d != 0 {
         return d;
     }
-    if 92 < part::behind(payload, at.name_at).len() {
+    if 92 < name(payload).len() {
         return 16;
     }
     0
@@ -114,31 +112,27 @@ fn refusal(payload: &[u8], at: Offsets) -> u32
 pub fn decode(payload: &[u8]) -> Read
     ensures { answer_of result ≡ response_in payload.now }
 {
-    let at = locate(payload);
-    let n = refusal(payload, at);
+    let n = refusal(payload);
     if n != 0 {
         return Read::Refused(n);
     }
-    let v = value::read(payload, 5);
-    let d = value::read(part::behind(payload, at.default_at), 5);
-    let text = value::text_size(v, at.default_at);
-    let other = value::text_size(d, at.max_at - at.default_at);
+    let at = default_at(payload);
     Read::Got(Response {
-        value: v,
+        value: value::read(payload, 5),
         string_value: Place {
-            at: at.default_at - text,
-            len: text,
+            at: 2,
+            len: string_value(payload).len(),
         },
-        default_value: d,
+        default_value: value::read(part::behind(payload, at), 5),
         default_string_value: Place {
-            at: at.max_at - other,
-            len: other,
+            at: at + 2,
+            len: default_string_value(payload).len(),
         },
-        max_value: value::read(part::behind(payload, at.max_at), 3),
-        min_value: value::read(part::behind(payload, at.min_at), 3),
+        max_value: value::read(part::behind(payload, max_at(payload)), 3),
+        min_value: value::read(part::behind(payload, min_at(payload)), 3),
         name: Place {
-            at: at.name_at,
-            len: payload.len() - at.name_at,
+            at: name_at(payload),
+            len: name(payload).len(),
         },
     })
 }

@@ -1,13 +1,11 @@
 // The value of a parameter (RULES 10.11): uavcan.protocol.param.Value, a union of five cases, and NumericValue, of the first three of them.
-ghost use Rattle.std.specs.Prelude.{◌≡◌, ◌+◌, ◌*◌, ◌-◌, ◌≤◌, ◌<◌, ltb, length, drop};
-ghost use Rattle.bits.specs.Order.{unpack, from_bits, store};
-ghost use Rattle.bits.specs.Width.{width_of};
+ghost use Rattle.std.specs.Prelude.{◌≡◌, ◌+◌, ◌*◌, ◌-◌, ◌≤◌, ◌<◌, ltb, length};
+ghost use Rattle.bits.specs.Order.{store};
 ghost use Rattle.shape.specs.Answer.{numbered};
 ghost use Rattle.shape.specs.Shape.{tag_width};
 ghost use Rattle.protocol_param.specs.Value.{value_of_tag, size_of, tag_at, value_at, text_length, text_in, size_at};
-ghost use Rattle.protocol_param.specs.inside.Value.{sized, text_size, tag_of, text_bits, content_bits, union_bits, text_fits};
+ghost use Rattle.protocol_param.specs.inside.Value.{sized, tag_of, text_bits, content_bits, union_bits, text_fits};
 
-use bits::le::wide;
 use bits::{field, width};
 use shape::{number, part};
 
@@ -48,40 +46,30 @@ pub fn of_tag(tag: i64, integer_value: i64, real_value: u32, boolean_value: i64)
 
 // ── reading: s is the payload from the byte on whose lowest bits are the tag ──
 
-// The tag of a union of so many cases, in the lowest bits of its byte; 0 where there is none.
+// The tag of a union of so many cases; 0 where there is none.
 fn tag(s: &[u8], cases: u64) -> u64
-    requires { (3 ≤ cases) × (cases ≤ 5) }
+    requires { (2 ≤ cases) × (cases ≤ 5) }
     ensures { result ≡ tag_at cases s.now }
 {
     if s.len() < 1 {
         return 0;
     }
-    let byte = wide(s[0]);
-    if cases == 5 {
-        return byte % 8;
-    }
-    byte % 4
+    let w = width::width(cases - 1) as usize;
+    field::read(s, 8 - w, w)
 }
 
-// What a text's length field says; 0 where there is none.
-fn announced(s: &[u8]) -> usize
-    ensures { result ≡ from_bits (width_of 128) (unpack (drop 1 s.now)) }
-{
-    let rest = part::behind(s, 1);
-    if rest.len() < 1 {
-        return 0;
-    }
-    wide(rest[0]) as usize
-}
-
-// The same; 0 of what is no text.
+// What the text's length field says; 0 where there is none, and of what is no text.
 fn text_length(s: &[u8]) -> usize
     ensures { result ≡ text_length s.now }
 {
     if tag(s, 5) != 4 {
         return 0;
     }
-    announced(s)
+    let rest = part::behind(s, 1);
+    if rest.len() < 1 {
+        return 0;
+    }
+    field::read(rest, 0, width::width(128) as usize) as usize
 }
 
 // Internal. The text, as a part of the payload.
@@ -93,7 +81,7 @@ pub fn text(s: &[u8]) -> &[u8]
 
 // Internal. How many bytes the value takes, with that of its tag.
 pub fn size(s: &[u8], cases: u64) -> usize
-    requires { (3 ≤ cases) × (cases ≤ 5) }
+    requires { (2 ≤ cases) × (cases ≤ 5) }
     ensures { result ≡ size_at cases s.now }
 {
     let t = tag(s, cases);
@@ -104,15 +92,14 @@ pub fn size(s: &[u8], cases: u64) -> usize
         1 => 9,
         2 => 5,
         3 => 2,
-        4 => 2 + announced(s),
+        4 => 2 + text_length(s),
         _ => 1,
     }
 }
 
-// Internal. What the value of n bytes is refused for: 15 where it is cut, 27 for a tag that no case has, 16 for a text that is too long. 0 if it is
-// all there.
-pub fn refusal(s: &[u8], cases: u64, n: usize) -> u32
-    requires { ((3 ≤ cases) × (cases ≤ 5)) × (n ≡ size_at cases s.now) }
+// Internal. What the value is refused for: 15 where it is cut, 27 for a tag that no case has, 16 for a text that is too long. 0 if it is all there.
+pub fn refusal(s: &[u8], cases: u64) -> u32
+    requires { (2 ≤ cases) × (cases ≤ 5) }
     ensures { result ≡ (numbered (sized cases s.now)).number }
 {
     if s.len() < 1 {
@@ -121,6 +108,7 @@ pub fn refusal(s: &[u8], cases: u64, n: usize) -> u32
     if cases <= tag(s, cases) {
         return 27;
     }
+    let n = size(s, cases);
     if s.len() < n {
         return 15;
     }
@@ -132,7 +120,7 @@ pub fn refusal(s: &[u8], cases: u64, n: usize) -> u32
 
 // Internal. The value, if it is all there.
 pub fn read(s: &[u8], cases: u64) -> Value
-    requires { ((3 ≤ cases) × (cases ≤ 5)) × (size_at cases s.now ≤ length s.now) }
+    requires { ((2 ≤ cases) × (cases ≤ 5)) × (size_at cases s.now ≤ length s.now) }
     ensures { result ≡ value_at cases s.now }
 {
     let t = tag(s, cases);
@@ -146,21 +134,6 @@ pub fn read(s: &[u8], cases: u64) -> Value
         3 => Value::Boolean(number::read(rest, 0, 8)),
         4 => Value::Text,
         _ => Value::Empty,
-    }
-}
-
-// Internal. How many of the n bytes that it takes are its text, which ends it.
-pub fn text_size(v: Value, n: usize) -> usize
-    requires { size_of v 0 ≤ n }
-    ensures { result ≡ text_size v n }
-{
-    match v {
-        Value::Empty => 0,
-        Value::Integer(_) => 0,
-        Value::Real(_) => 0,
-        Value::Boolean(_) => 0,
-        Value::Text => n - 2,
-        Value::Unknown => 0,
     }
 }
 

@@ -8,7 +8,7 @@ use lib.ListN.{length}
 use Rattle.frame.specs.inside.Head.{head_of}
 use Rattle.receiver.specs.Receive.{arrival_of, arriving}
 use Rattle.rules.proofs.Ordered as ordered
-use Rattle.rules.specs.Answer.{Refusal, no_subscription, no_room, refused}
+use Rattle.rules.specs.Answer.{refused}
 use Rattle.rules.specs.Check.{Reception, check, parsed, frame_check, or_zero}
 use Rattle.rules.specs.Frame.{Arrival, is_anonymous, priority_of, stream_of, tail_of, payload_of, is_start, is_end, toggle_of, transfer_of}
 use Rattle.rules.specs.Reception.{step, step_checked, step_anonymous}
@@ -35,34 +35,34 @@ parsed-is u id i time signature bs e =
       interface = i;
     }
 
--- ── the step, by the check that refuses ──
+-- ── the step, by the number of the check ──
 
 module _ (u : Setup) (id i time : ℕ) (bs out : List ℕ) where
   abbrev frame : Arrival
   frame = arrival_of id bs i time
 
-  abbrev pub heads : Option Refusal
+  abbrev pub heads : Option ℕ
   heads = ordered.heads u frame
 
-  pub read-refuses : (c : Refusal) → ordered.reads u frame ≡ some c → check u (arriving frame out) ≡ some c
+  pub read-refuses : (r : ℕ) → r ≡ or_zero (ordered.reads u frame) → 0 < r → check u (arriving frame out) ≡ some r
   unfolding check
-  read-refuses c e = rw (ordered.read-refuses u frame c e)
+  read-refuses r e h = rw (ordered.read-refuses u frame r e h)
 
-  module _ (e : ordered.reads u frame ≡ none) where
-    pub head-refuses : (c : Refusal) → heads ≡ some c → check u (arriving frame out) ≡ some c
+  module _ (r : ℕ) (e : r ≡ or_zero (ordered.reads u frame)) (z : r ≤ 0) where
+    pub head-refuses : (k : ℕ) → k ≡ or_zero heads → 0 < k → check u (arriving frame out) ≡ some k
     unfolding check
-    head-refuses c d = rw (ordered.head-refuses u frame e c d)
+    head-refuses k d h = rw (ordered.head-refuses u frame r e z k d h)
 
-    module _ (d : heads ≡ none) where
-      pub not-subscribed : signature_for u id ≡ none → check u (arriving frame out) ≡ some no_subscription
+    module _ (k : ℕ) (d : k ≡ or_zero heads) (y : k ≤ 0) where
+      pub not-subscribed : signature_for u id ≡ none → check u (arriving frame out) ≡ some 7
       unfolding check
-      not-subscribed s = rw (ordered.heads-pass u frame e d, s)
+      not-subscribed s = rw (ordered.heads-pass u frame r e z k d y, s)
 
       module _ (g : ℕ) (s : signature_for u id ≡ some g) where
         pub all-passed : frame_check u frame ≡ none
-        all-passed = rw (ordered.heads-pass u frame e d, s)
+        all-passed = rw (ordered.heads-pass u frame r e z k d y, s)
 
-        pub no-room : length out < 512 → check u (arriving frame out) ≡ some no_room
+        pub no-room : length out < 512 → check u (arriving frame out) ≡ some 8
         unfolding check
         no-room h = rw (all-passed, lt-ltb (length out) 512 h)
 
@@ -70,10 +70,10 @@ module _ (u : Setup) (id i time : ℕ) (bs out : List ℕ) where
         unfolding check
         accepted h = rw (all-passed, le-ltb (length out) 512 h)
 
-pub step-refused : (u : Setup) (ps : Places) (r : Reception) (c : Refusal) → check u r ≡ some c → step u ps r ≡ record { answer = refused c; places = ps }
+pub step-refused : (u : Setup) (ps : Places) (r : Reception) (n : ℕ) → check u r ≡ some n → step u ps r ≡ record { answer = refused n; places = ps }
 unfolding step step_checked
-step-refused u ps r c e = ap (λ (o : Option Refusal). step_checked o (is_anonymous r.arrival.frame.id) ps (parsed u r.arrival)) e
+step-refused u ps r n e = ap (λ (o : Option ℕ). step_checked o (is_anonymous r.arrival.frame.id) ps (parsed u r.arrival)) e
 
 pub step-accepted : (u : Setup) (ps : Places) (r : Reception) → check u r ≡ none → step u ps r ≡ step_anonymous (is_anonymous r.arrival.frame.id) ps (parsed u r.arrival)
 unfolding step step_checked
-step-accepted u ps r e = ap (λ (o : Option Refusal). step_checked o (is_anonymous r.arrival.frame.id) ps (parsed u r.arrival)) e
+step-accepted u ps r e = ap (λ (o : Option ℕ). step_checked o (is_anonymous r.arrival.frame.id) ps (parsed u r.arrival)) e

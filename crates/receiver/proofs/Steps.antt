@@ -135,9 +135,8 @@ module _ (m : List ℕ) (i k : ℕ) (c : code.Session) (h : Incoming) (p out : L
   pub held-len : c.len ≡ count_at m i
   held-len = ap (λ (x : code.Session). x.len) coded-is ∙ in-hand
 
-  pub over-ready : (c.expected < 32) × ((c.len ≤ 514) × (length p ≤ 7))
-  over-ready =
-      (omega (arith, ap (λ (x : code.Session). x.expected) coded-is, fits.expected), (omega (arith, ap (λ (x : code.Session). x.len) coded-is, in-hand, few), w.payload))
+  pub over-ready : (c.expected < 32) × (c.len ≤ 514)
+  over-ready = (omega (arith, ap (λ (x : code.Session). x.expected) coded-is, fits.expected), omega (arith, ap (λ (x : code.Session). x.len) coded-is, in-hand, few))
 
   all-length : length (s.gathered ++ p) ≡ count_at m i + length p
   all-length = length-append s.gathered p ∙ omega (arith, in-hand)

@@ -10,8 +10,7 @@ ghost use Rattle.session.specs.inside.Session.{stream_of, parsed_of};
 ghost use Rattle.state.specs.Layout.{setup_of, places_of};
 ghost use Rattle.state.specs.Sound.{sound_state};
 
-use answers::{Answer, Refusal};
-use frame::check::Checked;
+use answers::Answer;
 use rules::limits::PAYLOAD;
 use session::Incoming;
 use subscriptions::Subscribed;
@@ -41,20 +40,20 @@ pub fn receive_sound(
     ensures { returned result state.new out.new ≡ lent state.old out.old (step (setup_of state.old) (places_of state.old) (arriving (arrival_of id frame.now interface time) out.old)) }
 {
     let n = frame.len();
-    let readable = frame::check::before_reading(id, n, interface);
-    if let Checked::Refused(r) = readable {
-        return Answer::Refused(r);
+    let unreadable = frame::check::unreadable(id, n, interface);
+    if 0 < unreadable {
+        return Answer::Refused(unreadable);
     }
     let h = frame::head::read(id, frame[n - 1]);
-    let checked = frame::check::of_head(h, n, state[0]);
-    if let Checked::Refused(r) = checked {
-        return Answer::Refused(r);
+    let refused = frame::check::refusal(h, n, state[0]);
+    if 0 < refused {
+        return Answer::Refused(refused);
     }
     match subscriptions::find(state, frame::check::kind(h), h.type_id as u32) {
-        Subscribed::Not => Answer::Refused(Refusal::NoSubscription),
+        Subscribed::Not => Answer::Refused(7),
         Subscribed::Under(signature) => {
             if out.len() < PAYLOAD {
-                return Answer::Refused(Refusal::NoRoom);
+                return Answer::Refused(8);
             }
             accept(
                 state,

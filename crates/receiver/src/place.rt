@@ -2,7 +2,7 @@
 ghost use Rattle.std.specs.Prelude.{◌≡◌, true, false, not, ◌&&◌, [], ◌+◌, ◌≤◌, ◌<◌, ltb, length};
 ghost use Rattle.std.specs.Int.Count.{count_trailing_zeros};
 ghost use Rattle.rules.specs.Blocks.{need, asks, free_block, cleared};
-ghost use Rattle.rules.specs.Limits.{sessions_max, gathered_max, frame_payload, interfaces_max, blocks_max};
+ghost use Rattle.rules.specs.Limits.{sessions_max, gathered_max, interfaces_max, blocks_max};
 ghost use Rattle.rules.specs.Reception.{store, step_ask, step_at, step_new, step_held, step_seek};
 ghost use Rattle.rules.specs.Session.{waiting, next, proceed};
 ghost use Rattle.rules.specs.Table.{seek, holds, place_for};
@@ -33,12 +33,16 @@ fn is_single(f: Incoming) -> bool
     false
 }
 
-// The session once a transfer ends with this frame of n bytes, whatever the answer: it is taken, and the transfer is closed.
-fn over(c: Session, f: Incoming, n: usize) -> Session
-    requires { (c.expected < 32) × ((c.len ≤ gathered_max) × (n ≤ frame_payload)) }
+// The session once the transfer is over: nothing in hand, waiting for the next one. A start sets the time.
+fn over(c: Session, f: Incoming) -> Session
+    requires { (c.expected < 32) × (c.len ≤ gathered_max) }
     ensures { result ≡ idle (next c.expected) (pick f.head.start f.time c.time) c.follows }
 {
-    c.take(f.head.start, f.time, n).close()
+    let next = (c.expected + 1) % 32;
+    if f.head.start {
+        return Session::fresh(next, f.time, c.follows);
+    }
+    Session::fresh(next, c.time, c.follows)
 }
 
 // The last of several frames: the bytes in hand and its own are gathered, and the checksum decides.
@@ -58,7 +62,7 @@ fn close(
     let len = c.len;
     gathered::gather(state, i, len, &mut all);
     bits::part::copy_at(&mut all, len, p);
-    place::wait(state, i, k, over(c, f, p.len()));
+    place::wait(state, i, k, over(c, f));
     session::finish(&all, len + p.len(), f, out)
 }
 
@@ -107,11 +111,11 @@ fn take(
     ensures { returned result state.new out.new ≡ lent state.old out.old (step_ask (asks (session_at state.old i) (blocks_of state.old i) (parsed_of f p.now)) (places_of state.old) i (session_at state.old i) (blocks_of state.old i) (parsed_of f p.now)) }
 {
     if is_single(f) {
-        place::wait(state, i, k, over(c, f, p.len()));
+        place::wait(state, i, k, over(c, f));
         return session::finish(p, p.len(), f, out);
     }
     if lacks_block(state, f.time, c.len, p.len()) {
-        place::wait(state, i, k, over(c, f, p.len()));
+        place::wait(state, i, k, over(c, f));
         return Answer::NoBlock;
     }
     enter(state, i, k, c, f, p, out)
@@ -132,7 +136,7 @@ fn proceed(
 {
     if session::awaited(c, f) {
         if GATHERED < c.len + p.len() {
-            place::wait(state, i, k, over(c, f, p.len()));
+            place::wait(state, i, k, over(c, f));
             return Answer::TooLong;
         }
         return take(state, i, k, c, f, p, out);

@@ -14,8 +14,7 @@ use Rattle.bits.proofs.Bytes.{length-bytes}
 use Rattle.bits.proofs.Numbers.{length-to_bits}
 use Rattle.shape.specs.Answer.{Numbered, refuse_if, wrote}
 use Rattle.shape.specs.Cast.{cast_bits}
-use Rattle.shape.specs.Cast.{Sign, Cast, Item}
-use Rattle.shape.specs.Shape.{Shape, end, num, raw, void, items, list, tail, choice, tag_width, Values, item_bits, clipped_items, encode, tags, fits, message, encoded, written}
+use Rattle.shape.specs.Shape.{Shape, end, num, raw, void, items, list, tail, choice, tag_width, Values, item_bits, all_below, encode, tags, fits, message, encoded, written}
 use Rattle.shape.proofs.Fields.{and_left, and_right, length-item_bits}
 use Rattle.row.specs.Row.{word_of}
 
@@ -29,9 +28,9 @@ short end b = true
 short (num s c w d) b = leb w b && short d (b - w)
 short (raw w d) b = leb w b && short d (b - w)
 short (void w d) b = leb w b && short d (b - w)
-short (items s c w k d) b = leb (k * w) b && short d (b - k * w)
-short (list s c w m d) b = leb (width_of m + m * w) b && short d (b - (width_of m + m * w))
-short (tail s c w m ok) b = leb (m * w) b
+short (items w k d) b = leb (k * w) b && short d (b - k * w)
+short (list w m d) b = leb (width_of m + m * w) b && short d (b - (width_of m + m * w))
+short (tail w m ok) b = leb (m * w) b
 short (choice n f) b = leb (tag_width n) b && below n (λ t. short (f t) (b - tag_width n))
 
 case-of : (n : ℕ) (f : ℕ → Bool) → below n f ≡ true → (t : ℕ) → t < n → f t ≡ true
@@ -46,8 +45,8 @@ field : (w b : ℕ) (x y : List Bool) (p : Bool) → leb w b && p ≡ true → l
 field w b x y p e h k = omega (arith, leb-true w b (and_left (leb w b) p e), length-append x y)
 
 -- at most m items
-listed : (s : Sign) (c : Cast) (w m : ℕ) (xs : List (Item s)) → length xs ≤ m → length (item_bits s c w xs) ≤ m * w
-listed s c w m xs h = rw (length-item_bits s c w xs) (mul-le-mul_right w h)
+listed : (w m : ℕ) (xs : List ℕ) → length xs ≤ m → length (item_bits w xs) ≤ m * w
+listed w m xs h = rw (length-item_bits w xs) (mul-le-mul_right w h)
 
 bits : (d : Shape) (b : ℕ) → short d b ≡ true → (v : Values d) → tags d v ≡ true → fits d v ≡ true → length (encode d v) ≤ b
 unfolding encode fits
@@ -60,18 +59,20 @@ bits (raw w d) b e v t f =
     (bits d (b - w) (and_right (leb w b) (short d (b - w)) e) v.1 t (and_right (ltb v.0 (2 ^ w)) (fits d v.1) f))
 bits (void w d) b e v t f =
     field w b (to_bits w 0) (encode d v) (short d (b - w)) e (rw length-to_bits (omega arith)) (bits d (b - w) (and_right (leb w b) (short d (b - w)) e) v t f)
-bits (items s c w k d) b e v t f =
-    let l : length v.0 ≤ k = omega (arith, eqb-true (length v.0) k (and_left (eqb (length v.0) k) (fits d v.1) f)) in
-    field (k * w) b (item_bits s c w v.0) (encode d v.1) (short d (b - k * w)) e (listed s c w k v.0 l)
-    (bits d (b - k * w) (and_right (leb (k * w) b) (short d (b - k * w)) e) v.1 t (and_right (eqb (length v.0) k) (fits d v.1) f))
-bits (list s c w m d) b e v t f =
-    let l : length v.0 ≤ m = leb-true (length v.0) m (and_left (leb (length v.0) m) (fits d v.1) f) in
+bits (items w k d) b e v t f =
+    let g = and_right (eqb (length v.0) k) (all_below (2 ^ w) v.0 && fits d v.1) f in
+    let l : length v.0 ≤ k = omega (arith, eqb-true (length v.0) k (and_left (eqb (length v.0) k) (all_below (2 ^ w) v.0 && fits d v.1) f)) in
+    field (k * w) b (item_bits w v.0) (encode d v.1) (short d (b - k * w)) e (listed w k v.0 l)
+    (bits d (b - k * w) (and_right (leb (k * w) b) (short d (b - k * w)) e) v.1 t (and_right (all_below (2 ^ w) v.0) (fits d v.1) g))
+bits (list w m d) b e v t f =
+    let g = and_right (leb (length v.0) m) (all_below (2 ^ w) v.0 && fits d v.1) f in
+    let l : length v.0 ≤ m = leb-true (length v.0) m (and_left (leb (length v.0) m) (all_below (2 ^ w) v.0 && fits d v.1) f) in
     let n = width_of m + m * w in
-    let r = bits d (b - n) (and_right (leb n b) (short d (b - n)) e) v.1 t (and_right (leb (length v.0) m) (fits d v.1) f) in
+    let r = bits d (b - n) (and_right (leb n b) (short d (b - n)) e) v.1 t (and_right (all_below (2 ^ w) v.0) (fits d v.1) g) in
     omega
-    (arith, leb-true n b (and_left (leb n b) (short d (b - n)) e), length-append (to_bits (width_of m) (length v.0)) (item_bits s c w v.0 ++ encode d v.1), length-append (item_bits s c w v.0) (encode d v.1), length-to_bits (width_of m) (length v.0), listed s c w m v.0 l)
-bits (tail s c w m ok) b e v t f =
-    omega (arith, leb-true (m * w) b e, listed s c w m v (leb-true (length v) m (and_left (leb (length v) m) (ok (clipped_items s c w v)) f)))
+    (arith, leb-true n b (and_left (leb n b) (short d (b - n)) e), length-append (to_bits (width_of m) (length v.0)) (item_bits w v.0 ++ encode d v.1), length-append (item_bits w v.0) (encode d v.1), length-to_bits (width_of m) (length v.0), listed w m v.0 l)
+bits (tail w m ok) b e v t f =
+    omega (arith, leb-true (m * w) b e, listed w m v (leb-true (length v) m (and_left (leb (length v) m) (all_below (2 ^ w) v && ok v) f)))
 bits (choice n g) b e v t f =
     let w = tag_width n in
     let h = ltb-true v.0 n (and_left (ltb v.0 n) (tags (g v.0) v.1) t) in

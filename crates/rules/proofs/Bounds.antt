@@ -524,7 +524,7 @@ still-room u d t ps r h a n = omega (arith, n, at-need ps r a, at-need (step u p
 answer-is : (a : Answer) → Ranged a → (a ≡ no_block → ⊥) → eqb (number_of a) 26 ≡ false
 answer-is taken r n = refl
 answer-is (handed p d priority t) r n = refl
-answer-is (refused k) r n = no-block k
+answer-is (refused k) r n = no-block k r
 answer-is full r n = refl
 answer-is (passed x) r n = ne_eqb (reason_number x) 26 (λ e. omega (arith, (reason-range x).0, e))
 answer-is long r n = refl

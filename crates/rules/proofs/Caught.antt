@@ -1,25 +1,26 @@
 -- A burst is caught (RULES 14.16 to 14.18): the theorem over the rules' table. What arrives carries the checksum of what was sent, so its end is 12.
-use mathlib.Core.Path.{◌≡◌, refl, sym, ap, ◌∙◌}
+use mathlib.Core.Path.{◌≡◌, refl, sym, ap, ◌∙◌, subst}
 use mathlib.Core.Bool.{Bool, true, false, true≢false}
 use mathlib.Core.List.{List, [], ◌∷◌, ◌++◌}
 use mathlib.Core.Option.{some}
-use Prim.Native.Nat.{ℕ, suc, ◌+◌, ◌*◌, ◌/◌, ◌%◌, ◌≤◌}
+use Prim.Native.Nat.{ℕ, suc, ◌+◌, ◌*◌, ◌/◌, ◌%◌}
 use native.Mathlib.Omega.{arith}
 use lib.Dec.{eqb, leb}
 use lib.ListN.{length}
-use borrow.Author.Tests.{ne_eqb, lt-leb}
+use borrow.Author.Tests.{eq-eqb, ne_eqb, lt-leb}
 use Rattle.checksum.proofs.Damage.{caught}
 use Rattle.checksum.specs.Crc16.{checksum}
 use Rattle.rules.specs.Answer.{Answer, differs, number_of}
-use Rattle.rules.specs.Condition3.{All, Receiver, frames, answers, Undisturbed, rules_table}
-use Rattle.rules.specs.Damage.{Opens, Arriving, done, next, again, beside, Damaged, end_at, before_end, after_end, BurstIsCaught}
+use Rattle.rules.specs.Condition3.{All, Receiver, frames, answers, While, Brings, rules_table}
+use Rattle.rules.specs.Damage.{Opens, Damaged, end_at, before_end, after_end, BurstIsCaught}
 use Rattle.rules.specs.Frame.{Arrival, Stream}
-use Rattle.rules.specs.Sent.{summed, carrying}
+use Rattle.rules.specs.Limits.{switch_delay}
+use Rattle.rules.specs.Sent.{summed, carrying, id_of}
 use Rattle.rules.specs.Session.{closing}
 use Rattle.rules.specs.Setup.{Setup, signature_for}
 use Rattle.rules.proofs.Delivery.{Goes, over-now, goes_on, closes_by, verdict}
 use Rattle.rules.proofs.Frames.{frames-known}
-use Rattle.rules.proofs.Theorem.{within, closes, goes-handouts}
+use Rattle.rules.proofs.Theorem.{sender, closes, goes-handouts}
 
 -- ── the answer that closes, in its place ──
 
@@ -54,12 +55,6 @@ placed e (closes_by {l = l} a h g) = record { before = []; after = l; parts = re
 
 -- ── a receiver ──
 
-in-time : {i id till : ℕ} {c : List ℕ} {ms : List (List ℕ)} {fs : List Arrival} → Arriving i id till c ms fs → All (λ a. a.frame.time ≤ till) fs
-in-time done = tt
-in-time (next t h b) = (h, in-time b)
-in-time (again d tail long t h b) = (h, in-time b)
-in-time (beside a e h b) = (h, in-time b)
-
 module _ (u : Setup) (d : Stream) (x : Receiver (rules_table u)) (s : Opens (rules_table u) d x) (priority t : ℕ) (p q : List ℕ)
     (dm : Damaged u d x.start.arrival (frames (rules_table u) d x) priority t p q) where
   abbrev f : Arrival
@@ -71,8 +66,11 @@ module _ (u : Setup) (d : Stream) (x : Receiver (rules_table u)) (s : Opens (rul
   abbrev all : List ℕ
   all = summed sum q
 
-  known : (length p ≡ length q) × (f.frame.bytes ∷ dm.rest ≡ carrying t all)
-  known = frames-known dm.signature t p (f.frame.bytes ∷ dm.rest) sum q dm.size.0 dm.tails dm.lengths dm.carried
+  id-is : f.frame.id ≡ id_of d priority
+  id-is = sender (eq-eqb f.interface f.interface refl) dm.brings
+
+  known : (length p ≡ length q) × (dm.arriving ≡ carrying t all)
+  known = frames-known dm.signature t p dm.arriving sum q dm.size.0 dm.tails dm.lengths dm.carried
 
   not-single : leb (length all) 7 ≡ false
   not-single = lt-leb (length all) 7 (omega (arith, known.0, dm.size.0))
@@ -86,13 +84,15 @@ module _ (u : Setup) (d : Stream) (x : Receiver (rules_table u)) (s : Opens (rul
   ends-12 : verdict u f.frame.id t all false ≡ differs
   unfolding closing
   ends-12 =
-      let e : signature_for u f.frame.id ≡ some dm.signature = ap (signature_for u) dm.id ∙ dm.subscribed in
+      let e : signature_for u f.frame.id ≡ some dm.signature = ap (signature_for u) id-is ∙ dm.subscribed in
       rw (e, unlike)
 
-  goes : Undisturbed (rules_table u) d (length (frames (rules_table u) d x)) x
+  goes : While (rules_table u) d (length (frames (rules_table u) d x)) x
       → Goes f.interface differs false false (f ∷ frames (rules_table u) d x) (answers (rules_table u) d x)
   goes w =
-      let g = closes u d x s t dm.fields.1 all (omega (arith, known.0, dm.size.1)) (within u d x s _ w (in-time dm.brings)) dm.rest known.1 dm.brings in
+      let b = subst (λ id. Brings f.interface id (f.frame.time + switch_delay) (carrying t all) (f ∷ frames (rules_table u) d x)) (sym id-is)
+      (subst (λ cs. Brings f.interface (id_of d priority) (f.frame.time + switch_delay) cs (f ∷ frames (rules_table u) d x)) known.1 dm.brings) in
+      let g = closes u d x s t dm.fields.1 all (omega (arith, known.0, dm.size.1)) w b in
       rw (not-single, ends-12) at g
 
 pub burst-caught : BurstIsCaught rules_table

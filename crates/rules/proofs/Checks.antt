@@ -8,7 +8,6 @@ use native.Mathlib.Omega.{arith}
 use lib.Dec.{ltb, eqb}
 use lib.ListN.{length}
 use borrow.Author.Tests.{ne_eqb, le-ltb}
-use Rattle.rules.specs.Answer.{Refusal, wrong_id, wrong_length, wrong_interface, nameless_service, wrong_tail, other_node, no_subscription}
 use Rattle.rules.specs.Check.{Reception, parsed, large_id, bad_length, no_interface, unnamed_service, bad_tail, for_another, not_subscribed, frame_check, room_check, check}
 use Rattle.rules.specs.Condition3.{of_stream}
 use Rattle.rules.specs.Frame.{Frame, Arrival, Stream, is_service, source_of, destination_of, is_anonymous, stream_of, tail_of, is_start, is_end, toggle_of}
@@ -32,20 +31,20 @@ pub record Accepted (u : Setup) (a : Arrival) : Type 0 where
   pub mine : for_another u.own (stream_of a.frame.id) ≡ false
   pub subscribed : not_subscribed u a.frame ≡ false
 
-pick-none : (b : Bool) (c : Refusal) (o : Option Refusal) → pick b (some c) o ≡ none → (b ≡ false) × (o ≡ none)
-pick-none true c o e = let z : ◌≡◌ {A = ℕ} 0 1 = cc in absurd (omega arith)
-pick-none false c o e = (refl, e)
+pick-none : (b : Bool) (n : ℕ) (o : Option ℕ) → pick b (some n) o ≡ none → (b ≡ false) × (o ≡ none)
+pick-none true n o e = let z : ◌≡◌ {A = ℕ} 0 1 = cc in absurd (omega arith)
+pick-none false n o e = (refl, e)
 
 pub accepted : (u : Setup) (f : Arrival) → frame_check u f ≡ none → Accepted u f
 unfolding frame_check
 accepted u f e =
-    let e2 = pick-none (large_id f.frame.id) wrong_id _ e in
-    let e3 = pick-none (bad_length (length f.frame.bytes)) wrong_length _ e2.1 in
-    let e19 = pick-none (no_interface f.interface) wrong_interface _ e3.1 in
-    let e4 = pick-none (unnamed_service (stream_of f.frame.id)) nameless_service _ e19.1 in
-    let e5 = pick-none (bad_tail_in f.frame) wrong_tail _ e4.1 in
-    let e6 = pick-none (for_another u.own (stream_of f.frame.id)) other_node _ e5.1 in
-    let e7 = pick-none (not_subscribed u f.frame) no_subscription _ e6.1 in
+    let e2 = pick-none (large_id f.frame.id) 2 _ e in
+    let e3 = pick-none (bad_length (length f.frame.bytes)) 3 _ e2.1 in
+    let e19 = pick-none (no_interface f.interface) 19 _ e3.1 in
+    let e4 = pick-none (unnamed_service (stream_of f.frame.id)) 4 _ e19.1 in
+    let e5 = pick-none (bad_tail_in f.frame) 5 _ e4.1 in
+    let e6 = pick-none (for_another u.own (stream_of f.frame.id)) 6 _ e5.1 in
+    let e7 = pick-none (not_subscribed u f.frame) 7 _ e6.1 in
     record { id = e2.0; length = e3.0; interface = e19.0; service = e4.0; tail = e5.0; mine = e6.0; subscribed = e7.0 }
 
 pub none_of : (u : Setup) (f : Arrival) → Accepted u f → frame_check u f ≡ none
@@ -56,7 +55,7 @@ pub checked : (u : Setup) (r : Reception) → check u r ≡ none → frame_check
 unfolding check
 checked u r e = go (frame_check u r.arrival) (ltb r.room 512) e
   where
-    go : (o : Option Refusal) (b : Bool) → room_check o b ≡ none → o ≡ none
+    go : (o : Option ℕ) (b : Bool) → room_check o b ≡ none → o ≡ none
     go none b k = refl
     go (some n) b k = k
 
@@ -65,7 +64,7 @@ pub roomy-check : (u : Setup) (r : Reception) → 512 ≤ r.room → check u r �
 unfolding check
 roomy-check u r h = rw (le-ltb r.room 512 h) (go (frame_check u r.arrival))
   where
-    go : (o : Option Refusal) → room_check o false ≡ o
+    go : (o : Option ℕ) → room_check o false ≡ o
     go none = refl
     go (some n) = refl
 

@@ -212,16 +212,13 @@ module _ (c : Call) (m : Map) (room n i : ℕ) (h : sound m ≡ true) (e : (send
           room = wide;
           while =
               record {
-                undisturbed =
-                    record {
-                      time = rw plain-front (forward-each u wire time space rest);
-                      room = rw plain-front (roomy-each wire d' below stream-of u time space wide rest);
-                      blocks =
-                          rw plain-front
-                          (all-served u d' time (of_stream d') (step u ps plain.start).places (each wire time space rest) (lasting.reception u ps plain.start fine)
-                          (each_at rest) (still-room u d' time ps plain.start fine (record { stream = stream-of; time = refl }) (omega (arith, s))));
-                    };
+                time = rw plain-front (forward-each u wire time space rest);
+                room = rw plain-front (roomy-each wire d' below stream-of u time space wide rest);
                 table = rw plain-front (ap (never (rules_table u) 9) none-starts);
+                blocks =
+                    rw plain-front
+                    (all-served u d' time (of_stream d') (step u ps plain.start).places (each wire time space rest) (lasting.reception u ps plain.start fine)
+                    (each_at rest) (still-room u d' time ps plain.start fine (record { stream = stream-of; time = refl }) (omega (arith, s))));
               };
         }
 

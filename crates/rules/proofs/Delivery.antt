@@ -1,8 +1,9 @@
 -- A session that hears its stream alone: of the answers to the frames that carry some bytes, that to the first copy of the last frame closes the
 -- transfer as the bytes decide, and the others are 0, a passing over or a refusal.
-use mathlib.Core.Path.{◌≡◌, refl, sym, ap, ap₂, ◌∙◌}
+use mathlib.Core.Path.{◌≡◌, refl, sym, ap, ◌∙◌}
 use mathlib.Core.Bool.{Bool, true, false, true≢false, not, ◌&&◌, ◌||◌, and-false, not-not}
 use mathlib.Core.List.{List, [], ◌∷◌, ◌++◌, append_assoc, nil≢cons, head-eq_of_cons-eq, tail-eq_of_cons-eq}
+use mathlib.Core.Logic.{inl, inr}
 use mathlib.Core.Option.{Option, none, some}
 use Prim.Native.Nat.{ℕ, zero, suc, ◌+◌, ◌*◌, ◌-◌, ◌%◌, ◌≤◌, ◌<◌}
 use native.Mathlib.Omega.{arith}
@@ -10,20 +11,21 @@ use lib.Dec.{eqb, leb}
 use lib.ListN.{length, take, drop, length-append, length-take, length-drop, take-append-drop}
 use lib.Seq.{length-take-le}
 use borrow.Author.Tests.{eq-eqb, ne_eqb, le-ltb, le-leb, lt-leb}
-use Rattle.rules.specs.Answer.{Answer, taken, handed, passed, Reason, no_transfer, wrong_toggle, wrong_transfer, repeated_start, other_interface, number_of, Refusal, wrong_id, wrong_length, wrong_interface, nameless_service, wrong_tail, other_node, no_subscription, refusal_number}
-use Rattle.rules.specs.Check.{Parsed, or_zero, parsed, bad_length, bad_tail, not_subscribed, read_tests, head_tests, first as first_of, frame_check, large_id, no_interface, unnamed_service, for_another}
+use Rattle.rules.specs.Answer.{Answer, taken, handed, passed, Reason, no_transfer, wrong_toggle, wrong_transfer, repeated_start, other_interface, number_of}
+use Rattle.rules.specs.Check.{Parsed, or_zero, parsed, bad_length, bad_tail, frame_check}
 use Rattle.rules.specs.Condition3.{Brings, done, next as onward, again, beside}
-use Rattle.rules.specs.Damage.{Arriving, done as none_left, next as moved, again as repeated, beside as astray, end_by, elsewhere, before_end}
-use Rattle.rules.specs.Frame.{Arrival, stream_of, priority_of, is_anonymous, tail_of, is_start, is_end, toggle_of, transfer_of}
+use Rattle.rules.specs.Damage.{end_by, elsewhere, before_end}
+use Rattle.rules.specs.Frame.{Arrival, stream_of, priority_of, is_anonymous, tail_of, is_end}
 use Rattle.rules.specs.Limits.{old_age, switch_delay}
-use Rattle.rules.specs.Sent.{tail_byte, framed, frame_at, arrival_at, pieces, carrying}
-use Rattle.rules.specs.Session.{Session, Out, distance, next, restarts, over_if, over, sum_ok, closing, take_end, take_long, takes, proceed_if, proceed, fresh}
+use Rattle.rules.specs.Sent.{tail_byte, framed, arrival_at, pieces, carrying}
+use Rattle.rules.specs.Session.{Session, Out, distance, next, restarts, over_if, over, sum_ok, closing, take_end, take_long, takes, proceed_if, proceed, react, fresh}
 use Rattle.rules.specs.Setup.{Setup, signature_for}
 use Rattle.rules.specs.Tests.{pick, bit, same_bool, is_empty}
 use Rattle.rules.proofs.Checks.{Accepted, none_of, check-time, bad_tail_in}
 use Rattle.rules.proofs.Frames.{framed-length, framed-tail, framed-payload, pieces-length, fulls}
 use Rattle.rules.proofs.Ids.{bit_is, flag-le}
-use Rattle.rules.proofs.Own.{proceed-taken, ref-stays, ref_step, ref_if, ref, ref_run}
+use Rattle.rules.proofs.Own.{proceed-taken, react-stays, ref_if, ref, ref_run}
+use Rattle.rules.proofs.Ranges.{UpTo, frame_small}
 
 -- ── how the answers to a transfer's frames go ──
 
@@ -56,32 +58,41 @@ not-one single ended (suc (suc n)) e = ne_eqb (suc (suc n)) 1 (λ z. omega arith
 
 -- ── frames in order, beside the one taken last ──
 
+-- c was taken last, and `more` is to come
+data Then (i id till : ℕ) : List ℕ → List (List ℕ) → List Arrival → Type 0 where
+  none_left : {c : List ℕ} → Then i id till c [] []
+  repeated : {c : List ℕ} {more : List (List ℕ)} {fs : List Arrival} (t : ℕ) → t ≤ till → Then i id till c more fs
+      → Then i id till c more (arrival_at i id c t ∷ fs)
+  moved : {c n : List ℕ} {more : List (List ℕ)} {fs : List Arrival} (t : ℕ) → t ≤ till → Then i id till n more fs
+      → Then i id till c (n ∷ more) (arrival_at i id n t ∷ fs)
+  astray : {c : List ℕ} {more : List (List ℕ)} {fs : List Arrival} (a : Arrival) → eqb a.interface i ≡ false → a.frame.time ≤ till
+      → Then i id till c more fs → Then i id till c more (a ∷ fs)
+
 -- the first of the frames was taken already
 abbrev Taken : ℕ → ℕ → ℕ → List (List ℕ) → List Arrival → Type 0
 Taken i id till [] fs = Unit {0}
-Taken i id till (n ∷ more) fs = Arriving i id till n more fs
+Taken i id till (n ∷ more) fs = Then i id till n more fs
 
 astray-taken : (i id till : ℕ) (ms : List (List ℕ)) (fs : List Arrival) (a : Arrival) → eqb a.interface i ≡ false → a.frame.time ≤ till
     → Taken i id till ms fs → Taken i id till ms (a ∷ fs)
 astray-taken i id till [] fs a e h k = tt
 astray-taken i id till (n ∷ ms) fs a e h k = astray a e h k
 
-brought : {i id till : ℕ} {ms : List (List ℕ)} {fs : List Arrival} → Brings i id till ms fs → ((c : List ℕ) → Arriving i id till c ms fs) × Taken i id till ms fs
+brought : {i id till : ℕ} {ms : List (List ℕ)} {fs : List Arrival} → Brings i id till ms fs → ((c : List ℕ) → Then i id till c ms fs) × Taken i id till ms fs
 brought done = (λ c. none_left, tt)
-brought (onward {c = n} t h b) = let q = brought b in (λ c. moved t h (q.0 n), repeated n refl refl t h (q.0 n))
-brought (again {c = n} t h b) = let q = brought b in (λ c. moved t h q.1, repeated n refl refl t h q.1)
+brought (onward {c = n} t h b) = let q = brought b in (λ c. moved t h (q.0 n), repeated t h (q.0 n))
+brought (again t h b) = let q = brought b in (λ c. moved t h q.1, repeated t h q.1)
 brought {i = i} {id = id} {till = till} (beside {l = l} {fs = fs} a e h b) = let q = brought b in (λ c. astray a e h (q.0 c), astray-taken i id till l fs a e h q.1)
 
--- the frames that f is the first of, and what follows it
-pub record Opened (i id till : ℕ) (ms : List (List ℕ)) (f : Arrival) (fs : List Arrival) : Type 0 where
-  pub rest : List (List ℕ)
-  pub is : f.frame.bytes ∷ rest ≡ ms
-  pub brings : Arriving i id till f.frame.bytes rest fs
+-- the first frame, and what follows it
+record Opened (i id till : ℕ) (c : List ℕ) (more : List (List ℕ)) (f : Arrival) (fs : List Arrival) : Type 0 where
+  pub bytes : f.frame.bytes ≡ c
+  pub rest : Then i id till c more fs
 
-pub opened : {i id till : ℕ} {ms : List (List ℕ)} {f : Arrival} {fs : List Arrival} → eqb f.interface i ≡ true → Brings i id till ms (f ∷ fs)
-    → Opened i id till ms f fs
-opened k (onward {c = c} {more = more} t h b) = record { rest = more; is = refl; brings = (brought b).0 c }
-opened k (again {more = more} t h b) = record { rest = more; is = refl; brings = (brought b).1 }
+opened : {i id till : ℕ} {c : List ℕ} {more : List (List ℕ)} {f : Arrival} {fs : List Arrival} → eqb f.interface i ≡ true
+    → Brings i id till (c ∷ more) (f ∷ fs) → Opened i id till c more f fs
+opened {c = c} k (onward t h b) = record { bytes = refl; rest = (brought b).0 c }
+opened k (again t h b) = record { bytes = refl; rest = (brought b).1 }
 opened k (beside a e h b) = absurd (true≢false (sym k ∙ e))
 
 -- ── what a frame's data says ──
@@ -136,33 +147,15 @@ module _ (u : Setup) (i id t : ℕ) (small : t < 32) where
       }
 
   ref-is : (c : List ℕ) (x : ℕ) (z : Session) (v : Parsed) → frame_check u (arrival_at i id c x) ≡ none → parsed u (arrival_at i id c x) ≡ v
-      → ref u z (arrival_at i id c x) ≡ ref_step z v
+      → ref u z (arrival_at i id c x) ≡ react z v
   unfolding ref ref_if
-  ref-is c x z v e k = ap (λ o. ref_if o z (parsed u (arrival_at i id c x))) e ∙ ap (λ w. ref_step z w) k
+  ref-is c x z v e k = ap (λ o. ref_if o z (parsed u (arrival_at i id c x))) e ∙ ap (λ w. react z w) k
 
 -- a frame of the transfer, whenever it comes
 record Copy (u : Setup) (i id t : ℕ) (g : Bool) (c : List ℕ) : Type 0 where
   pub ok : (x : ℕ) → frame_check u (arrival_at i id c x) ≡ none
   pub transfer : (x : ℕ) → (parsed u (arrival_at i id c x)).transfer ≡ t
   pub toggle : (x : ℕ) → (parsed u (arrival_at i id c x)).toggle ≡ g
-
--- what says the same in its tail byte and has the same length
-module _ (u : Setup) (i id t : ℕ) (g : Bool) (c b : List ℕ) (tail : tail_of b ≡ tail_of c) (long : length b ≡ length c) where
-  like-check : (x : ℕ) → frame_check u (arrival_at i id b x) ≡ frame_check u (arrival_at i id c x)
-  unfolding frame_check
-  like-check x =
-      ap₂ (λ (w n : ℕ). first_of
-      (read_tests id n i ++ (head_tests u.own (stream_of id) (is_start w) (is_end w) (toggle_of w) n ++ (record { holds = not_subscribed u (frame_at id c x); gives = no_subscription } ∷ []))))
-      tail long
-
-  like-copy : Copy u i id t g c → Copy u i id t g b
-  unfolding parsed
-  like-copy k =
-      record { ok = λ x. like-check x ∙ k.ok x; transfer = λ x. ap transfer_of tail ∙ k.transfer x; toggle = λ x. ap toggle_of tail ∙ k.toggle x }
-
-  like-start : (x : ℕ) → (parsed u (arrival_at i id b x)).start ≡ (parsed u (arrival_at i id c x)).start
-  unfolding parsed
-  like-start x = ap is_start tail
 
 -- a later frame of the transfer passes the checks, as the first did
 module _ (u : Setup) (f : Arrival) (ok : Accepted u f) (named : is_anonymous f.frame.id ≡ false) (t : ℕ) (small : t < 32) where
@@ -208,12 +201,12 @@ no-restart s v h k =
     )
     (and-false v.start)
 
-ref-passed : (s : Session) (v : Parsed) (r : Reason) → restarts s v ≡ false → over s v ≡ some r → ref_step s v ≡ record { answer = passed r; session = s }
+react-passed : (s : Session) (v : Parsed) (r : Reason) → restarts s v ≡ false → over s v ≡ some r → react s v ≡ record { answer = passed r; session = s }
 unfolding proceed proceed_if
-ref-passed s v r e k = ref-stays s v e ∙ ap (λ o. proceed_if o s v) k
+react-passed s v r e k = react-stays s v e ∙ ap (λ o. proceed_if o s v) k
 
-ref_taken : (s : Session) (v : Parsed) → restarts s v ≡ false → over s v ≡ none → ref_step s v ≡ takes s v
-ref_taken s v e k = ref-stays s v e ∙ proceed-taken s v k
+react-taken : (s : Session) (v : Parsed) → restarts s v ≡ false → over s v ≡ none → react s v ≡ takes s v
+react-taken s v e k = react-stays s v e ∙ proceed-taken s v k
 
 -- ── a frame of another interface, within the delay ──
 
@@ -227,35 +220,20 @@ module _ (s : Session) (v : Parsed) (other : eqb v.interface s.follows ≡ false
   unfolding over
   other-over = rw other
 
--- what the checks on a frame alone answer: all but the room
-abbrev Checked : Option Refusal → Type 0
-Checked none = Unit {0}
-Checked (some r) = elsewhere (refusal_number r) ≡ true
-
-or-next : (b : Bool) (r : Refusal) (o : Option Refusal) → elsewhere (refusal_number r) ≡ true → Checked o → Checked (pick b (some r) o)
-or-next true r o h k = h
-or-next false r o h k = k
-
-checks-elsewhere : (u : Setup) (a : Arrival) → Checked (frame_check u a)
-unfolding frame_check
-checks-elsewhere u a =
-    or-next (large_id a.frame.id) wrong_id _ refl
-    (or-next (bad_length (length a.frame.bytes)) wrong_length _ refl
-    (or-next (no_interface a.interface) wrong_interface _ refl
-    (or-next (unnamed_service (stream_of a.frame.id)) nameless_service _ refl
-    (or-next (bad_tail_in a.frame) wrong_tail _ refl
-    (or-next (for_another u.own (stream_of a.frame.id)) other_node _ refl (or-next (not_subscribed u a.frame) no_subscription none refl tt))))))
+checked-elsewhere : (n : ℕ) → UpTo 7 (some n) → elsewhere n ≡ true
+checked-elsewhere n (inl h) = rw (le-leb 2 n h.0, le-leb n 7 h.1)
+checked-elsewhere n (inr e) = rw e
 
 -- it changes nothing, and ends no transfer
 other-passes : (u : Setup) (s : Session) (a : Arrival) → eqb a.interface s.follows ≡ false → a.frame.time ≤ s.since + switch_delay
     → (elsewhere (number_of (ref u s a).answer) ≡ true) × ((ref u s a).session ≡ s)
 unfolding ref ref_if parsed
-other-passes u s a e h = go (frame_check u a) (checks-elsewhere u a)
+other-passes u s a e h = go (frame_check u a) (frame_small u a)
   where
-    go : (o : Option Refusal) → Checked o → (elsewhere (number_of (ref_if o s (parsed u a)).answer) ≡ true) × ((ref_if o s (parsed u a)).session ≡ s)
-    go (some r) k = (k, refl)
+    go : (o : Option ℕ) → UpTo 7 o → (elsewhere (number_of (ref_if o s (parsed u a)).answer) ≡ true) × ((ref_if o s (parsed u a)).session ≡ s)
+    go (some n) k = (checked-elsewhere n k, refl)
     go none k =
-        let q = ref-passed s (parsed u a) other_interface (other-stays s (parsed u a) e h) (other-over s (parsed u a) e) in
+        let q = react-passed s (parsed u a) other_interface (other-stays s (parsed u a) e h) (other-over s (parsed u a) e) in
         (ap (λ o. elsewhere (number_of o.answer)) q, ap (λ o. o.session) q)
 
 other-run : (u : Setup) (s : Session) (v : Answer) (single ended : Bool) (a : Arrival) (fs : List Arrival) → eqb a.interface s.follows ≡ false
@@ -300,21 +278,20 @@ module _ (u : Setup) (i id t since : ℕ) (small : t < 32) where
       go false g = refl
 
   idle-passes : (v : Parsed) → v.interface ≡ i → v.transfer ≡ t → v.time ≤ since + switch_delay
-      → ref_step idle v ≡ record { answer = passed (pick v.start wrong_transfer no_transfer); session = idle }
-  idle-passes v n e h = ref-passed idle v (pick v.start wrong_transfer no_transfer) (no-restart idle v h (rw e (omega arith))) (idle-over v n e)
+      → react idle v ≡ record { answer = passed (pick v.start wrong_transfer no_transfer); session = idle }
+  idle-passes v n e h = react-passed idle v (pick v.start wrong_transfer no_transfer) (no-restart idle v h (rw e (omega arith))) (idle-over v n e)
 
   -- each repeat of a frame c is a start, or none is
   idle-run : (v : Answer) (single : Bool) (c : List ℕ) (g : Bool) → Copy u i id t g c
       → ((x : ℕ) → (parsed u (arrival_at i id c x)).start ≡ single)
-      → (more : List (List ℕ)) (fs : List Arrival) → more ≡ [] → Arriving i id (since + switch_delay) c more fs → Goes i v single true fs (ref_run u idle fs)
+      → (more : List (List ℕ)) (fs : List Arrival) → more ≡ [] → Then i id (since + switch_delay) c more fs → Goes i v single true fs (ref_run u idle fs)
   unfolding ref_run
   idle-run v single c g k st more fs e none_left = over-now
-  idle-run v single c g k st more fs e (repeated d tail long x h b) =
-      let q = like-copy u i id t g c d tail long k in
-      rw (ref-is u i id t small d x idle (parsed u (arrival_at i id d x)) (q.ok x) refl
-      ∙ idle-passes (parsed u (arrival_at i id d x)) (parsed-interface u i id d x) (q.transfer x) (rw (parsed-time u i id d x) h))
-      (goes_on (arrival_at i id d x) _ (λ z. absurd (true≢false z))
-      (quiet-repeat single (parsed u (arrival_at i id d x)).start (like-start u i id t g c d tail long x ∙ st x)) (idle-run v single c g k st more _ e b))
+  idle-run v single c g k st more fs e (repeated x h b) =
+      rw (ref-is u i id t small c x idle (parsed u (arrival_at i id c x)) (k.ok x) refl
+      ∙ idle-passes (parsed u (arrival_at i id c x)) (parsed-interface u i id c x) (k.transfer x) (rw (parsed-time u i id c x) h))
+      (goes_on (arrival_at i id c x) _ (λ z. absurd (true≢false z)) (quiet-repeat single (parsed u (arrival_at i id c x)).start (st x))
+      (idle-run v single c g k st more _ e b))
   idle-run v single c g k st more fs e (astray {fs = gs} a n h b) = other-run u idle v single true a gs n h (idle-run v single c g k st more _ e b)
   idle-run v single c g k st more fs e (moved x h b) = absurd (nil≢cons (sym e))
 
@@ -368,16 +345,16 @@ module _ (u : Setup) (f : Arrival) (ok : Accepted u f) (named : is_anonymous f.f
       go false = refl
 
   repeat-passed : (a : List ℕ) (g : Bool) (v : Parsed) → v.interface ≡ f.interface → is_empty a ≡ false → v.transfer ≡ t → v.toggle ≡ not g → v.time ≤ till
-      → ref_step (gathering a g) v ≡ record { answer = passed (pick v.start repeated_start wrong_toggle); session = gathering a g }
+      → react (gathering a g) v ≡ record { answer = passed (pick v.start repeated_start wrong_toggle); session = gathering a g }
   repeat-passed a g v m n e k h =
-      ref-passed (gathering a g) v (pick v.start repeated_start wrong_toggle) (no-restart (gathering a g) v h (rw e (omega arith))) (repeat-over a g v m n e k)
+      react-passed (gathering a g) v (pick v.start repeated_start wrong_toggle) (no-restart (gathering a g) v h (rw e (omega arith))) (repeat-over a g v m n e k)
 
   -- the next frame
   next-taken : (a xs : List ℕ) (g l : Bool) (x : ℕ) → is_empty a ≡ false → length (a ++ xs) ≤ 514 → x ≤ till
-      → ref_step (gathering a g) (seen u f.interface f.frame.id t x false l g xs) ≡ take_end l (gathering a g) (seen u f.interface f.frame.id t x false l g xs) (a ++ xs)
+      → react (gathering a g) (seen u f.interface f.frame.id t x false l g xs) ≡ take_end l (gathering a g) (seen u f.interface f.frame.id t x false l g xs) (a ++ xs)
   unfolding over takes take_long
   next-taken a xs g l x n h k =
-      ref_taken (gathering a g) (seen u f.interface f.frame.id t x false l g xs)
+      react-taken (gathering a g) (seen u f.interface f.frame.id t x false l g xs)
       (no-restart (gathering a g) (seen u f.interface f.frame.id t x false l g xs) k (omega arith))
       (rw (same_self g, eq-eqb f.interface f.interface refl, eq-eqb t t refl, n))
       ∙ ap (λ b. take_long b (gathering a g) (seen u f.interface f.frame.id t x false l g xs) (a ++ xs)) (le-ltb 514 (length (a ++ xs)) h)
@@ -389,7 +366,7 @@ module _ (u : Setup) (f : Arrival) (ok : Accepted u f) (named : is_anonymous f.f
 
   -- the last frame, of several
   closes : (a rest : List ℕ) (g : Bool) (x : ℕ) → is_empty a ≡ false → a ++ rest ≡ all → x ≤ till
-      → ref_step (gathering a g) (seen u f.interface f.frame.id t x false true g rest) ≡ record { answer = verdict u f.frame.id t all false; session = idle u f.interface f.frame.id t f.frame.time small }
+      → react (gathering a g) (seen u f.interface f.frame.id t x false true g rest) ≡ record { answer = verdict u f.frame.id t all false; session = idle u f.interface f.frame.id t f.frame.time small }
   unfolding take_end
   closes a rest g x n e h =
       next-taken a rest g true x n (rw e most) h
@@ -397,7 +374,7 @@ module _ (u : Setup) (f : Arrival) (ok : Accepted u f) (named : is_anonymous f.f
 
   -- one that is not the last
   takes_one : (a rest : List ℕ) (g : Bool) (x : ℕ) → is_empty a ≡ false → a ++ rest ≡ all → x ≤ till
-      → ref_step (gathering a g) (seen u f.interface f.frame.id t x false false g (take 7 rest)) ≡ record { answer = taken; session = gathering (a ++ take 7 rest) (not g) }
+      → react (gathering a g) (seen u f.interface f.frame.id t x false false g (take 7 rest)) ≡ record { answer = taken; session = gathering (a ++ take 7 rest) (not g) }
   unfolding take_end
   takes_one a rest g x n e h =
       next-taken a (take 7 rest) g false x n
@@ -413,7 +390,7 @@ module _ (u : Setup) (f : Arrival) (ok : Accepted u f) (named : is_anonymous f.f
   Goal g a fs = Goes f.interface (verdict u f.frame.id t all false) false false fs (ref_run u (gathering a g) fs)
 
   last_frame : (g : Bool) (a rest c d : List ℕ) (ms : List (List ℕ)) (gs : List Arrival) (x : ℕ) → x ≤ till → ToCome 0 g a rest c
-      → d ∷ ms ≡ pieces 0 false g t rest → Arriving f.interface f.frame.id till d ms gs → Goal g a (arrival_at f.interface f.frame.id d x ∷ gs)
+      → d ∷ ms ≡ pieces 0 false g t rest → Then f.interface f.frame.id till d ms gs → Goal g a (arrival_at f.interface f.frame.id d x ∷ gs)
   unfolding ref_run pieces
   last_frame g a rest c d ms gs x h w e b =
       let ed : d ≡ framed rest (tail_byte false true g t) = head-eq_of_cons-eq e in
@@ -456,7 +433,7 @@ module _ (u : Setup) (f : Arrival) (ok : Accepted u f) (named : is_anonymous f.f
       (tail-eq_of_cons-eq e)))
 
   next-frame : (n : ℕ) (g : Bool) (a rest c d : List ℕ) (ms : List (List ℕ)) (gs : List Arrival) (x : ℕ) → x ≤ till → ToCome n g a rest c
-      → d ∷ ms ≡ pieces n false g t rest → Arriving f.interface f.frame.id till d ms gs
+      → d ∷ ms ≡ pieces n false g t rest → Then f.interface f.frame.id till d ms gs
       → ((n : ℕ) (g : Bool) (a rest : List ℕ) → ToCome n g a rest d → ms ≡ pieces n false g t rest → Goal g a gs)
       → Goal g a (arrival_at f.interface f.frame.id d x ∷ gs)
   next-frame zero g a rest c d ms gs x h w e b go = last_frame g a rest c d ms gs x h w e b
@@ -466,19 +443,18 @@ module _ (u : Setup) (f : Arrival) (ok : Accepted u f) (named : is_anonymous f.f
   quiet-again true = refl
   quiet-again false = refl
 
-  run_on : (c : List ℕ) (more : List (List ℕ)) (fs : List Arrival) → Arriving f.interface f.frame.id till c more fs
+  run_on : (c : List ℕ) (more : List (List ℕ)) (fs : List Arrival) → Then f.interface f.frame.id till c more fs
       → (n : ℕ) (g : Bool) (a rest : List ℕ) → ToCome n g a rest c → more ≡ pieces n false g t rest → Goal g a fs
   unfolding ref_run
   run_on c more fs none_left n g a rest w e = absurd (omega (arith, ap length e, pieces-length n false g t rest))
-  run_on c more fs (repeated d tail long x h b) n g a rest w e =
-      let q = like-copy u f.interface f.frame.id t (not g) c d tail long w.4 in
-      rw (ref-is u f.interface f.frame.id t small d x (gathering a g) (parsed u (arrival_at f.interface f.frame.id d x)) (q.ok x) refl
-      ∙ repeat-passed a g (parsed u (arrival_at f.interface f.frame.id d x)) (parsed-interface u f.interface f.frame.id d x) w.0 (q.transfer x) (q.toggle x) (rw (parsed-time u f.interface f.frame.id d x) h))
-      (goes_on (arrival_at f.interface f.frame.id d x) _ (λ z. end-by f.interface f.frame.id d x false (ap is_end tail ∙ w.5))
-      (quiet-again (parsed u (arrival_at f.interface f.frame.id d x)).start) (run_on c more _ b n g a rest w e))
+  run_on c more fs (repeated x h b) n g a rest w e =
+      rw (ref-is u f.interface f.frame.id t small c x (gathering a g) (parsed u (arrival_at f.interface f.frame.id c x)) (w.4.ok x) refl
+      ∙ repeat-passed a g (parsed u (arrival_at f.interface f.frame.id c x)) (parsed-interface u f.interface f.frame.id c x) w.0 (w.4.transfer x) (w.4.toggle x) (rw (parsed-time u f.interface f.frame.id c x) h))
+      (goes_on (arrival_at f.interface f.frame.id c x) _ (λ z. end-by f.interface f.frame.id c x false w.5)
+      (quiet-again (parsed u (arrival_at f.interface f.frame.id c x)).start) (run_on c more _ b n g a rest w e))
   run_on c more fs (astray {fs = gs} y n' h b) n g a rest w e =
       other-run u (gathering a g) (verdict u f.frame.id t all false) false false y gs n' h (run_on c more _ b n g a rest w e)
-  run_on c more fs (moved {b = d} {more = ms} {fs = gs} x h b) n g a rest w e =
+  run_on c more fs (moved {n = d} {more = ms} {fs = gs} x h b) n g a rest w e =
       next-frame n g a rest c d ms gs x h w e b (λ n' g' a' rest' w' e'. run_on d ms gs b n' g' a' rest' w' e')
 
   -- ── the start ──
@@ -514,7 +490,7 @@ module _ (u : Setup) (f : Arrival) (ok : Accepted u f) (named : is_anonymous f.f
 
   -- one frame, and its repeats
   alone : (fs : List Arrival) (more : List (List ℕ)) → length all ≤ 7 → f.frame.bytes ≡ framed all (tail_byte true true false t) → more ≡ []
-      → Arriving f.interface f.frame.id till f.frame.bytes more fs → Answered true fs
+      → Then f.interface f.frame.id till f.frame.bytes more fs → Answered true fs
   unfolding take_end
   alone fs more h e m b =
       rw (first-is true all e h, closes_as true true false f.frame.time all)
@@ -528,7 +504,7 @@ module _ (u : Setup) (f : Arrival) (ok : Accepted u f) (named : is_anonymous f.f
 
   -- several frames
   several : (n : ℕ) (fs : List Arrival) (more : List (List ℕ)) → fulls all ≡ suc n → f.frame.bytes ≡ framed (take 7 all) (tail_byte true false false t)
-      → more ≡ pieces n false true t (drop 7 all) → Arriving f.interface f.frame.id till f.frame.bytes more fs
+      → more ≡ pieces n false true t (drop 7 all) → Then f.interface f.frame.id till f.frame.bytes more fs
       → Answered false fs
   unfolding take_end
   several n fs more h e m b =
@@ -544,13 +520,17 @@ module _ (u : Setup) (f : Arrival) (ok : Accepted u f) (named : is_anonymous f.f
         ap (λ c. is_end (tail_of c)) e ∙ framed-end true false false t small (take 7 all),
       ) m))
 
-  pub closes-once : (fs : List Arrival) (more : List (List ℕ)) → f.frame.bytes ∷ more ≡ carrying t all
-      → Arriving f.interface f.frame.id till f.frame.bytes more fs → Answered (leb (length all) 7) fs
+  pub closes-once : (fs : List Arrival) → Brings f.interface f.frame.id till (carrying t all) (f ∷ fs)
+      → Answered (leb (length all) 7) fs
   unfolding carrying pieces
-  closes-once fs more m b = go (fulls all) refl m
+  closes-once fs b = go (fulls all) refl b
     where
-      go : (n : ℕ) → fulls all ≡ n → f.frame.bytes ∷ more ≡ pieces n true false t all → Answered (leb (length all) 7) fs
-      go zero e m =
+      go : (n : ℕ) → fulls all ≡ n → Brings f.interface f.frame.id till (pieces n true false t all) (f ∷ fs)
+          → Answered (leb (length all) 7) fs
+      go zero e b =
+          let o = opened (eq-eqb f.interface f.interface refl) b in
           let s : length all ≤ 7 = omega arith in
-          rw (le-leb (length all) 7 s) (alone fs more s (head-eq_of_cons-eq m) (tail-eq_of_cons-eq m) b)
-      go (suc n) e m = rw (lt-leb (length all) 7 (omega arith)) (several n fs more e (head-eq_of_cons-eq m) (tail-eq_of_cons-eq m) b)
+          rw (le-leb (length all) 7 s) (alone fs [] s o.bytes refl (rw (← o.bytes) at o.rest))
+      go (suc n) e b =
+          let o = opened (eq-eqb f.interface f.interface refl) b in
+          rw (lt-leb (length all) 7 (omega arith)) (several n fs _ e o.bytes refl (rw (← o.bytes) at o.rest))

@@ -17,9 +17,8 @@ use Rattle.checksum.specs.Damage.{burst_max}
 use Rattle.rules.specs.BlockCases.{pile, BlockCases}
 use Rattle.rules.specs.Blocks.{used, times, lowest, free_block, cleared, asks}
 use Rattle.rules.specs.Check.{parsed, frame_check, check}
-use Rattle.rules.specs.Condition3.{frames_with, answers_to, up_to, frames, Premises, Undisturbed, While, Brings, done, next, again, beside, Transfer, from_setup, lent, heard, rules_table}
-use Rattle.rules.specs.Example.{setup, stream, payload, one, two, three, frame, copied, start, crowd, earlier, spacious, crowded, Example}
-use Rattle.rules.specs.Damage as damage
+use Rattle.rules.specs.Condition3.{frames_with, answers_to, up_to, frames, Premises, While, Brings, done, next, again, beside, Transfer, from_setup, lent, heard, rules_table}
+use Rattle.rules.specs.Example.{setup, stream, payload, one, three, frame, copied, start, crowd, earlier, spacious, crowded, Example}
 use Rattle.rules.specs.Damage.{Opens, Damaged}
 use Rattle.rules.specs.DamageExample.{altered, damaged, unseen, DamageExample}
 use Rattle.rules.specs.Frame.{same_stream, stream_of}
@@ -28,7 +27,7 @@ use Rattle.rules.specs.Limits.{switch_delay}
 use Rattle.rules.specs.Reception.{step_block, step_ask, step_at, step_new, step_start, step_seek, step_anonymous, step_checked, step, after, run}
 use Rattle.rules.specs.Sent.{tail_byte, framed, pieces, carrying, carried, sent, id_of}
 use Rattle.rules.specs.SentLaws.{joined}
-use Rattle.rules.specs.Session.{restarts, over, closing, take_end, take_long, takes, proceed_if, proceed, restarted, met}
+use Rattle.rules.specs.Session.{restarts, over, closing, take_end, take_long, takes, proceed_if, proceed, restarted, met, react}
 use Rattle.rules.specs.Setup.{subscribed, signature_for}
 use Rattle.rules.specs.Sound.{stream_fits, session_fits, sound}
 use Rattle.rules.specs.Table.{seek, place_for}
@@ -39,7 +38,7 @@ use Rattle.rules.proofs.Lift.{free}
 use Rattle.rules.proofs.Theorem.{theorem}
 
 pub example : Example
-unfolding crowd sound stream_fits session_fits frames_with answers_to up_to after step step_checked step_anonymous step_seek step_start step_new used times lowest free_block cleared asks step_block step_ask step_at seek place_for check frame_check parsed stream_of same_stream subscribed met restarted restarts proceed proceed_if over takes take_long take_end closing id_of sent carrying carried pieces checksum crc_over crc_byte shifts shift le_bytes
+unfolding crowd sound stream_fits session_fits frames_with answers_to up_to after step step_checked step_anonymous step_seek step_start step_new used times lowest free_block cleared asks step_block step_ask step_at seek place_for check frame_check parsed stream_of same_stream subscribed react met restarted restarts proceed proceed_if over takes take_long take_end closing id_of sent carrying carried pieces checksum crc_over crc_byte shifts shift le_bytes
 example =
     record {
       premises = premises;
@@ -53,10 +52,10 @@ example =
     premises = record { pasts = (heard from_setup earlier, lent refl); typed = (free setup (spacious.start ∷ spacious.list), free setup (crowded.start ∷ crowded.list)); named = omega arith; start = refl; together = refl; take = (refl, refl); same = refl }
 
     spacious-while : While (rules_table setup) stream 8 spacious
-    spacious-while = record { undisturbed = record { time = refl; room = refl; blocks = refl }; table = refl }
+    spacious-while = record { time = refl; room = refl; table = refl; blocks = refl }
 
     crowded-while : While (rules_table setup) stream 8 crowded
-    crowded-while = record { undisturbed = record { time = refl; room = refl; blocks = refl }; table = refl }
+    crowded-while = record { time = refl; room = refl; table = refl; blocks = refl }
 
     transfer : Transfer setup stream start (frames (rules_table setup) stream spacious) 16 5 payload
     transfer =
@@ -78,13 +77,13 @@ example =
 -- ── a burst ──
 
 pub damage-example : DamageExample
-unfolding sound stream_fits session_fits frames_with answers_to up_to after step step_checked step_anonymous step_seek step_start step_new used times lowest free_block cleared asks step_block step_ask step_at seek place_for check frame_check parsed stream_of same_stream subscribed met restarted restarts proceed proceed_if over takes take_long take_end closing id_of sent carrying carried pieces joined checksum crc_over crc_byte shifts shift le_bytes unpack digits
+unfolding sound stream_fits session_fits frames_with answers_to up_to after step step_checked step_anonymous step_seek step_start step_new used times lowest free_block cleared asks step_block step_ask step_at seek place_for check frame_check parsed stream_of same_stream subscribed react met restarted restarts proceed proceed_if over takes take_long take_end closing id_of sent carrying carried pieces joined checksum crc_over crc_byte shifts shift le_bytes unpack digits
 damage-example =
     record {
       opens = opens;
       arrives = arrives;
-      undisturbed = undisturbed;
-      caught = burst-caught setup stream damaged opens 16 5 payload altered arrives undisturbed;
+      while = while;
+      caught = burst-caught setup stream damaged opens 16 5 payload altered arrives while;
       numbers = refl;
       limit = (burst-by-test (burst_max + 1) payload unseen 39 39 refl (λ e. true≢false (sym e)) tt, refl);
     }
@@ -92,8 +91,8 @@ damage-example =
     opens : Opens (rules_table setup) stream damaged
     opens = record { past = heard from_setup earlier; typed = free setup (damaged.start ∷ damaged.list); named = omega arith; start = refl; take = refl }
 
-    undisturbed : Undisturbed (rules_table setup) stream 8 damaged
-    undisturbed = record { time = refl; room = refl; blocks = refl }
+    while : While (rules_table setup) stream 8 damaged
+    while = record { time = refl; room = refl; table = refl; blocks = refl }
 
     arrives : Damaged setup stream damaged.start.arrival (frames (rules_table setup) stream damaged) 16 5 payload altered
     arrives =
@@ -102,20 +101,19 @@ damage-example =
           fields = (omega arith, omega arith);
           signature = 0x0123456789ABCDEF;
           subscribed = refl;
-          id = refl;
-          rest = _;
+          arriving = _;
           tails = refl;
           lengths = refl;
           carried = refl;
           burst = burst-by-test burst_max payload altered 32 32 refl (λ e. true≢false (sym e)) tt;
           brings =
-              damage.beside (copied one 10000000).arrival refl (omega arith)
-              (damage.again one refl refl 10000001 (omega arith)
-              (damage.next 10001000 (omega arith)
-              (damage.beside (copied three 10001000).arrival refl (omega arith)
-              (damage.again two refl refl 10002000 (omega arith)
-              (damage.next 10999999 (omega arith)
-              (damage.again three refl refl 11000000 (omega arith) (damage.beside (copied one 11000000).arrival refl (omega arith) damage.done)))))));
+              again 10000000 (omega arith)
+              (beside (copied one 10000000).arrival refl (omega arith)
+              (next 10000001 (omega arith)
+              (again 10001000 (omega arith)
+              (beside (copied three 10001000).arrival refl (omega arith)
+              (next 10002000 (omega arith)
+              (again 10999999 (omega arith) (next 11000000 (omega arith) (beside (copied one 11000000).arrival refl (omega arith) done))))))));
         }
 
 -- ── why the premises ──
@@ -139,10 +137,7 @@ complete =
         take = (test 3 (tests d x) a, test 3 (tests d y) b);
         same = e;
       };
-      whiles = λ d x a. record {
-        undisturbed = record { time = test 4 (tests d x) a; room = test 5 (tests d x) a; blocks = test 7 (tests d x) a };
-        table = test 6 (tests d x) a;
-      };
+      whiles = λ d x a. record { time = test 4 (tests d x) a; room = test 5 (tests d x) a; table = test 6 (tests d x) a; blocks = test 7 (tests d x) a };
       transfer = λ x signature t p h.
           record {
             size = leb-true (length p) 512 (ap (λ k. get_or k 0 false) h.fits);
@@ -164,13 +159,13 @@ brought l c more e =
 
 size-case : Sent (hearing (sent agreed 5 long)) agreed 5 long (false ∷ true ∷ true ∷ [])
     × (handed_out (hearing (sent agreed 5 long)) ≡ [])
-unfolding frames_with answers_to up_to step step_checked step_anonymous step_seek step_start step_new used times lowest free_block cleared asks step_block step_ask step_at seek place_for check frame_check parsed stream_of same_stream subscribed met restarted restarts proceed proceed_if over takes take_long take_end closing sound stream_fits session_fits id_of sent carrying carried pieces checksum crc_over crc_byte shifts shift le_bytes
+unfolding frames_with answers_to up_to step step_checked step_anonymous step_seek step_start step_new used times lowest free_block cleared asks step_block step_ask step_at seek place_for check frame_check parsed stream_of same_stream subscribed react met restarted restarts proceed proceed_if over takes take_long take_end closing sound stream_fits session_fits id_of sent carrying carried pieces checksum crc_over crc_byte shifts shift le_bytes
 size-case =
     let o = opening 5 (omega arith) (carried agreed long) in
     (record { premises = refl; fits = refl; brings = brought (sent agreed 5 long) (framed o.bytes (tail_byte true o.last false 5)) o.rest o.is }, refl)
 
 pub why-premises : WhyPremises
-unfolding crowd hoard sound stream_fits session_fits frames_with answers_to up_to step step_checked step_anonymous step_seek step_start step_new used times lowest free_block cleared asks step_block step_ask step_at seek place_for check frame_check parsed stream_of same_stream subscribed met restarted restarts proceed proceed_if over takes take_long take_end closing id_of sent carrying carried pieces checksum crc_over crc_byte shifts shift le_bytes
+unfolding crowd hoard sound stream_fits session_fits frames_with answers_to up_to step step_checked step_anonymous step_seek step_start step_new used times lowest free_block cleared asks step_block step_ask step_at seek place_for check frame_check parsed stream_of same_stream subscribed react met restarted restarts proceed proceed_if over takes take_long take_end closing id_of sent carrying carried pieces checksum crc_over crc_byte shifts shift le_bytes
 why-premises =
     record {
       complete = complete;
@@ -209,11 +204,11 @@ why-premises =
         }
 
 pub interfaces : Interfaces
-unfolding run after step step_checked step_anonymous step_seek step_start step_new used times lowest free_block cleared asks step_block step_ask step_at seek place_for check frame_check parsed stream_of same_stream subscribed met restarted restarts proceed proceed_if over takes take_long take_end closing
+unfolding run after step step_checked step_anonymous step_seek step_start step_new used times lowest free_block cleared asks step_block step_ask step_at seek place_for check frame_check parsed stream_of same_stream subscribed react met restarted restarts proceed proceed_if over takes take_long take_end closing
 interfaces = record { followed = refl; repeated = refl; switched = refl; ahead = refl; aged = refl; aged_after = refl; order = refl }
 
 pub block-cases : BlockCases
-unfolding crowd hoard pile sound stream_fits session_fits run after step step_checked step_anonymous step_seek step_start step_new used times lowest free_block cleared asks step_block step_ask step_at seek place_for check frame_check parsed stream_of same_stream subscribed met restarted restarts proceed proceed_if over takes take_long take_end closing checksum crc_over crc_byte shifts shift le_bytes
+unfolding crowd hoard pile sound stream_fits session_fits run after step step_checked step_anonymous step_seek step_start step_new used times lowest free_block cleared asks step_block step_ask step_at seek place_for check frame_check parsed stream_of same_stream subscribed react met restarted restarts proceed proceed_if over takes take_long take_end closing checksum crc_over crc_byte shifts shift le_bytes
 block-cases =
     record {
       faultless = (refl, refl, refl, refl);

@@ -1,29 +1,24 @@
 -- A whole list: one receiver answers the stream's frames as the reference that hears them alone, as far as the premises go.
 use mathlib.Core.Path.{◌≡◌, refl, ap, ◌∙◌}
-use mathlib.Core.Bool.{Bool, true, false, false≢true, not, ◌&&◌}
-use mathlib.Core.List.{List, [], ◌∷◌, ◌++◌}
-use mathlib.Core.Option.{Option, none, some}
+use mathlib.Core.Bool.{Bool, true, false, false≢true, not}
+use mathlib.Core.List.{List, [], ◌∷◌}
 use mathlib.Mathlib.Data.Bool.Basic.{and_elim_left, and_elim_right, and_intro}
-use Prim.Native.Nat.{ℕ, zero, suc, ◌+◌, ◌≤◌, ◌<◌}
-use native.Mathlib.Omega.{arith}
-use lib.Dec.{ltb, leb, eqb}
+use Prim.Native.Nat.{ℕ, zero, suc, ◌≤◌, ◌<◌}
+use lib.Dec.{leb, eqb}
 use lib.ListN.{length, take}
-use borrow.Author.Tests.{leb-true, ne_eqb}
-use Rattle.rules.specs.Answer.{Refusal, Answer, full, no_block, Reason, reason_number, number_of}
-use Rattle.rules.specs.Check.{Reception, Parsed, parsed, frame_check}
-use Rattle.rules.specs.Condition3.{of_stream, start_of, keep, All, frames_with, answers_to, up_to, forward, roomy, never, rules_table}
-use Rattle.rules.specs.Frame.{Frame, Arrival, Stream, tail_of, is_start}
-use Rattle.rules.specs.Limits.{gathered_max, switch_delay}
+use borrow.Author.Tests.{leb-true}
+use Rattle.rules.specs.Answer.{Answer, full, no_block, number_of}
+use Rattle.rules.specs.Check.{Reception, parsed}
+use Rattle.rules.specs.Condition3.{of_stream, start_of, keep, frames_with, answers_to, up_to, forward, roomy, never, rules_table}
+use Rattle.rules.specs.Frame.{Frame, Stream}
 use Rattle.rules.specs.Reception.{step}
-use Rattle.rules.specs.Session.{Session, Out, restarts, restarted, met, over, since_of, take_end, take_long, takes, proceed_if, proceed}
+use Rattle.rules.specs.Session.{Session}
 use Rattle.rules.specs.Setup.{Setup}
 use Rattle.rules.specs.Table.{Places}
 use Rattle.rules.specs.Tests.{pick}
 use Rattle.rules.proofs.Others.{others-kept, sole-step}
-use Rattle.rules.proofs.Own.{ref_step, ref_if, ref, ref_run, Beside, later, beside-kept, own}
-use Rattle.rules.proofs.Ranges.{refusal-not-9, reason-range}
+use Rattle.rules.proofs.Own.{ref, ref_run, Beside, later, beside-kept, own}
 use Rattle.rules.proofs.Table.{Sole}
-use Rattle.rules.proofs.Takes.{Takes, unfinished, whole, too_long, bad_sum, takes-answer}
 
 -- ── the front of a list ──
 
@@ -101,116 +96,8 @@ module _ (u : Setup) (d : Stream) (named : 0 < d.source) where
       go true e ih =
           let room : pick (of_stream d r.arrival.frame) (leb 512 r.room) true ≡ true = and_elim_left _ _ ro in
           let a = own u d t ps s r sole named e onward (leb-true 512 r.room (rw e at room)) beside
-          (λ o st. not_full u (start_of d r.arrival.frame) (step u ps r).answer _ nf (and_intro e st))
+          (λ st. not_full u (start_of d r.arrival.frame) (step u ps r).answer _ nf (and_intro e st))
           (not-blocked u (of_stream d r.arrival.frame) (step u ps r).answer _ nb e) in
           ap (λ k. k ∷ answers_to (rules_table u) (of_stream d) (step u ps r).places rs) a.answer
           ∙ ap (λ k. (ref u s r.arrival).answer ∷ k) (ih (ref u s r.arrival).session a.beside)
       go false e ih = ih s (beside-kept (others-kept u d ps r sole e) (later r.arrival.frame.time onward beside))
-
--- ── within a second of a start ──
-
-passed-number : (r : Reason) → eqb (reason_number r) 9 ≡ false
-passed-number r = ne_eqb (reason_number r) 9 (λ e. omega (arith, reason-range r))
-
-takes-number : {a : Answer} → Takes a → eqb (number_of a) 9 ≡ false
-takes-number unfinished = refl
-takes-number whole = refl
-takes-number too_long = refl
-takes-number bad_sum = refl
-
-end-since : (b : Bool) (s : Session) (v : Parsed) (all : List ℕ) → (take_end b s v all).session.since ≡ since_of s v
-unfolding take_end
-end-since true s v all = refl
-end-since false s v all = refl
-
-long-since : (b : Bool) (s : Session) (v : Parsed) (all : List ℕ) → (take_long b s v all).session.since ≡ since_of s v
-unfolding take_long
-long-since true s v all = refl
-long-since false s v all = end-since v.last s v all
-
-pub takes-since : (s : Session) (v : Parsed) → (takes s v).session.since ≡ since_of s v
-unfolding takes
-takes-since s v = let all = s.gathered ++ v.payload in long-since (ltb gathered_max (length all)) s v all
-
--- the reference answers no 9, and its time is not before a time that it and its frame are not before
-module _ (from : ℕ) (s : Session) (young : from ≤ s.since) where
-  record Young (o : Out) : Type 0 where
-    number : eqb (number_of o.answer) 9 ≡ false
-    since : from ≤ o.session.since
-
-  met-since : (v : Parsed) → (met s v).since ≡ s.since
-  unfolding met restarted
-  met-since v = go (restarts s v)
-    where
-      go : (b : Bool) → (pick b (restarted s v) s).since ≡ s.since
-      go true = refl
-      go false = refl
-
-  met-young : (v : Parsed) → from ≤ v.time → Young (ref_step s v)
-  unfolding proceed proceed_if
-  met-young v h = go (over (met s v) v)
-    where
-      is : from ≤ (met s v).since
-      is = omega (arith, met-since v)
-
-      chosen : (b : Bool) → from ≤ pick b v.time (met s v).since
-      chosen true = h
-      chosen false = is
-
-      go : (o : Option Reason) → Young (proceed_if o (met s v) v)
-      go (some r) = record { number = passed-number r; since = is }
-      go none = record { number = takes-number (takes-answer v (met s v)); since = omega (arith, takes-since (met s v) v, chosen v.start) }
-
-  ref-young : (u : Setup) (a : Arrival) → from ≤ a.frame.time → Young (ref u s a)
-  unfolding ref ref_if parsed
-  ref-young u a h = go (frame_check u a)
-    where
-      go : (o : Option Refusal) → Young (ref_if o s (parsed u a))
-      go (some r) = record { number = refusal-not-9 r; since = young }
-      go none = met-young (parsed u a) h
-
-never-keep : (u : Setup) (b : Bool) (a : Answer) (l : List Answer) → (b ≡ true → eqb (number_of a) 9 ≡ false) → never (rules_table u) 9 l ≡ true
-    → never (rules_table u) 9 (keep b a l) ≡ true
-never-keep u true a l n h = rw (n refl) h
-never-keep u false a l n h = h
-
-all_keep : (P : Arrival → Type 0) (b : Bool) (a : Arrival) (l : List Arrival) → All P (keep b a l) → (b ≡ true → P a) × All P l
-all_keep P true a l h = (λ e. h.0, h.1)
-all_keep P false a l h = (λ e. absurd (false≢true e), h)
-
-module _ (u : Setup) (d : Stream) (named : 0 < d.source) (from : ℕ) where
-  -- no session is old by then, so that none loses its place
-  pub not-full-within : (t : ℕ) (ps : Places) (s : Session) (l : List Reception) → from ≤ t → from ≤ s.since
-      → forward (rules_table u) t l ≡ true → roomy (rules_table u) d l ≡ true → never (rules_table u) 26 (answers_to (rules_table u) (of_stream d) ps l) ≡ true
-      → All (λ a. a.frame.time ≤ from + switch_delay) (frames_with (rules_table u) (of_stream d) l) → Sole ps → Beside d t ps s
-      → never (rules_table u) 9 (answers_to (rules_table u) (start_of d) ps l) ≡ true
-  unfolding answers_to frames_with
-  not-full-within t ps s [] g y fw ro nb soon sole beside = refl
-  not-full-within t ps s (r ∷ rs) g y fw ro nb soon sole beside =
-      go (of_stream d r.arrival.frame) refl
-      (λ x z b. not-full-within r.arrival.frame.time (step u ps r).places x rs since z (and_elim_right (leb t r.arrival.frame.time) _ fw)
-      (and_elim_right (pick (of_stream d r.arrival.frame) (leb 512 r.room) true) _ ro)
-      (rest-never u (of_stream d r.arrival.frame) 26 (step u ps r).answer _ nb) split.1 (sole-step u ps r sole) b)
-    where
-      onward : t ≤ r.arrival.frame.time
-      onward = leb-true t r.arrival.frame.time (and_elim_left _ _ fw)
-
-      since : from ≤ r.arrival.frame.time
-      since = omega (arith, onward)
-
-      split : (of_stream d r.arrival.frame ≡ true → r.arrival.frame.time ≤ from + switch_delay)
-          × All (λ a. a.frame.time ≤ from + switch_delay) (frames_with (rules_table u) (of_stream d) rs)
-      split = all_keep (λ a. a.frame.time ≤ from + switch_delay) (of_stream d r.arrival.frame) r.arrival (frames_with (rules_table u) (of_stream d) rs) soon
-
-      go : (b : Bool) → of_stream d r.arrival.frame ≡ b
-          → ((x : Session) → from ≤ x.since → Beside d r.arrival.frame.time (step u ps r).places x
-          → never (rules_table u) 9 (answers_to (rules_table u) (start_of d) (step u ps r).places rs) ≡ true)
-          → never (rules_table u) 9 (keep (b && is_start (tail_of r.arrival.frame.bytes)) (step u ps r).answer (answers_to (rules_table u) (start_of d) (step u ps r).places rs)) ≡ true
-      go true e ih =
-          let room : pick (of_stream d r.arrival.frame) (leb 512 r.room) true ≡ true = and_elim_left _ _ ro in
-          let a = own u d t ps s r sole named e onward (leb-true 512 r.room (rw e at room)) beside
-          (λ o st k. omega (arith, o, split.0 e)) (not-blocked u (of_stream d r.arrival.frame) (step u ps r).answer _ nb e) in
-          let z = ref-young from s y u r.arrival since in
-          never-keep u (is_start (tail_of r.arrival.frame.bytes)) (step u ps r).answer _ (λ k. ap (λ w. eqb (number_of w) 9) a.answer ∙ z.number)
-          (ih (ref u s r.arrival).session z.since a.beside)
-      go false e ih = ih s y (beside-kept (others-kept u d ps r sole e) (later r.arrival.frame.time onward beside))

@@ -10,7 +10,7 @@ use lib.Dec.{ltb, leb, eqb}
 use lib.ListN.{length, get_or, take, set, length-set, length-append, length-take}
 use lib.Seq.{length-take-le}
 use borrow.Author.Tests.{eqb-true, eq-eqb, eqb-false, ltb-true, ltb-false, lt-ltb, leb-true, le-leb, not-true}
-use Rattle.rules.specs.Answer.{Refusal, Reason}
+use Rattle.rules.specs.Answer.{Reason}
 use Rattle.rules.specs.Blocks.{need, keeps, blocks_in, used, times, free_block, stale, relieved, cleared, asks_if, asks}
 use Rattle.rules.specs.Check.{Reception, Parsed, parsed, bad_tail, check}
 use Rattle.rules.specs.Condition3.{keep}
@@ -344,7 +344,7 @@ module _ (ps : Places) (v : Parsed) (ok : Shared (used ps)) where
   anonymous-shared true = ok
   anonymous-shared false = seek-shared (seek (holds v.stream) ps) (seek-spec (holds v.stream) ps)
 
-  checked-shared : (o : Option Refusal) (b : Bool) → Shared (used (step_checked o b ps v).places)
+  checked-shared : (o : Option ℕ) (b : Bool) → Shared (used (step_checked o b ps v).places)
   unfolding step_checked
   checked-shared none b = anonymous-shared b
   checked-shared (some n) b = ok
@@ -424,7 +424,7 @@ fits-step : (u : Setup) (ps : Places) (r : Reception) → places_fit ps ≡ true
 unfolding step step_checked parsed
 fits-step u ps r ok = go (check u r) refl
   where
-    go : (o : Option Refusal) → check u r ≡ o → places_fit (step_checked o (is_anonymous r.arrival.frame.id) ps (parsed u r.arrival)).places ≡ true
+    go : (o : Option ℕ) → check u r ≡ o → places_fit (step_checked o (is_anonymous r.arrival.frame.id) ps (parsed u r.arrival)).places ≡ true
     go (some n) e = ok
     go none e =
         let a = accepted u r.arrival (checked u r e) in
@@ -458,7 +458,7 @@ size_step u ps r = checks (check u r) (is_anonymous r.arrival.frame.id)
     anonymous true = refl
     anonymous false = find (seek (holds v.stream) ps)
 
-    checks : (o : Option Refusal) (b : Bool) → length (step_checked o b ps v).places ≡ length ps
+    checks : (o : Option ℕ) (b : Bool) → length (step_checked o b ps v).places ≡ length ps
     checks none b = anonymous b
     checks (some n) b = refl
 
@@ -470,12 +470,9 @@ pub sound-shared : (ps : Places) → sound ps ≡ true → Shared (used ps)
 unfolding sound
 sound-shared ps h = fit-shared (used ps) (and_elim_right (eqb (length ps) 32) _ (and_elim_left (eqb (length ps) 32 && blocks_fit (used ps)) _ h))
 
-pub sound-apart : (ps : Places) → sound ps ≡ true → apart ps ≡ true
-unfolding sound
-sound-apart ps h = and_elim_right (places_fit ps) _ (and_elim_right (eqb (length ps) 32 && blocks_fit (used ps)) _ h)
-
 pub sound-sole : (ps : Places) → sound ps ≡ true → Sole ps
-sound-sole ps h = apart-sole ps (sound-apart ps h)
+unfolding sound
+sound-sole ps h = apart-sole ps (and_elim_right (places_fit ps) _ (and_elim_right (eqb (length ps) 32 && blocks_fit (used ps)) _ h))
 
 pub sound-size : (ps : Places) → sound ps ≡ true → length ps ≡ 32
 unfolding sound

@@ -8,7 +8,6 @@ pub mod Counts
 pub mod Delivered
 pub mod Delivery
 pub mod Draws
-pub mod EqualSetups
 pub mod Examples
 pub mod Follow
 pub mod Frames

@@ -8,7 +8,7 @@ use lib.Dec.{leb, eqb}
 use lib.ListN.{length, take}
 use Rattle.rules.specs.Answer.{Answer, handed, differs, number_of}
 use Rattle.rules.specs.Check.{Reception}
-use Rattle.rules.specs.Condition3.{Machine, of_stream, start_of, took, keep, All, arrival_of, frame_of, frames_with, answers_to, up_to, Receiver, start_frame, frames, answers, took_start, Premises, forward, roomy, never, front, Undisturbed, While, Transfer, handouts, Claim, Condition3, Past, rules_table}
+use Rattle.rules.specs.Condition3.{Machine, of_stream, start_of, took, keep, All, arrival_of, frame_of, frames_with, answers_to, up_to, Receiver, start_frame, frames, answers, took_start, Premises, forward, roomy, never, front, While, Transfer, handouts, Claim, Condition3, Past, rules_table}
 use Rattle.rules.specs.Damage.{Opens, Damaged, end_at, before_end, after_end, Caught, BurstIsCaught}
 use Rattle.rules.specs.Frame.{Frame, Stream}
 use Rattle.rules.specs.Limits.{payload_max}
@@ -159,18 +159,22 @@ module _ (u : Setup) (M : Machine) where
             ∙ ap₂ (λ (ps : Places) (l : List Reception). never (rules_table u) n (answers_to (rules_table u) t ps l))
             (v.moves x.state x.start p h.0) front-is
 
-        undisturbed-is : Undisturbed M d k x → Undisturbed (rules_table u) d k (view_of x)
-        undisturbed-is w = record { time = sym time-is ∙ w.time; room = sym room-is ∙ w.room; blocks = sym (never-is 26 (of_stream d)) ∙ w.blocks }
-
         while-is : While M d k x → While (rules_table u) d k (view_of x)
-        while-is w = record { undisturbed = undisturbed-is w.undisturbed; table = sym (never-is 9 (start_of d)) ∙ w.table }
+        while-is w =
+            record {
+              time = sym time-is ∙ w.time;
+              room = sym room-is ∙ w.room;
+              table = sym (never-is 9 (start_of d)) ∙ w.table;
+              blocks = sym (never-is 26 (of_stream d)) ∙ w.blocks;
+            }
 
         pub while-back : While (rules_table u) d k (view_of x) → While M d k x
         while-back w =
-            let z = w.undisturbed in
             record {
-              undisturbed = record { time = time-is ∙ z.time; room = room-is ∙ z.room; blocks = never-is 26 (of_stream d) ∙ z.blocks };
+              time = time-is ∙ w.time;
+              room = room-is ∙ w.room;
               table = never-is 9 (start_of d) ∙ w.table;
+              blocks = never-is 26 (of_stream d) ∙ w.blocks;
             }
 
     -- ── two ──
@@ -265,4 +269,4 @@ lifted-burst machine views u d x o priority t p q dm w =
     let fs = frames-are u M (of_stream d) x.list in
     caught-back u M v d x o
     (burst-caught u d (view_of u M v x) (opens-are u M v d x o) priority t p q (subst (λ l. Damaged u d (start_frame M x) l priority t p q) fs dm)
-    (subst (λ l. Undisturbed (rules_table u) d (length l) (view_of u M v x)) fs (undisturbed-is u M v d x o.past o.typed (length (frames M d x)) w)))
+    (subst (λ l. While (rules_table u) d (length l) (view_of u M v x)) fs (while-is u M v d x o.past o.typed (length (frames M d x)) w)))

@@ -7,7 +7,7 @@ use Prim.Native.Nat.{ℕ, zero, suc}
 use native.Mathlib.Omega.{arith}
 use lib.Dec.{ltb, leb}
 use lib.ListN.{length, get_or, set, get_or-map}
-use Rattle.rules.specs.Answer.{Refusal, Reason}
+use Rattle.rules.specs.Answer.{Reason}
 use Rattle.rules.specs.BlockBounds.{bytes_in, total}
 use Rattle.rules.specs.BlockLaws.{bare}
 use Rattle.rules.specs.Blocks.{need, keeps, blocks_in, used, free_block, stale, relieved, cleared, asks_if, asks}
@@ -230,7 +230,7 @@ numbers u ps qs r h k e = checks (check u r) refl
     named a false n =
         named-both v (stream-fits u r.arrival a n) ps qs e (sound-shared ps h) (sound-shared qs k) (sound-fits ps h) (sound-fits qs k) (parsed-fits u r.arrival a)
 
-    checks : (o : Option Refusal) → check u r ≡ o
+    checks : (o : Option ℕ) → check u r ≡ o
         → Both (step_checked o (is_anonymous r.arrival.frame.id) ps v) (step_checked o (is_anonymous r.arrival.frame.id) qs v)
     checks (some n) q = (refl, e)
     checks none q = named (accepted u r.arrival (checked u r q)) (is_anonymous r.arrival.frame.id) refl

@@ -1,5 +1,5 @@
--- The frame checks in the order of the code: 2, 3 and 19, 4 to 6, and 7; and what a frame that passes them is.
-use mathlib.Core.Path.{◌≡◌, refl, ap, ◌∙◌}
+-- The frame checks in the order of the code: the numbers of 2, 3 and 19, those of 4 to 6, and 7; and what a frame that passes them is.
+use mathlib.Core.Path.{◌≡◌, refl, sym, ap, ◌∙◌}
 use mathlib.Core.Bool.{Bool, true, false, not, ◌&&◌, ◌||◌}
 use mathlib.Core.List.{List, [], ◌∷◌, ◌++◌}
 use mathlib.Core.Option.{Option, none, some}
@@ -8,23 +8,45 @@ use native.Mathlib.Omega.{arith}
 use borrow.Author.Tests.{leb-false, eqb-false, ltb-false}
 use lib.Dec.{eqb, ltb}
 use lib.ListN.{length}
-use Rattle.rules.specs.Answer.{Refusal, wrong_id, wrong_length, wrong_interface, nameless_service, wrong_tail, other_node, no_subscription}
-use Rattle.rules.specs.Check.{Test, large_id, bad_length, no_interface, unnamed_service, bad_tail, for_another, not_subscribed, read_tests, head_tests, first, frame_check}
+use Rattle.rules.specs.Check.{Test, large_id, bad_length, no_interface, unnamed_service, bad_tail, for_another, not_subscribed, read_tests, head_tests, first, frame_check, or_zero}
 use Rattle.rules.specs.Frame.{Arrival, Stream, unnamed, stream_of, tail_of, is_start, is_end, toggle_of}
 use Rattle.rules.specs.Setup.{Setup}
 use Rattle.rules.specs.Table.{or_else}
 use Rattle.rules.specs.Tests.{pick}
 
--- ── checks one after the other ──
+-- ── numbers of checks ──
 
-first-append : (xs ys : List (Test Refusal)) → first (xs ++ ys) ≡ or_else (first xs) (first ys)
+first-append : (xs ys : List Test) → first (xs ++ ys) ≡ or_else (first xs) (first ys)
 first-append [] ys = refl
 first-append (t ∷ ts) ys = go t.holds (first-append ts ys)
   where
     go : (b : Bool) → first (ts ++ ys) ≡ or_else (first ts) (first ys)
-        → pick b (some t.gives) (first (ts ++ ys)) ≡ or_else (pick b (some t.gives) (first ts)) (first ys)
+        → pick b (some t.number) (first (ts ++ ys)) ≡ or_else (pick b (some t.number) (first ts)) (first ys)
     go true e = refl
     go false e = e
+
+-- a number above 0 is that of a check
+pub refuses : (o : Option ℕ) (r : ℕ) → r ≡ or_zero o → 0 < r → o ≡ some r
+refuses none r e h = absurd (omega arith)
+refuses (some n) r e h = ap (λ (x : ℕ). some x) (sym e)
+
+-- 0 is the number of no check
+read_none : (id n i : ℕ) → or_zero (first (read_tests id n i)) ≡ 0 → first (read_tests id n i) ≡ none
+read_none id n i = go (large_id id) (bad_length n) (no_interface i) where
+  go : (a b c : Bool) → or_zero (pick a (some 2) (pick b (some 3) (pick c (some 19) none))) ≡ 0
+      → pick {A = Option ℕ} a (some 2) (pick b (some 3) (pick c (some 19) none)) ≡ none
+  go true b c z = absurd (omega arith)
+  go false true c z = absurd (omega arith)
+  go false false true z = absurd (omega arith)
+  go false false false z = refl
+
+head-none : (own : ℕ) (d : Stream) (start last toggle : Bool) (n : ℕ) → or_zero (first (head_tests own d start last toggle n)) ≡ 0 → first (head_tests own d start last toggle n) ≡ none
+head-none own d start last toggle n = go (unnamed_service d) (bad_tail (unnamed d) start last toggle n) (for_another own d) where
+  go : (a b c : Bool) → or_zero (pick a (some 4) (pick b (some 5) (pick c (some 6) none))) ≡ 0 → pick {A = Option ℕ} a (some 4) (pick b (some 5) (pick c (some 6) none)) ≡ none
+  go true b c z = absurd (omega arith)
+  go false true c z = absurd (omega arith)
+  go false false true z = absurd (omega arith)
+  go false false false z = refl
 
 -- ── a frame that can be read, and one that passes ──
 
@@ -42,17 +64,17 @@ pub record Readable (id n i : ℕ) : Type 0 where
   pub few_bytes : n ≤ 8
   pub interface : i < 3
 
-pub readable : (id n i : ℕ) → first (read_tests id n i) ≡ none → Readable id n i
-readable id n i e = go (large_id id) refl (bad_length n) refl (no_interface i) refl e where
+pub readable : (id n i r : ℕ) → r ≡ or_zero (first (read_tests id n i)) → r ≤ 0 → Readable id n i
+readable id n i r e z = go (large_id id) refl (bad_length n) refl (no_interface i) refl (sym e) where
   pos : (n : ℕ) → (n ≡ 0 → ⊥) → 0 < n
   pos zero z = absurd (z refl)
   pos (suc n) z = omega arith
 
   go : (a : Bool) → large_id id ≡ a → (b : Bool) → bad_length n ≡ b → (c : Bool) → no_interface i ≡ c
-      → pick a (some wrong_id) (pick b (some wrong_length) (pick c (some wrong_interface) none)) ≡ none → Readable id n i
-  go true p b q c t e = let z : ◌≡◌ {A = ℕ} 0 1 = cc in absurd (omega arith)
-  go false p true q c t e = let z : ◌≡◌ {A = ℕ} 0 1 = cc in absurd (omega arith)
-  go false p false q true t e = let z : ◌≡◌ {A = ℕ} 0 1 = cc in absurd (omega arith)
+      → or_zero (pick a (some 2) (pick b (some 3) (pick c (some 19) none))) ≡ r → Readable id n i
+  go true p b q c t e = absurd (omega arith)
+  go false p true q c t e = absurd (omega arith)
+  go false p false q true t e = absurd (omega arith)
   go false p false q false t e =
       record {
         small = leb-false (2 ^ 29) id p;
@@ -67,8 +89,8 @@ pub record HeadPasses (d : Stream) (start last toggle : Bool) (n : ℕ) : Type 0
   pub named : unnamed d ≡ false → d.source ≡ 0 → ⊥
   pub whole : last ≡ false → 8 ≤ n
 
-pub head-passes : (own : ℕ) (d : Stream) (start last toggle : Bool) (n : ℕ) → first (head_tests own d start last toggle n) ≡ none → HeadPasses d start last toggle n
-head-passes own d start last toggle n e = go (unnamed_service d) refl (bad_tail (unnamed d) start last toggle n) refl e where
+pub head-passes : (own : ℕ) (d : Stream) (start last toggle : Bool) (n r : ℕ) → r ≡ or_zero (first (head_tests own d start last toggle n)) → r ≤ 0 → HeadPasses d start last toggle n
+head-passes own d start last toggle n r e z = go (unnamed_service d) refl (bad_tail (unnamed d) start last toggle n) refl (sym e) where
   named : (b : Bool) → eqb d.transfer_type 0 ≡ b → (not b && (eqb d.source 0 || eqb d.destination 0)) ≡ false → (b && eqb d.source 0) ≡ false → eqb d.source 0 ≡ false
   named true e p q = q
   named false e p q = or_left (eqb d.source 0) (eqb d.destination 0) p
@@ -78,9 +100,9 @@ head-passes own d start last toggle n e = go (unnamed_service d) refl (bad_tail 
   off false c e k = let z : ◌≡◌ {A = ℕ} 0 1 = cc in absurd (omega arith)
 
   go : (a : Bool) → unnamed_service d ≡ a → (b : Bool) → bad_tail (unnamed d) start last toggle n ≡ b
-      → pick a (some nameless_service) (pick b (some wrong_tail) (pick (for_another own d) (some other_node) none)) ≡ none → HeadPasses d start last toggle n
-  go true p b q e = let z : ◌≡◌ {A = ℕ} 0 1 = cc in absurd (omega arith)
-  go false p true q e = let z : ◌≡◌ {A = ℕ} 0 1 = cc in absurd (omega arith)
+      → or_zero (pick a (some 4) (pick b (some 5) (pick (for_another own d) (some 6) none))) ≡ r → HeadPasses d start last toggle n
+  go true p b q e = absurd (omega arith)
+  go false p true q e = absurd (omega arith)
   go false p false q e =
       record {
         first = off start toggle (or_left (start && toggle) _ q);
@@ -93,30 +115,37 @@ head-passes own d start last toggle n e = go (unnamed_service d) refl (bad_tail 
 -- ── the first check that refuses ──
 
 module _ (u : Setup) (a : Arrival) where
-  abbrev pub reads : Option Refusal
+  abbrev pub reads : Option ℕ
   reads = first (read_tests a.frame.id (length a.frame.bytes) a.interface)
 
-  abbrev pub heads : Option Refusal
+  abbrev pub heads : Option ℕ
   heads =
       first (head_tests u.own (stream_of a.frame.id) (is_start (tail_of a.frame.bytes)) (is_end (tail_of a.frame.bytes))
       (toggle_of (tail_of a.frame.bytes)) (length a.frame.bytes))
 
-  in-order : frame_check u a ≡ or_else reads (or_else heads (pick (not_subscribed u a.frame) (some no_subscription) none))
+  in-order : frame_check u a ≡ or_else reads (or_else heads (pick (not_subscribed u a.frame) (some 7) none))
   unfolding frame_check
   in-order =
       let hs =
       head_tests u.own (stream_of a.frame.id) (is_start (tail_of a.frame.bytes)) (is_end (tail_of a.frame.bytes))
       (toggle_of (tail_of a.frame.bytes)) (length a.frame.bytes) in
-      let last : List (Test Refusal) = record { holds = not_subscribed u a.frame; gives = no_subscription } ∷ [] in
+      let last : List Test = record { holds = not_subscribed u a.frame; number = 7 } ∷ [] in
       first-append (read_tests a.frame.id (length a.frame.bytes) a.interface) (hs ++ last) ∙ ap (or_else reads) (first-append hs last)
 
-  pub read-refuses : (c : Refusal) → reads ≡ some c → frame_check u a ≡ some c
-  read-refuses c e = rw (in-order, e)
+  pub read-refuses : (r : ℕ) → r ≡ or_zero reads → 0 < r → frame_check u a ≡ some r
+  read-refuses r e h = rw (in-order, refuses reads r e h)
 
-  module _ (e : reads ≡ none) where
-    pub head-refuses : (c : Refusal) → heads ≡ some c → frame_check u a ≡ some c
-    head-refuses c d = rw (in-order, e, d)
+  module _ (r : ℕ) (e : r ≡ or_zero reads) (z : r ≤ 0) where
+    reads_none : reads ≡ none
+    reads_none = read_none a.frame.id (length a.frame.bytes) a.interface (sym e ∙ omega arith)
+
+    pub head-refuses : (k : ℕ) → k ≡ or_zero heads → 0 < k → frame_check u a ≡ some k
+    head-refuses k e h = rw (in-order, reads_none, refuses heads k e h)
 
     -- only 7 is left
-    pub heads-pass : heads ≡ none → frame_check u a ≡ pick (not_subscribed u a.frame) (some no_subscription) none
-    heads-pass d = rw (in-order, e, d)
+    pub heads-pass : (k : ℕ) → k ≡ or_zero heads → k ≤ 0 → frame_check u a ≡ pick (not_subscribed u a.frame) (some 7) none
+    heads-pass k d y =
+        let h : heads ≡ none =
+        head-none u.own (stream_of a.frame.id) (is_start (tail_of a.frame.bytes)) (is_end (tail_of a.frame.bytes))
+        (toggle_of (tail_of a.frame.bytes)) (length a.frame.bytes) (sym d ∙ omega arith) in
+        rw (in-order, reads_none, h)

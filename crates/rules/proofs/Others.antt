@@ -10,7 +10,6 @@ use native.Mathlib.Omega.{arith}
 use lib.Dec.{ltb}
 use lib.ListN.{length, get_or, set}
 use borrow.Author.Tests.{ltb-true, lt-ltb, leb-false}
-use Rattle.rules.specs.Answer.{Refusal}
 use Rattle.rules.specs.Blocks.{stale}
 use Rattle.rules.specs.Check.{Reception, Parsed, parsed, check}
 use Rattle.rules.specs.Condition3.{of_stream}
@@ -154,7 +153,7 @@ others-kept u d ps r sole foreign = go (check u r) refl
         let k : ltb r.arrival.frame.id (2 ^ 29) ≡ true = lt-ltb r.arrival.frame.id (2 ^ 29) (leb-false (2 ^ 29) r.arrival.frame.id (accepted u r.arrival (checked u r e)).id) in
         rw k at foreign
 
-    go : (o : Option Refusal) → check u r ≡ o → Kept d r.arrival.frame.time ps (step_checked o (is_anonymous r.arrival.frame.id) ps (parsed u r.arrival)).places
+    go : (o : Option ℕ) → check u r ≡ o → Kept d r.arrival.frame.time ps (step_checked o (is_anonymous r.arrival.frame.id) ps (parsed u r.arrival)).places
     go none e = kept-anonymous d ps (parsed u r.arrival) sole (apart e) (is_anonymous r.arrival.frame.id)
     go (some n) e = still refl
 
@@ -181,7 +180,7 @@ module _ (ps : Places) (v : Parsed) (sole : Sole ps) where
   sole-anonymous true = sole
   sole-anonymous false = sole-seek (seek (holds v.stream) ps) (seek-spec (holds v.stream) ps)
 
-  sole-checked : (o : Option Refusal) (b : Bool) → Sole (step_checked o b ps v).places
+  sole-checked : (o : Option ℕ) (b : Bool) → Sole (step_checked o b ps v).places
   unfolding step_checked
   sole-checked none b = sole-anonymous b
   sole-checked (some n) b = sole

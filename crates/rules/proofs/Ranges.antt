@@ -1,7 +1,9 @@
 -- What a reception answers is in its range.
 use mathlib.Core.Path.{◌≡◌, refl}
+use mathlib.Core.Logic.{◌⊎◌, inl, inr}
 use mathlib.Core.Bool.{Bool, true, false}
 use mathlib.Core.List.{List, [], ◌∷◌, ◌++◌}
+use mathlib.Core.Logic.{◌⊎◌, inl, inr}
 use mathlib.Core.Option.{Option, none, some}
 use mathlib.Mathlib.Data.Bool.Basic.{or-eq-false-eq-eq-false-and-eq-false as or_off}
 use Prim.Native.Nat.{ℕ, ◌/◌, ◌%◌, ◌^◌, ◌-◌, ◌≤◌, ◌<◌}
@@ -9,9 +11,9 @@ use native.Mathlib.Omega.{arith}
 use lib.Dec.{ltb, eqb}
 use lib.ListN.{length, take, drop, get_or, length-take, length-drop}
 use borrow.Author.Tests.{ltb-false, leb-false, le-leb, lt-leb, ne_eqb}
-use Rattle.rules.specs.Answer.{Refusal, wrong_id, wrong_length, wrong_interface, nameless_service, wrong_tail, other_node, no_subscription, no_room, refusal_number, Answer, taken, handed, refused, full, passed, long, no_block, differs, Reason, no_transfer, wrong_toggle, wrong_transfer, repeated_start, other_interface, reason_number, number_of}
+use Rattle.rules.specs.Answer.{Answer, taken, handed, refused, full, passed, long, no_block, differs, Reason, no_transfer, wrong_toggle, wrong_transfer, repeated_start, other_interface, reason_number, number_of}
 use Rattle.rules.specs.Blocks.{keeps, blocks_in}
-use Rattle.rules.specs.Check.{Reception, Parsed, parsed, check}
+use Rattle.rules.specs.Check.{Reception, Parsed, parsed, large_id, bad_length, no_interface, unnamed_service, for_another, not_subscribed, frame_check, room_check, check}
 use Rattle.rules.specs.Frame.{Arrival, is_service, is_anonymous, source_of, stream_if, stream_of}
 use Rattle.rules.specs.Range.{HandedRange, Ranged, RangeLaw, answered, NumberLaw, out, HandOut, OneLaw}
 use Rattle.rules.specs.Reception.{session_in, step_new, step_start, step_seek, step_anonymous, step_checked, step}
@@ -19,7 +21,7 @@ use Rattle.rules.specs.Session.{Session, sum_ok, closing, take_end, take_long, t
 use Rattle.rules.specs.Setup.{Setup}
 use Rattle.rules.specs.Table.{Places, empty, seek, holds, place_for}
 use Rattle.rules.specs.Tests.{bit, pick, is_empty, same_bool}
-use Rattle.rules.proofs.Checks.{Accepted, accepted, checked}
+use Rattle.rules.proofs.Checks.{Accepted, accepted, checked, bad_tail_in}
 use Rattle.rules.proofs.Landing.{answer_at}
 
 -- ── a frame that passes the checks ──
@@ -156,39 +158,55 @@ module _ (v : Parsed) (h : Headed v) where
 
 -- ── the checks ──
 
--- their numbers
-pub refusal-range : (r : Refusal) → (2 ≤ refusal_number r) × (refusal_number r ≤ 19)
-refusal-range wrong_id = (omega arith, omega arith)
-refusal-range wrong_length = (omega arith, omega arith)
-refusal-range wrong_interface = (omega arith, omega arith)
-refusal-range nameless_service = (omega arith, omega arith)
-refusal-range wrong_tail = (omega arith, omega arith)
-refusal-range other_node = (omega arith, omega arith)
-refusal-range no_subscription = (omega arith, omega arith)
-refusal-range no_room = (omega arith, omega arith)
+abbrev pub UpTo : ℕ → Option ℕ → Type 0
+UpTo m none = Unit {0}
+UpTo m (some n) = ((2 ≤ n) × (n ≤ m)) ⊎ (n ≡ 19)
+
+abbrev pub Small : Option ℕ → Type 0
+Small o = UpTo 8 o
+
+pub two-or-more : (n : ℕ) → Small (some n) → 2 ≤ n
+two-or-more n (inl h) = h.0
+two-or-more n (inr e) = omega arith
 
 -- 26 is none of them
-pub no-block : (r : Refusal) → eqb (refusal_number r) 26 ≡ false
-no-block r = ne_eqb (refusal_number r) 26 (λ z. omega (arith, (refusal-range r).1, z))
+pub no-block : (n : ℕ) → Small (some n) → eqb n 26 ≡ false
+no-block n (inl h) = ne_eqb n 26 (λ z. omega (arith, h.1, z))
+no-block n (inr e) = ne_eqb n 26 (λ z. omega (arith, e, z))
 
--- nor 9
-pub refusal-not-9 : (r : Refusal) → eqb (refusal_number r) 9 ≡ false
-refusal-not-9 wrong_id = refl
-refusal-not-9 wrong_length = refl
-refusal-not-9 wrong_interface = refl
-refusal-not-9 nameless_service = refl
-refusal-not-9 wrong_tail = refl
-refusal-not-9 other_node = refl
-refusal-not-9 no_subscription = refl
-refusal-not-9 no_room = refl
+or-next : (b : Bool) (n : ℕ) (o : Option ℕ) → ((2 ≤ n) × (n ≤ 7)) ⊎ (n ≡ 19) → UpTo 7 o → UpTo 7 (pick b (some n) o)
+or-next true n o h k = h
+or-next false n o h k = k
+
+-- without the room
+pub frame_small : (u : Setup) (f : Arrival) → UpTo 7 (frame_check u f)
+unfolding frame_check
+frame_small u f =
+    or-next (large_id f.frame.id) 2 _ (inl (omega arith, omega arith))
+    (or-next (bad_length (length f.frame.bytes)) 3 _ (inl (omega arith, omega arith))
+    (or-next (no_interface f.interface) 19 _ (inr refl)
+    (or-next (unnamed_service (stream_of f.frame.id)) 4 _ (inl (omega arith, omega arith))
+    (or-next (bad_tail_in f.frame) 5 _ (inl (omega arith, omega arith))
+    (or-next (for_another u.own (stream_of f.frame.id)) 6 _ (inl (omega arith, omega arith))
+    (or-next (not_subscribed u f.frame) 7 none (inl (omega arith, omega arith)) tt))))))
+
+pub check-small : (u : Setup) (r : Reception) → Small (check u r)
+unfolding check
+check-small u r = go (frame_check u r.arrival) (ltb r.room 512) (frame_small u r.arrival)
+  where
+    go : (o : Option ℕ) (b : Bool) → UpTo 7 o → Small (room_check o b)
+    go (some n) b (inl h) = inl (h.0, omega arith)
+    go (some n) b (inr e) = inr e
+    go none true k = inl (omega arith, omega arith)
+    go none false k = tt
 
 pub ranges : RangeLaw
 unfolding step step_checked
-ranges u ps r = go (check u r) refl
+ranges u ps r = go (check u r) refl (check-small u r)
   where
-    go : (o : Option Refusal) → check u r ≡ o → Ranged (step_checked o (is_anonymous r.arrival.frame.id) ps (parsed u r.arrival)).answer
-    go (some c) e = tt
-    go none e =
+    go : (o : Option ℕ) → check u r ≡ o → Small o → Ranged (step_checked o (is_anonymous r.arrival.frame.id) ps (parsed u r.arrival)).answer
+    go (some n) e k = k
+    go none e k =
         named-range (parsed u r.arrival) (headed u r.arrival (accepted u r.arrival (checked u r e))) (is_anonymous r.arrival.frame.id) ps
 
 -- the numbers of the reasons
@@ -202,17 +220,8 @@ reason-range other_interface = (omega arith, omega arith)
 number : (a : Answer) → Ranged a → answered (number_of a) ≡ true
 number taken h = refl
 number (handed p d prio t) h = refl
-number (refused r) h = refusal r
-  where
-    refusal : (r : Refusal) → answered (refusal_number r) ≡ true
-    refusal wrong_id = refl
-    refusal wrong_length = refl
-    refusal wrong_interface = refl
-    refusal nameless_service = refl
-    refusal wrong_tail = refl
-    refusal other_node = refl
-    refusal no_subscription = refl
-    refusal no_room = refl
+number (refused n) (inl h) = rw (le-leb n 9 (omega arith))
+number (refused n) (inr e) = rw e
 number full h = refl
 number (passed r) h =
     let n = reason_number r in
@@ -228,7 +237,7 @@ number-law u ps r = number (step u ps r).answer (ranges u ps r)
 one : (a : Answer) → Ranged a → number_of a ≡ 1 → HandOut a
 one taken h e = absurd (omega arith)
 one (handed p d prio t) h e = out p d prio t
-one (refused r) h e = absurd (omega (arith, (refusal-range r).0))
+one (refused n) h e = absurd (omega (arith, two-or-more n h))
 one full h e = absurd (omega arith)
 one (passed r) h e = absurd (omega (arith, reason-range r))
 one long h e = absurd (omega arith)

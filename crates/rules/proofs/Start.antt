@@ -9,20 +9,20 @@ use native.Mathlib.Omega.{arith}
 use lib.Dec.{ltb, eqb}
 use lib.ListN.{length, get_or}
 use borrow.Author.Tests.{eqb-true, ltb-true}
-use Rattle.rules.specs.Answer.{Refusal, refusal_number, Answer, no_block, Reason, reason_number, number_of}
+use Rattle.rules.specs.Answer.{Answer, no_block, Reason, reason_number, number_of}
 use Rattle.rules.specs.Blocks.{keeps, blocks_in}
 use Rattle.rules.specs.Check.{Reception, Parsed, parsed, frame_check, check}
 use Rattle.rules.specs.Condition3.{of_stream, took}
 use Rattle.rules.specs.Frame.{Stream, stream_of, is_anonymous}
 use Rattle.rules.specs.Reception.{Step, step_new, step_start, session_in, step_seek, step_anonymous, step_checked, step}
-use Rattle.rules.specs.Session.{Session, Out, restarts, over_start, over_if, over, takes, proceed_if, proceed, met, fresh}
+use Rattle.rules.specs.Session.{Session, Out, restarts, over_start, over_if, over, takes, proceed_if, proceed, met, react, fresh}
 use Rattle.rules.specs.Setup.{Setup}
 use Rattle.rules.specs.Table.{empty, Places, seek, holds, place_for}
 use Rattle.rules.specs.Tests.{same_bool, is_empty}
 use Rattle.rules.proofs.Checks.{checked, start-toggle, named-not-anonymous, of-stream}
 use Rattle.rules.proofs.Others.{FoundPlace, place-spec}
-use Rattle.rules.proofs.Own.{alone_at, began, long-free, begins, restart-start, ref-stays, ref_step}
-use Rattle.rules.proofs.Ranges.{refusal-range, reason-range}
+use Rattle.rules.proofs.Own.{alone_at, began, long-free, begins, restart-start, react-stays}
+use Rattle.rules.proofs.Ranges.{Small, two-or-more, check-small, reason-range}
 use Rattle.rules.proofs.Table.{Found, seek-spec, sessions_of, fails-none, Sole}
 
 -- ── one session ──
@@ -67,13 +67,13 @@ module _ (v : Parsed) (st : v.start ≡ true) (g : v.toggle ≡ false) where
   took-proceed s none e t =
       ap (λ x. takes x v) (took-began s v st g e) ∙ long-free (ltb 514 (length v.payload)) s.since v.time v v.payload st
 
-  took-ref : (s : Session) → took (number_of (ref_step s v).answer) ≡ true → ref_step s v ≡ takes (fresh v) v
+  took-react : (s : Session) → took (number_of (react s v).answer) ≡ true → react s v ≡ takes (fresh v) v
   unfolding proceed
-  took-ref s t = go (restarts s v) refl
+  took-react s t = go (restarts s v) refl
     where
-      go : (b : Bool) → restarts s v ≡ b → ref_step s v ≡ takes (fresh v) v
+      go : (b : Bool) → restarts s v ≡ b → react s v ≡ takes (fresh v) v
       go true e = restart-start s v e st g
-      go false e = let q = ref-stays s v e in q ∙ took-proceed s (over s v) refl (subst (λ o. took (number_of o.answer) ≡ true) q t)
+      go false e = let q = react-stays s v e in q ∙ took-proceed s (over s v) refl (subst (λ o. took (number_of o.answer) ≡ true) q t)
 
 -- ── the table ──
 
@@ -103,25 +103,27 @@ module _ (ps : Places) (v : Parsed) (st : v.start ≡ true) (g : v.toggle ≡ fa
 
   began-seek : (o : Option ℕ) → Found (holds v.stream) ps o → took (number_of (step_seek o ps v).answer) ≡ true
       → Began v.stream (step_seek o ps v) (takes (fresh v) v)
-  unfolding step_seek
+  unfolding step_seek react
   began-seek none h t = began-start v.start st (fails-none v.stream ps h) t
   began-seek (some i) h t =
       let x = session_in (get_or ps i empty) v in
       let a = alone_at ps i (met x v) (keeps (met x v) (blocks_in (get_or ps i empty))) v h.inside (inl h.passes) sole (took-block _ t) in
-      let q = took-ref v st g x (rw (sym a.0) t) in
+      let q = took-react v st g x (rw (sym a.0) t) in
       record { answer = a.0 ∙ ap (λ o. o.answer) q; session = a.1 ∙ ap (λ o. o.session ∷ []) q }
 
 -- what is taken passed the checks
-not_taken : (c : Refusal) → took (refusal_number c) ≡ true → ⊥
-not_taken c k = omega (arith, ltb-true (refusal_number c) 2 k, (refusal-range c).0)
+not_taken : (u : Setup) (r : Reception) (n : ℕ) → check u r ≡ some n → took n ≡ true → ⊥
+not_taken u r n e k =
+    let s : Small (some n) = subst Small e (check-small u r) in
+    omega (arith, ltb-true n 2 k, two-or-more n s)
 
 pub took-checked : (u : Setup) (ps : Places) (r : Reception) → took (number_of (step u ps r).answer) ≡ true → frame_check u r.arrival ≡ none
 unfolding step step_checked
 took-checked u ps r t = go (check u r) refl t
   where
-    go : (o : Option Refusal) → check u r ≡ o → took (number_of (step_checked o (is_anonymous r.arrival.frame.id) ps (parsed u r.arrival)).answer) ≡ true → frame_check u r.arrival ≡ none
+    go : (o : Option ℕ) → check u r ≡ o → took (number_of (step_checked o (is_anonymous r.arrival.frame.id) ps (parsed u r.arrival)).answer) ≡ true → frame_check u r.arrival ≡ none
     go none e k = checked u r e
-    go (some c) e k = absurd (not_taken c k)
+    go (some n) e k = absurd (not_taken u r n e k)
 
 began-stream : (u : Setup) (ps : Places) (r : Reception) → 0 < (stream_of r.arrival.frame.id).source → (parsed u r.arrival).start ≡ true → Sole ps
     → took (number_of (step u ps r).answer) ≡ true → Began (stream_of r.arrival.frame.id) (step u ps r) (takes (fresh (parsed u r.arrival)) (parsed u r.arrival))
@@ -132,11 +134,11 @@ began-stream u ps r named st sole t =
     v : Parsed
     v = parsed u r.arrival
 
-    go : (o : Option Refusal) → check u r ≡ o → took (number_of (step_checked o false ps v).answer) ≡ true
+    go : (o : Option ℕ) → check u r ≡ o → took (number_of (step_checked o false ps v).answer) ≡ true
         → Began (stream_of r.arrival.frame.id) (step_checked o false ps v) (takes (fresh v) v)
     go none e k =
         began-seek ps v st (start-toggle u r.arrival (checked u r e) st) sole (seek (holds v.stream) ps) (seek-spec (holds v.stream) ps) k
-    go (some c) e k = absurd (not_taken c k)
+    go (some n) e k = absurd (not_taken u r n e k)
 
 pub began-by : (u : Setup) (d : Stream) (ps : Places) (r : Reception) → 0 < d.source → of_stream d r.arrival.frame ≡ true → (parsed u r.arrival).start ≡ true
     → Sole ps → took (number_of (step u ps r).answer) ≡ true → Began d (step u ps r) (takes (fresh (parsed u r.arrival)) (parsed u r.arrival))

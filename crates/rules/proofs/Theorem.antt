@@ -4,7 +4,7 @@ use mathlib.Core.Bool.{Bool, true, false, true≢false}
 use mathlib.Core.List.{List, [], ◌∷◌}
 use mathlib.Core.Option.{some}
 use mathlib.Mathlib.Data.Bool.Basic.{and_elim_left, and_elim_right}
-use Prim.Native.Nat.{ℕ, zero, suc, ◌+◌, ◌*◌, ◌/◌, ◌%◌, ◌≤◌, ◌<◌}
+use Prim.Native.Nat.{ℕ, suc, ◌+◌, ◌*◌, ◌/◌, ◌%◌, ◌≤◌, ◌<◌}
 use native.Mathlib.Omega.{arith}
 use lib.Dec.{eqb, leb}
 use lib.ListN.{length, take}
@@ -13,8 +13,8 @@ use borrow.Author.Tests.{eq-eqb, lt-leb, leb-true, leb-false}
 use Rattle.checksum.specs.Crc16.{checksum}
 use Rattle.rules.specs.Answer.{Answer, handed, number_of}
 use Rattle.rules.specs.Check.{parsed}
-use Rattle.rules.specs.Condition3.{Past, from_setup, lent, heard, of_stream, start_of, keep, All, frames_with, answers_to, Receiver, frames, answers, front, Undisturbed, While, Brings, next, again, beside, Transfer, handouts, Condition3, rules_table}
-use Rattle.rules.specs.Damage.{Arriving, Opens}
+use Rattle.rules.specs.Condition3.{Past, from_setup, lent, heard, of_stream, start_of, keep, frames_with, answers_to, Receiver, frames, answers, front, While, Brings, next, again, beside, Transfer, handouts, Condition3, rules_table}
+use Rattle.rules.specs.Damage.{Opens}
 use Rattle.rules.specs.Frame.{Arrival, Stream, stream_of, priority_of, is_anonymous, is_start, tail_of}
 use Rattle.rules.specs.Limits.{switch_delay}
 use Rattle.rules.specs.Reception.{step}
@@ -25,8 +25,8 @@ use Rattle.rules.specs.Sound.{stream_fits, places_fit, sound}
 use Rattle.rules.specs.Table.{Places}
 use Rattle.rules.specs.Tests.{pick}
 use Rattle.rules.proofs.Checks.{Accepted, accepted, named-not-anonymous, of-stream}
-use Rattle.rules.proofs.Delivery.{Goes, over-now, goes_on, closes_by, not-one, opened, verdict, closes-once}
-use Rattle.rules.proofs.Follow.{frames-upto, answers-upto, answers-length, follow, takes-since, not-full-within}
+use Rattle.rules.proofs.Delivery.{Goes, over-now, goes_on, closes_by, not-one, verdict, closes-once}
+use Rattle.rules.proofs.Follow.{frames-upto, answers-upto, answers-length, follow}
 use Rattle.rules.proofs.Frames.{carried-short, carried-long}
 use Rattle.rules.proofs.Ids.{id-priority}
 use Rattle.rules.proofs.Lasting.{stream-fits, sound-fits, sound-sole, sound-after, lasting}
@@ -90,11 +90,6 @@ goes-handouts u {v = v} (closes_by a e g) = ap (keep (eqb (number_of v) 1) v) (g
 
 -- ── one receiver ──
 
-all_take : (P : Arrival → Type 0) (k : ℕ) (l : List Arrival) → All P l → All P (take k l)
-all_take P zero l h = tt
-all_take P (suc k) [] h = tt
-all_take P (suc k) (a ∷ l) h = (h.0, all_take P k l h.1)
-
 abbrev pub first : Setup → Arrival → Out
 first u f = takes (fresh (parsed u f)) (parsed u f)
 
@@ -113,30 +108,12 @@ module _ (u : Setup) (d : Stream) (x : Receiver (rules_table u)) (s : Opens (rul
       let sole = past-sole u x.state s.past in
       let b = began-by u d x.state x.start s.named mine (and_elim_right (of_stream d f.frame) _ s.start) sole s.take in
       let qs = (step u x.state x.start).places in
-      let q = follow u d s.named f.frame.time qs (first u f).session (front (rules_table u) d k x) w.undisturbed.time w.undisturbed.room w.table w.undisturbed.blocks
+      let q = follow u d s.named f.frame.time qs (first u f).session (front (rules_table u) d k x) w.time w.room w.table w.blocks
       (sole-step u x.state x.start sole) (same b.session) in
       rw mine
       (ap (λ a. a ∷ take k (answers_to (rules_table u) (of_stream d) qs x.list)) b.answer
       ∙ ap (λ l. (first u f).answer ∷ l)
       (sym (answers-upto (of_stream d) u qs x.list k) ∙ q ∙ ap (ref_run u (first u f).session) (frames-upto (of_stream d) u x.list k)))
-
-  -- within a second of the start no session of the stream is old, so that no start of it is refused for a full table
-  pub within : (k : ℕ) → Undisturbed (rules_table u) d k x → All (λ a. a.frame.time ≤ f.frame.time + switch_delay) (frames (rules_table u) d x)
-      → While (rules_table u) d k x
-  unfolding parsed
-  within k w soon =
-      let sole = past-sole u x.state s.past in
-      let st = and_elim_right (of_stream d f.frame) _ s.start in
-      let b = began-by u d x.state x.start s.named mine st sole s.take in
-      let young : (first u f).session.since ≡ f.frame.time = takes-since (fresh (parsed u f)) (parsed u f) ∙ rw st in
-      record {
-        undisturbed = w;
-        table = not-full-within u d s.named f.frame.time f.frame.time (step u x.state x.start).places (first u f).session (front (rules_table u) d k x)
-            (omega arith) (omega arith) w.time w.room w.blocks
-            (subst (All (λ a. a.frame.time ≤ f.frame.time + switch_delay)) (sym (frames-upto (of_stream d) u x.list k))
-            (all_take (λ a. a.frame.time ≤ f.frame.time + switch_delay) k (frames (rules_table u) d x) soon))
-            (sole-step u x.state x.start sole) (same b.session);
-      }
 
   -- all of its answers, where the premises hold up to the stream's last frame
   pub all-answers : While (rules_table u) d (length (frames (rules_table u) d x)) x
@@ -161,10 +138,9 @@ module _ (u : Setup) (d : Stream) (x : Receiver (rules_table u)) (s : Opens (rul
 
   -- the answers to frames that carry some bytes
   pub closes : (t : ℕ) → t < 32 → (all : List ℕ) → length all ≤ 514 → While (rules_table u) d (length (frames (rules_table u) d x)) x
-      → (rest : List (List ℕ)) → f.frame.bytes ∷ rest ≡ carrying t all
-      → Arriving f.interface f.frame.id (f.frame.time + switch_delay) f.frame.bytes rest (frames (rules_table u) d x)
+      → Brings f.interface f.frame.id (f.frame.time + switch_delay) (carrying t all) (f ∷ frames (rules_table u) d x)
       → Goes f.interface (verdict u f.frame.id t all (leb (length all) 7)) (leb (length all) 7) false (f ∷ frames (rules_table u) d x) (answers (rules_table u) d x)
-  closes t small all most w rest e b = rw (all-answers w) (closes-once u f ok not-anonymous t small all most (frames (rules_table u) d x) rest e b)
+  closes t small all most w b = rw (all-answers w) (closes-once u f ok not-anonymous t small all most (frames (rules_table u) d x) b)
 
   hands_out : (priority t : ℕ) (p : List ℕ) → Transfer u d f (frames (rules_table u) d x) priority t p
       → While (rules_table u) d (length (frames (rules_table u) d x)) x → handouts (rules_table u) (answers (rules_table u) d x) ≡ handed p d priority t ∷ []
@@ -172,10 +148,9 @@ module _ (u : Setup) (d : Stream) (x : Receiver (rules_table u)) (s : Opens (rul
   hands_out priority t p tr w =
       let i : f.frame.id ≡ id_of d priority = sender (eq-eqb f.interface f.interface refl) tr.brings in
       let e : priority_of f.frame.id ≡ priority = ap priority_of i ∙ id-priority d priority (subst (λ k. stream_fits k ≡ true) stream-is (stream-fits u f ok not-anonymous)) in
-      let o = opened (eq-eqb f.interface f.interface refl)
-      (subst (λ id. Brings f.interface id (f.frame.time + switch_delay) (carrying t (carried tr.signature p)) (f ∷ frames (rules_table u) d x)) (sym i) tr.brings) in
       goes-handouts u
-      (closes t tr.fields.1 (carried tr.signature p) (carried-most tr.signature p tr.size) w o.rest o.is o.brings)
+      (closes t tr.fields.1 (carried tr.signature p) (carried-most tr.signature p tr.size) w
+      (subst (λ id. Brings f.interface id (f.frame.time + switch_delay) (carrying t (carried tr.signature p)) (f ∷ frames (rules_table u) d x)) (sym i) tr.brings))
       ∙ ap (λ a. handouts (rules_table u) (a ∷ [])) (unaltered u f.frame.id t tr.signature p (ap (signature_for u) i ∙ tr.subscribed))
       ∙ λ j. handed p (stream-is j) (e j) t ∷ []
 

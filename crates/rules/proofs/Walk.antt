@@ -8,7 +8,7 @@ use Prim.Native.Nat.{ℕ, ◌≤◌, ◌<◌}
 use native.Mathlib.Omega.{arith}
 use lib.Dec.{eqb}
 use lib.ListN.{length, get_or}
-use Rattle.rules.specs.Answer.{Refusal, Answer, refused, full, passed, no_transfer, handed, no_block, number_of}
+use Rattle.rules.specs.Answer.{Answer, refused, full, passed, no_transfer, handed, no_block, number_of}
 use Rattle.rules.specs.BlockBounds.{bytes_in}
 use Rattle.rules.specs.Blocks.{need, keeps, blocks_in, used, times, stale}
 use Rattle.rules.specs.Check.{Reception, Parsed, parsed, check}
@@ -23,7 +23,7 @@ use Rattle.rules.proofs.Checks.{Accepted, accepted, checked}
 use Rattle.rules.proofs.Landing.{put}
 use Rattle.rules.proofs.Lasting.{Fits, ParsedFits, set-fits, place-fits, at-fits, session-fits, met-fits, many-in, many-kept, met-need, met-calm, parsed-fits, stream-fits}
 use Rattle.rules.proofs.Others.{FoundPlace, place-spec}
-use Rattle.rules.proofs.Ranges.{no-block}
+use Rattle.rules.proofs.Ranges.{Small, no-block, check-small}
 use Rattle.rules.proofs.Shares.{times-take, Shared, shared-put}
 use Rattle.rules.proofs.Table.{Fails, Sought, Found, seek-spec}
 
@@ -119,7 +119,7 @@ module _ (ps : Places) (v : Parsed) where
 
 pub stepped : (u : Setup) (ps : Places) (r : Reception) → places_fit ps ≡ true → Stepped ps (parsed u r.arrival) (step u ps r)
 unfolding step step_checked step_anonymous parsed
-stepped u ps r ok = checks (check u r) refl
+stepped u ps r ok = checks (check u r) refl (check-small u r)
   where
     v : Parsed
     v = parsed u r.arrival
@@ -128,6 +128,6 @@ stepped u ps r ok = checks (check u r) refl
     named a true n = stays (handed v.payload v.stream v.priority v.transfer) (not-blocked (handed v.payload v.stream v.priority v.transfer) refl)
     named a false n = seek-stepped ps v ok (parsed-fits u r.arrival a) (stream-fits u r.arrival a n) (seek (holds v.stream) ps) (seek-spec (holds v.stream) ps)
 
-    checks : (o : Option Refusal) → check u r ≡ o → Stepped ps v (step_checked o (is_anonymous r.arrival.frame.id) ps v)
-    checks (some c) e = stays (refused c) (not-blocked (refused c) (no-block c))
-    checks none e = named (accepted u r.arrival (checked u r e)) (is_anonymous r.arrival.frame.id) refl
+    checks : (o : Option ℕ) → check u r ≡ o → Small o → Stepped ps v (step_checked o (is_anonymous r.arrival.frame.id) ps v)
+    checks (some n) e k = stays (refused n) (not-blocked (refused n) (no-block n k))
+    checks none e k = named (accepted u r.arrival (checked u r e)) (is_anonymous r.arrival.frame.id) refl

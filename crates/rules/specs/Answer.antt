@@ -1,28 +1,6 @@
--- RULES 13.1, 4.1, 4.6 and 4.10: the answers of a reception.
+-- RULES 13.1, 4.6 and 4.10: the answers of a reception.
 use Rattle.std.specs.Prelude.{List, [], ℕ}
 use Rattle.rules.specs.Frame.{Stream}
-
--- which check refuses a frame (RULES 4.1)
-pub data Refusal : Type 0 where
-  wrong_id : Refusal
-  wrong_length : Refusal  -- of its data
-  wrong_interface : Refusal
-  nameless_service : Refusal  -- a service with source or destination 0
-  wrong_tail : Refusal
-  other_node : Refusal  -- a service for another node
-  no_subscription : Refusal
-  no_room : Refusal  -- in the output buffer
-
--- the number of each
-abbrev pub refusal_number : Refusal → ℕ
-refusal_number wrong_id = 2
-refusal_number wrong_length = 3
-refusal_number wrong_interface = 19
-refusal_number nameless_service = 4
-refusal_number wrong_tail = 5
-refusal_number other_node = 6
-refusal_number no_subscription = 7
-refusal_number no_room = 8
 
 -- why a frame is passed over (RULES 4.6)
 pub data Reason : Type 0 where
@@ -44,7 +22,8 @@ pub data Answer : Type 0 where
   taken : Answer
   -- RULES 4.10: the payload, the stream, the closing frame's priority and transfer ID
   handed : List ℕ → Stream → ℕ → ℕ → Answer
-  refused : Refusal → Answer
+  -- by one of the frame checks (RULES 4.1), with its number
+  refused : ℕ → Answer
   full : Answer
   passed : Reason → Answer
   long : Answer
@@ -54,7 +33,7 @@ pub data Answer : Type 0 where
 abbrev pub number_of : Answer → ℕ
 number_of taken = 0
 number_of (handed p s prio t) = 1
-number_of (refused r) = refusal_number r
+number_of (refused n) = n
 number_of full = 9
 number_of (passed r) = reason_number r
 number_of long = 11
@@ -65,7 +44,7 @@ number_of differs = 12
 abbrev pub handed_or {ℓ} : {A : Type ℓ} → A → (List ℕ → Stream → ℕ → ℕ → A) → Answer → A
 handed_or a f taken = a
 handed_or a f (handed p d priority t) = f p d priority t
-handed_or a f (refused r) = a
+handed_or a f (refused n) = a
 handed_or a f full = a
 handed_or a f (passed r) = a
 handed_or a f long = a

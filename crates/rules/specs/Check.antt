@@ -1,7 +1,6 @@
 -- RULES 4.1: what the rules read of a frame (2.2 to 2.4, 2.7, 3.6), and the frame checks: 2, 3, 19 and 4 to 8.
 use Rattle.std.specs.Prelude.{Bool, true, false, not, ◌&&◌, ◌||◌, List, [], ◌∷◌, ◌++◌, ℕ, ◌^◌, ltb, leb, eqb, length}
 use Rattle.std.proofs.Math.Option.{Option, none, some}
-use Rattle.rules.specs.Answer.{Refusal, wrong_id, wrong_length, wrong_interface, nameless_service, wrong_tail, other_node, no_subscription, no_room}
 use Rattle.rules.specs.Frame.{Frame, Arrival, Stream, priority_of, is_service_stream, unnamed, stream_of, tail_of, payload_of, is_start, is_end, toggle_of, transfer_of}
 use Rattle.rules.specs.Limits.{frame_data, interfaces_max, payload_max}
 use Rattle.rules.specs.Setup.{Setup, signature_for}
@@ -71,46 +70,45 @@ not_subscribed u f = is_none (signature_for u f.id)
 
 -- ── in their order ──
 
--- what is answered where a test holds
-pub record Test (A : Type 0) : Type 0 where
+pub record Test : Type 0 where
   pub holds : Bool
-  pub gives : A
+  pub number : ℕ
 
 -- 2 and 3: a frame of n data bytes that cannot be read; 19: one that comes by no interface of ours
-abbrev pub read_tests : ℕ → ℕ → ℕ → List (Test Refusal)
+abbrev pub read_tests : ℕ → ℕ → ℕ → List Test
 read_tests id n i =
-    record { holds = large_id id; gives = wrong_id } ∷
-    record { holds = bad_length n; gives = wrong_length } ∷
-    record { holds = no_interface i; gives = wrong_interface } ∷ []
+    record { holds = large_id id; number = 2 } ∷
+    record { holds = bad_length n; number = 3 } ∷
+    record { holds = no_interface i; number = 19 } ∷ []
 
 -- 4 to 6: its stream and the flags of its tail
-abbrev pub head_tests : ℕ → Stream → Bool → Bool → Bool → ℕ → List (Test Refusal)
+abbrev pub head_tests : ℕ → Stream → Bool → Bool → Bool → ℕ → List Test
 head_tests own d start last toggle n =
-    record { holds = unnamed_service d; gives = nameless_service } ∷
-    record { holds = bad_tail (unnamed d) start last toggle n; gives = wrong_tail } ∷
-    record { holds = for_another own d; gives = other_node } ∷ []
+    record { holds = unnamed_service d; number = 4 } ∷
+    record { holds = bad_tail (unnamed d) start last toggle n; number = 5 } ∷
+    record { holds = for_another own d; number = 6 } ∷ []
 
 -- all but 8 look at the setup and the frame as it comes alone
-abbrev pub frame_tests : Setup → Arrival → List (Test Refusal)
+abbrev pub frame_tests : Setup → Arrival → List Test
 frame_tests u a =
     read_tests a.frame.id (length a.frame.bytes) a.interface
     ++ (head_tests u.own (stream_of a.frame.id) (is_start (tail_of a.frame.bytes)) (is_end (tail_of a.frame.bytes))
     (toggle_of (tail_of a.frame.bytes)) (length a.frame.bytes)
-    ++ (record { holds = not_subscribed u a.frame; gives = no_subscription } ∷ []))
+    ++ (record { holds = not_subscribed u a.frame; number = 7 } ∷ []))
 
 -- the first that holds answers
-abbrev pub first : {A : Type 0} → List (Test A) → Option A
+abbrev pub first : List Test → Option ℕ
 first [] = none
-first (t ∷ ts) = pick t.holds (some t.gives) (first ts)
+first (t ∷ ts) = pick t.holds (some t.number) (first ts)
 
-unfoldable pub frame_check : Setup → Arrival → Option Refusal
+unfoldable pub frame_check : Setup → Arrival → Option ℕ
 frame_check u a = first (frame_tests u a)
 
 -- 8 comes last: no room for the longest payload
-abbrev pub room_check : Option Refusal → Bool → Option Refusal
-room_check (some c) b = some c
-room_check none true = some no_room
+abbrev pub room_check : Option ℕ → Bool → Option ℕ
+room_check (some n) b = some n
+room_check none true = some 8
 room_check none false = none
 
-unfoldable pub check : Setup → Reception → Option Refusal
+unfoldable pub check : Setup → Reception → Option ℕ
 check u r = room_check (frame_check u r.arrival) (ltb r.room payload_max)

@@ -15,7 +15,7 @@ use Rattle.rules.specs.Tests.{pick}
 
 -- ── receivers (RULES 14.2) ──
 
--- The receivers of equal setups (RULES 3.7). Each call meets the state that the last one left; nothing else writes it.
+-- The receivers of one setup. Each call meets the state that the last one left; nothing else writes it.
 pub record Machine : Type 1 where
   pub State : Type 0
   -- one reception: a frame by an interface, and room for what is handed out
@@ -101,7 +101,7 @@ module _ (M : Machine) where
   took_start x = took (M.number (M.answer x.state x.start))
 
   pub record Premises (d : Stream) (x y : Receiver) : Type 0 where
-    -- RULES 14.2: each has any past; their setups are equal, since both are of M
+    -- RULES 14.2: each has any past; their setup is equal, since both are of M
     pub pasts : M.Past x.state × M.Past y.state
     pub typed : All M.Typed (x.start ∷ x.list) × All M.Typed (y.start ∷ y.list)
     -- RULES 14.1: the stream has a named source
@@ -137,18 +137,15 @@ module _ (M : Machine) where
   front d k x = up_to (of_stream d) x.list k
 
   -- so far the premises hold for one receiver: nothing is asked of what comes later
-  pub record Undisturbed (d : Stream) (k : ℕ) (x : Receiver) : Type 0 where
+  pub record While (d : Stream) (k : ℕ) (x : Receiver) : Type 0 where
     -- RULES 14.6: time never runs back from the start on; other streams' frames and refused ones count
     pub time : forward (start_frame x).frame.time (front d k x) ≡ true
     -- RULES 14.7: output buffers are large enough
     pub room : roomy d (front d k x) ≡ true
-    -- RULES 14.8: no frame of the stream is refused for want of a block
-    pub blocks : never 26 (answers_to (of_stream d) (M.after x.state x.start) (front d k x)) ≡ true
-
-  pub record While (d : Stream) (k : ℕ) (x : Receiver) : Type 0 where
-    pub undisturbed : Undisturbed d k x
-    -- RULES 14.8: and no start of it for a full table
+    -- RULES 14.8: no start of the stream is refused for a full table
     pub table : never 9 (answers_to (start_of d) (M.after x.state x.start) (front d k x)) ≡ true
+    -- RULES 14.8: and no frame of the stream for want of a block
+    pub blocks : never 26 (answers_to (of_stream d) (M.after x.state x.start) (front d k x)) ≡ true
 
 -- ── a correctly sent transfer (RULES 14.10, 14.11) ──
 
@@ -206,7 +203,6 @@ pub data Past (u : Setup) : Places → Type 0 where
   lent : {ps : Places} → sound ps ≡ true → Past u ps
   heard : {ps : Places} → Past u ps → (l : List Reception) → Past u (after u ps l)
 
--- One setup is enough here: steps of equal setups are the same (EqualSetups.antt).
 abbrev pub rules_table : Setup → Machine
 rules_table u =
     record {

@@ -1,14 +1,14 @@
 -- RULES 14.16 to 14.18: how much damage is always caught, stated once over any machine of condition 3. A transfer of several frames whose payload is
 -- altered by a burst (RULES 6.6) ends with 12, and nothing is handed out.
-use Rattle.std.specs.Prelude.{◌≡◌, Bool, true, false, ◌&&◌, ◌||◌, List, [], ◌∷◌, ◌++◌, map, ℕ, suc, ◌+◌, ◌≤◌, ◌<◌, leb, eqb, length}
+use Rattle.std.specs.Prelude.{◌≡◌, Bool, true, ◌&&◌, ◌||◌, List, [], ◌∷◌, ◌++◌, map, ℕ, suc, ◌+◌, ◌≤◌, ◌<◌, leb, eqb, length}
 use Rattle.std.proofs.Math.Option.{some}
 use Rattle.checksum.specs.Crc16.{checksum}
 use Rattle.checksum.specs.Damage.{burst_max, Burst}
 use Rattle.rules.specs.Answer.{differs}
-use Rattle.rules.specs.Condition3.{Machine, start_of, All, Receiver, start_frame, frames, answers, took_start, Undisturbed, handouts}
+use Rattle.rules.specs.Condition3.{Machine, start_of, All, Receiver, start_frame, frames, answers, took_start, While, Brings, handouts}
 use Rattle.rules.specs.Frame.{Arrival, Stream, tail_of, is_end}
 use Rattle.rules.specs.Limits.{frame_payload, payload_max, switch_delay}
-use Rattle.rules.specs.Sent.{summed, sent, id_of, arrival_at}
+use Rattle.rules.specs.Sent.{summed, sent, id_of}
 use Rattle.rules.specs.SentLaws.{joined}
 use Rattle.rules.specs.Setup.{Setup, signature_for}
 use Rattle.rules.specs.Tests.{pick}
@@ -23,35 +23,21 @@ pub record Opens (M : Machine) (d : Stream) (x : Receiver M) : Type 0 where
   pub start : start_of d (start_frame M x).frame ≡ true
   pub take : took_start M x ≡ true
 
--- RULES 14.17: the frame c came. After it interface i brings the frames of a list in order and nothing else, each perhaps repeated before the next: a
--- repeat has the tail byte and the length of its frame, and any other bytes. By other interfaces any frames; none later than `till`
-pub data Arriving (i id till : ℕ) : List ℕ → List (List ℕ) → List Arrival → Type 0 where
-  done : {c : List ℕ} → Arriving i id till c [] []
-  -- the first copy of the next frame
-  next : {c b : List ℕ} {more : List (List ℕ)} {fs : List Arrival} (t : ℕ) → t ≤ till → Arriving i id till b more fs
-      → Arriving i id till c (b ∷ more) (arrival_at i id b t ∷ fs)
-  -- a repeat of c
-  again : {c : List ℕ} {more : List (List ℕ)} {fs : List Arrival} (b : List ℕ) → tail_of b ≡ tail_of c → length b ≡ length c
-      → (t : ℕ) → t ≤ till → Arriving i id till c more fs → Arriving i id till c more (arrival_at i id b t ∷ fs)
-  beside : {c : List ℕ} {more : List (List ℕ)} {fs : List Arrival} (a : Arrival) → eqb a.interface i ≡ false → a.frame.time ≤ till
-      → Arriving i id till c more fs → Arriving i id till c more (a ∷ fs)
-
 -- RULES 14.17: the payload p is sent in several frames with a priority and the transfer ID t; the start f and the stream's frames fs after it bring
--- these frames within a second of the start, but with the payload q
+-- these frames as a transfer's (14.11), but with the payload q
 pub record Damaged (u : Setup) (d : Stream) (f : Arrival) (fs : List Arrival) (priority t : ℕ) (p q : List ℕ) : Type 0 where
   pub size : (frame_payload < length p) × (length p ≤ payload_max)
   -- correctly sent (14.10)
   pub fields : (priority < 32) × (t < 32)
   pub signature : ℕ
   pub subscribed : signature_for u (id_of d priority) ≡ some signature
-  pub id : f.frame.id ≡ id_of d priority
-  -- the frames after the start as they arrive, the first copy of each: tail bytes, lengths and checksum as sent
-  pub rest : List (List ℕ)
-  pub tails : map tail_of (f.frame.bytes ∷ rest) ≡ map tail_of (sent signature t p)
-  pub lengths : map length (f.frame.bytes ∷ rest) ≡ map length (sent signature t p)
-  pub carried : joined (f.frame.bytes ∷ rest) ≡ summed (checksum signature p) q
+  -- the frames as they arrive: tail bytes, lengths and checksum as sent
+  pub arriving : List (List ℕ)
+  pub tails : map tail_of arriving ≡ map tail_of (sent signature t p)
+  pub lengths : map length arriving ≡ map length (sent signature t p)
+  pub carried : joined arriving ≡ summed (checksum signature p) q
   pub burst : Burst burst_max p q
-  pub brings : Arriving f.interface f.frame.id (f.frame.time + switch_delay) f.frame.bytes rest fs
+  pub brings : Brings f.interface (id_of d priority) (f.frame.time + switch_delay) arriving (f ∷ fs)
 
 -- ── the claim (RULES 14.18) ──
 
@@ -93,4 +79,4 @@ abbrev pub BurstIsCaught : (Setup → Machine) → Type 0
 BurstIsCaught machine =
     (u : Setup) (d : Stream) (x : Receiver (machine u)) → Opens (machine u) d x
     → (priority t : ℕ) (p q : List ℕ) → Damaged u d (start_frame (machine u) x) (frames (machine u) d x) priority t p q
-    → Undisturbed (machine u) d (length (frames (machine u) d x)) x → Caught (machine u) d x
+    → While (machine u) d (length (frames (machine u) d x)) x → Caught (machine u) d x

@@ -3,14 +3,13 @@
 use Rattle.std.specs.Prelude.{◌≡◌, List, [], ◌∷◌, map, ℕ, ◌+◌}
 use Rattle.checksum.specs.Damage.{burst_max, Burst}
 use Rattle.rules.specs.Answer.{number_of, handed}
-use Rattle.rules.specs.Condition3.{Receiver, frames, answers, Undisturbed, handouts, rules_table}
+use Rattle.rules.specs.Condition3.{Receiver, frames, answers, While, handouts, rules_table}
 use Rattle.rules.specs.Damage.{Opens, Damaged, Caught}
-use Rattle.rules.specs.Example.{setup, stream, payload, one, two, three, frame, received, copied, other, earlier}
+use Rattle.rules.specs.Example.{setup, stream, payload, one, three, frame, received, copied, other, earlier}
 use Rattle.rules.specs.Reception.{after}
 use Rattle.rules.specs.Table.{begun}
 
--- a receiver that hears two frames a and b and the third of the example's, each repeated as it was sent, which comes too late; by another interface the
--- frames as they were sent
+-- a receiver that hears two frames a and b and the third of the example's, each repeated; by another interface the frames as they were sent
 abbrev pub hearing : List ℕ → List ℕ → Receiver (rules_table setup)
 hearing a b =
     record {
@@ -18,11 +17,11 @@ hearing a b =
       start = record { arrival = frame a 10000000; room = 512 };
       list =
           copied one 10000000 ∷
-          received one 10000001 ∷
+          received a 10000001 ∷
           received b 10001000 ∷
           copied three 10001000 ∷
           other 0x1001562A (0xC1 ∷ []) 10001000 ∷
-          received two 10002000 ∷
+          received b 10002000 ∷
           received three 10999999 ∷
           received three 11000000 ∷
           copied one 11000000 ∷ [];
@@ -49,7 +48,7 @@ deceived =
 pub record DamageExample : Type 0 where
   pub opens : Opens (rules_table setup) stream damaged
   pub arrives : Damaged setup stream damaged.start.arrival (frames (rules_table setup) stream damaged) 16 5 payload altered
-  pub undisturbed : Undisturbed (rules_table setup) stream 8 damaged
+  pub while : While (rules_table setup) stream 8 damaged
   pub caught : Caught (rules_table setup) stream damaged
   pub numbers : map number_of (answers (rules_table setup) stream damaged) ≡ 0 ∷ 34 ∷ 33 ∷ 0 ∷ 34 ∷ 31 ∷ 12 ∷ 30 ∷ 34 ∷ []
   -- one bit more, and the altered payload is handed out

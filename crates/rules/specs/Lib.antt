@@ -8,7 +8,6 @@ pub mod Session
 pub mod Table
 pub mod Blocks
 pub mod Reception
-pub mod EqualSetups
 pub mod Range
 pub mod Refusal
 pub mod Sent

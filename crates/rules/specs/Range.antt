@@ -1,5 +1,5 @@
 -- RULES 4.10: every number that a reception answers, and every value that 1 gives, is in its range, whatever the table was.
-use Rattle.std.specs.Prelude.{◌≡◌, Bool, true, ◌&&◌, ◌||◌, List, ℕ, ◌≤◌, ◌<◌, leb, eqb, length}
+use Rattle.std.specs.Prelude.{◌≡◌, Bool, true, ◌&&◌, ◌||◌, List, ◌⊎◌, ℕ, ◌≤◌, ◌<◌, leb, eqb, length}
 use Rattle.rules.specs.Answer.{Answer, taken, handed, refused, full, passed, long, no_block, differs, number_of}
 use Rattle.rules.specs.Check.{Reception}
 use Rattle.rules.specs.Frame.{Stream}
@@ -20,7 +20,7 @@ pub record HandedRange (p : List ℕ) (d : Stream) (prio t : ℕ) : Type 0 where
 abbrev pub Ranged : Answer → Type 0
 Ranged taken = Unit {0}
 Ranged (handed p d prio t) = HandedRange p d prio t
-Ranged (refused r) = Unit {0}
+Ranged (refused n) = ((2 ≤ n) × (n ≤ 8)) ⊎ (n ≡ 19)
 Ranged full = Unit {0}
 Ranged (passed r) = Unit {0}
 Ranged long = Unit {0}

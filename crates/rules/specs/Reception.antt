@@ -1,7 +1,7 @@
 -- RULES 4.1 to 4.3, 4.9, 4.11 and 4.12: one reception on the whole table, and lists of receptions.
 use Rattle.std.specs.Prelude.{Bool, true, false, List, [], ◌∷◌, ◌++◌, ℕ, get_or, set}
 use Rattle.std.proofs.Math.Option.{Option, none, some}
-use Rattle.rules.specs.Answer.{Refusal, Answer, handed, refused, full, passed, no_transfer, no_block}
+use Rattle.rules.specs.Answer.{Answer, handed, refused, full, passed, no_transfer, no_block}
 use Rattle.rules.specs.Blocks.{keeps, blocks_in, free_block, cleared, asks}
 use Rattle.rules.specs.Check.{Reception, Parsed, parsed, check}
 use Rattle.rules.specs.Frame.{Stream, is_anonymous}
@@ -59,8 +59,8 @@ unfoldable pub step_anonymous : Bool → Places → Parsed → Step
 step_anonymous true ps v = record { answer = handed v.payload v.stream v.priority v.transfer; places = ps }
 step_anonymous false ps v = step_seek (seek (holds v.stream) ps) ps v
 
-unfoldable pub step_checked : Option Refusal → Bool → Places → Parsed → Step
-step_checked (some c) a ps v = record { answer = refused c; places = ps }
+unfoldable pub step_checked : Option ℕ → Bool → Places → Parsed → Step
+step_checked (some n) a ps v = record { answer = refused n; places = ps }
 step_checked none a ps v = step_anonymous a ps v
 
 unfoldable pub step : Setup → Places → Reception → Step

@@ -133,6 +133,10 @@ proceed_if none s v = takes s v
 unfoldable pub proceed : Session → Parsed → Out
 proceed s v = proceed_if (over s v) s v
 
+-- a frame that is no start and restarts a session finds no transfer in hand (4.6)
+unfoldable pub react : Session → Parsed → Out
+react s v = proceed (met s v) v
+
 -- RULES 4.3: a new session, as one restarted by this frame
 abbrev pub fresh : Parsed → Session
 fresh v = waiting v.transfer v.time v.interface

@@ -1,6 +1,5 @@
--- RULES 3.1, 3.2, 3.4, 3.6 and 3.7: what a receiver is set up with, the setups that are refused (13), the signature of a frame, and equal setups.
-use Rattle.std.specs.Prelude.{◌≡◌, Bool, true, false, not, ◌&&◌, ℕ, ltb, leb, eqb, length}
-use mathlib.Core.List.{List, [], ◌∷◌, Permᴰ}
+-- RULES 3.1, 3.2, 3.4 and 3.6: what a receiver is set up with, the setups that are refused (13), and the signature of a frame.
+use Rattle.std.specs.Prelude.{Bool, true, false, not, ◌&&◌, List, [], ◌∷◌, ℕ, ltb, leb, eqb, length}
 use Rattle.std.proofs.Math.Option.{Option, none, some}
 use Rattle.rules.specs.Frame.{Stream, stream_of}
 use Rattle.rules.specs.Limits.{subscriptions_max}
@@ -50,10 +49,3 @@ kind_of d = pick (eqb d.transfer_type 0) 0 1
 
 abbrev pub signature_for : Setup → ℕ → Option ℕ
 signature_for u id = subscribed (kind_of (stream_of id)) (stream_of id).type u.subscriptions
-
--- ── equal setups (RULES 3.7) ──
-
--- the same own ID, and the same subscriptions in any order
-pub record SameSetup (u w : Setup) : Type 0 where
-  pub own : u.own ≡ w.own
-  pub subscriptions : Permᴰ u.subscriptions w.subscriptions

@@ -39,7 +39,7 @@ abbrev pub is_old : ℕ → Place → Bool
 is_old t empty = false
 is_old t (held e s bs) = old t s
 
-abbrev pub or_else : {A : Type 0} → Option A → Option A → Option A
+abbrev pub or_else : Option ℕ → Option ℕ → Option ℕ
 or_else (some i) o = some i
 or_else none o = o
 

@@ -7,7 +7,6 @@ ghost use Rattle.rules.specs.BlockLaws.{BlockLaws};
 ghost use Rattle.rules.specs.Condition3.{Condition3, rules_table};
 ghost use Rattle.rules.specs.Damage.{BurstIsCaught};
 ghost use Rattle.rules.specs.DamageExample.{DamageExample};
-ghost use Rattle.rules.specs.EqualSetups.{EqualSetups};
 ghost use Rattle.rules.specs.Example.{Example};
 ghost use Rattle.rules.specs.Interfaces.{Interfaces};
 ghost use Rattle.rules.specs.Range.{RangeLaw, NumberLaw, OneLaw};
@@ -54,17 +53,12 @@ pub fn answers_in_range()
     ensures { RangeLaw × (NumberLaw × OneLaw) }
 {}
 
-// RULES 3.7: the order of subscriptions is of no effect.
-pub fn equal_setups()
-    ensures { EqualSetups }
-{}
-
 // RULES 4.6: why a frame is passed over. The reasons are complete, and the first that holds is answered.
 pub fn reasons_of_passing()
     ensures { Reasons }
 {}
 
-// RULES 4.9: 2 to 9, 19 and 31 to 34 leave the table as it was; 30 restarts an old session of the frame's stream and leaves the rest.
+// RULES 4.9: a frame that is refused by 2 to 9 or 19 changes no place.
 pub fn refusal()
     ensures { RefusalLaw }
 {}

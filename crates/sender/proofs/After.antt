@@ -15,7 +15,7 @@ use Rattle.bits.specs.Part.{splice}
 use Rattle.id_map.specs.Layout.{size, key_of, map_of, with_slot, written}
 use Rattle.id_map.specs.Sound.{sound_map}
 use Rattle.id_map.proofs.Keys.{topic-key}
-use Rattle.id_map.proofs.Places.{Holdable, length-with_slot, octets-with_slot}
+use Rattle.id_map.proofs.Places.{Holdable, length-with_slot}
 use Rattle.id_map.proofs.Seek.{length-map_of}
 use Rattle.id_map.proofs.Soundness.{long-enough}
 use Rattle.id_map.proofs.Written.{view-set}
@@ -55,11 +55,10 @@ holdable c r n h =
 record Holds (m : List ℕ) (after : Map) : Type 0 where
   pub view : map_of (written m 0 after) ≡ after
   pub long : size ≤ length (written m 0 after)
-  pub octets : Octets (written m 0 after)
 
 module _ (m : List ℕ) (fine : sound_map m ≡ true) (bytes : Octets m) (c : Call) (time : c.time < 2 ^ 64) where
   holds : (after : Map) → Leaves c (map_of m) after → Holds m after
-  holds after alone = record { view = ap map_of (kept m fine bytes); long = rw (kept m fine bytes) (long-enough m fine); octets = rw (kept m fine bytes) bytes }
+  holds after alone = record { view = ap map_of (kept m fine bytes); long = rw (kept m fine bytes) (long-enough m fine) }
   holds after (stored i t h r n) =
       let entry = used (topic_of c) (next t) c.time in
       let l = long-enough m fine in
@@ -68,14 +67,13 @@ module _ (m : List ℕ) (fine : sound_map m ≡ true) (bytes : Octets m) (c : Ca
       record {
         view = ap map_of w ∙ view-set m l (topic_of c) (next t) c.time (holdable c r n time) i b;
         long = rw (w, length-with_slot m i l b entry) l;
-        octets = rw w (octets-with_slot m i l (omega arith) bytes (topic_of c) (next t) c.time (omega arith));
       }
 
 sent-map : (m : List ℕ) (c : Call) (out : List ℕ) → sound_map m ≡ true → (sends m c out).map ≡ written m 0 (send_step c (map_of m) (length out)).map
 unfolding sends sends_if
 sent-map m c out e = rw e
 
-pub sound-view : (m : List ℕ) → sound_map m ≡ true → rules.sound (map_of m) ≡ true
+sound-view : (m : List ℕ) → sound_map m ≡ true → rules.sound (map_of m) ≡ true
 unfolding sound_map
 sound-view m e = and_elim_right (leb size (length m)) _ e
 
@@ -95,8 +93,5 @@ module _ (m : List ℕ) (c : Call) (out : List ℕ) (fine : sound_map m ≡ true
       ap sound_map (sent-map m c out fine)
       ∙ and_intro (le-leb size (length (written m 0 after)) kept_by.long) (ap rules.sound kept_by.view ∙ map_lasts.send c (map_of m) (length out) (sound-view m fine))
 
-  bytes_after : Octets (sends m c out).map
-  bytes_after = rw (sent-map m c out fine) kept_by.octets
-
 pub send-laws : SendLaws
-send-laws = record { refusal = refused; view = view-after; sound = sound-after; bytes = bytes_after }
+send-laws = record { refusal = refused; view = view-after; sound = sound-after }

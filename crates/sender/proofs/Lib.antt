@@ -2,4 +2,3 @@ pub mod NotSendable
 pub mod Pieces
 pub mod Lent
 pub mod After
-pub mod Ranges

@@ -19,5 +19,3 @@ pub record SendLaws : Type 0 where
       → map_of (sends m c out).map ≡ (send_step c (map_of m) (length out)).map
   -- without a fault
   pub sound : (m : List ℕ) (c : Call) (out : List ℕ) → sound_map m ≡ true → Octets m → c.time < 2 ^ 64 → sound_map (sends m c out).map ≡ true
-  -- and are bytes
-  pub bytes : (m : List ℕ) (c : Call) (out : List ℕ) → sound_map m ≡ true → Octets m → c.time < 2 ^ 64 → Octets (sends m c out).map

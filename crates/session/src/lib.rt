@@ -2,7 +2,7 @@
 ghost use Rattle.std.specs.Prelude.{◌≡◌, true, false, ◌&&◌, [], ◌+◌, ◌-◌, ◌≤◌, ◌<◌, ltb, eqb, length, take};
 ghost use Rattle.std.proofs.Math.Option.{some};
 ghost use Rattle.bits.specs.Part.{span};
-ghost use Rattle.rules.specs.Limits.{payload_max, gathered_max, frame_payload};
+ghost use Rattle.rules.specs.Limits.{payload_max, gathered_max};
 ghost use Rattle.rules.specs.Session as rules;
 ghost use Rattle.rules.specs.Session.{distance, next, sum_ok};
 ghost use Rattle.rules.specs.Tests.{pick, is_none};
@@ -59,7 +59,7 @@ impl Session {
 
     // Internal. A frame with n bytes is taken: they come after those in hand, a start sets the time, the toggle turns.
     pub fn take(mut self, start: bool, time: u64, n: usize) -> Self
-        requires { (self.len ≤ gathered_max) × (n ≤ frame_payload) }
+        requires { self.len + n ≤ gathered_max }
         ensures { result ≡ taken self start time n }
     {
         self.len = self.len + n;

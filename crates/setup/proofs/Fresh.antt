@@ -165,9 +165,9 @@ own_at : (own n : ℕ) (ss ks rest : List ℕ) → get_or (laid own n ss ks rest
 unfolding laid
 own_at own n ss ks rest = refl
 
-number-at : (own n : ℕ) (ss ks rest : List ℕ) → get_or (laid own n ss ks rest) 1 0 ≡ n
+number_at : (own n : ℕ) (ss ks rest : List ℕ) → get_or (laid own n ss ks rest) 1 0 ≡ n
 unfolding laid
-number-at own n ss ks rest = refl
+number_at own n ss ks rest = refl
 
 module _ (own : ℕ) (r past : List ℕ) (taken : accepted own r ≡ true) (bytes : Octets r) where
   abbrev count : ℕ
@@ -202,7 +202,7 @@ module _ (own : ℕ) (r past : List ℕ) (taken : accepted own r ≡ true) (byte
   unfolding setup_of given
   read_back =
       let o : get_or after 0 0 ≡ own = own_at own count (signatures (tabulate (record_at r) 0 count)) (keys (tabulate (record_at r) 0 count)) past in
-      let n : get_or after 1 0 ≡ count = number-at own count (signatures (tabulate (record_at r) 0 count)) (keys (tabulate (record_at r) 0 count)) past in
+      let n : get_or after 1 0 ≡ count = number_at own count (signatures (tabulate (record_at r) 0 count)) (keys (tabulate (record_at r) 0 count)) past in
       let s : tabulate (subscription_at after) 0 (get_or after 1 0) ≡ tabulate (record_at r) 0 count =
       ap (tabulate (subscription_at after) 0) n
       ∙ tab-same (subscription_at after) (record_at r) count 0

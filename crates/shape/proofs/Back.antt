@@ -13,10 +13,10 @@ use Rattle.bits.specs.Order.{to_bits, from_bits}
 use Rattle.bits.proofs.Numbers.{length-to_bits, from_bits-lt, to_bits-from_bits}
 use Rattle.bits.specs.Width.{width_of}
 use Rattle.shape.specs.Answer.{Answer, refused, got, refuse_if, map_answer}
-use Rattle.shape.specs.Cast.{Sign, Cast, value_of, cast_bits, Item}
-use Rattle.shape.specs.Shape.{Shape, end, num, raw, void, items, list, tail, choice, tag_width, Values, item_bits, items_of, clipped_items, all_zero, encode, decode, tags, fits, clear}
+use Rattle.shape.specs.Cast.{Sign, Cast, value_of, cast_bits}
+use Rattle.shape.specs.Shape.{Shape, end, num, raw, void, items, list, tail, choice, tag_width, Values, item_bits, items_of, all_zero, all_below, encode, decode, tags, fits, clear}
 use Rattle.shape.proofs.CastFacts.{cast-back}
-use Rattle.shape.proofs.Fields.{and_both, length-items_of, items_back, items-same}
+use Rattle.shape.proofs.Fields.{and_both, length-items_of, items_back, items-below}
 
 -- bits that a message of shape d was read from
 pub record Came (d : Shape) (bs : List Bool) (v : Values d) : Type 0 where
@@ -97,79 +97,81 @@ good-void w d bs false e (got v) g =
       fit = g.fit;
     }
 
-good-items : (s : Sign) (c : Cast) (w k : ℕ) (d : Shape) (bs : List Bool) (b : Bool) → ltb (length bs) (k * w) ≡ b → (r : Answer (Values d)) → Good d (drop (k * w) bs) r
-    → Good (items s c w k d) bs (refuse_if b 15 (map_answer (λ (v : Values d). (items_of s w k bs, v)) r))
+good-items : (w k : ℕ) (d : Shape) (bs : List Bool) (b : Bool) → ltb (length bs) (k * w) ≡ b → (r : Answer (Values d)) → Good d (drop (k * w) bs) r
+    → Good (items w k d) bs (refuse_if b 15 (map_answer (λ (v : Values d). (items_of w k bs, v)) r))
 unfolding refuse_if map_answer encode fits clear
-good-items s c w k d bs true e r g = tt
-good-items s c w k d bs false e (refused n) g = tt
-good-items s c w k d bs false e (got v) g =
+good-items w k d bs true e r g = tt
+good-items w k d bs false e (refused n) g = tt
+good-items w k d bs false e (got v) g =
     let l : k * w ≤ length bs = ltb-false (length bs) (k * w) e in
     record {
       pad = g.pad;
-      whole = joined (take (k * w) bs) (item_bits s c w (items_of s w k bs)) (clear d (drop (k * w) bs)) (encode d v) g.pad (items_back s c w k bs l) g.whole;
+      whole = joined (take (k * w) bs) (item_bits w (items_of w k bs)) (clear d (drop (k * w) bs)) (encode d v) g.pad (items_back w k bs l) g.whole;
       long = as_long (k * w) bs (take (k * w) bs) (clear d (drop (k * w) bs)) l (length-take-le (k * w) bs l) g.long;
       short = g.short;
       empty = g.empty;
       tagged = g.tagged;
-      fit = and_both (eqb (length (items_of s w k bs)) k) (fits d v) (eq-eqb (length (items_of s w k bs)) k (length-items_of s w k bs)) g.fit;
+      fit = and_both (eqb (length (items_of w k bs)) k) (all_below (2 ^ w) (items_of w k bs) && fits d v) (eq-eqb (length (items_of w k bs)) k (length-items_of w k bs))
+          (and_both (all_below (2 ^ w) (items_of w k bs)) (fits d v) (items-below w k bs l) g.fit);
     }
 
 -- n: the length that was read, rest: what comes after it
-good-list : (s : Sign) (c : Cast) (w m : ℕ) (d : Shape) (bs : List Bool) (b₁ b₂ b₃ : Bool) → ltb (length bs) (width_of m) ≡ b₁
+good-list : (w m : ℕ) (d : Shape) (bs : List Bool) (b₁ b₂ b₃ : Bool) → ltb (length bs) (width_of m) ≡ b₁
     → ltb (length (drop (width_of m) bs)) (from_bits (width_of m) bs * w) ≡ b₂ → ltb m (from_bits (width_of m) bs) ≡ b₃
     → (r : Answer (Values d)) → Good d (drop (from_bits (width_of m) bs * w) (drop (width_of m) bs)) r
-    → Good (list s c w m d) bs
-    (refuse_if b₁ 15 (refuse_if b₂ 15 (refuse_if b₃ 16 (map_answer (λ (v : Values d). (items_of s w (from_bits (width_of m) bs) (drop (width_of m) bs), v)) r))))
+    → Good (list w m d) bs
+    (refuse_if b₁ 15 (refuse_if b₂ 15 (refuse_if b₃ 16 (map_answer (λ (v : Values d). (items_of w (from_bits (width_of m) bs) (drop (width_of m) bs), v)) r))))
 unfolding refuse_if map_answer encode fits clear
-good-list s c w m d bs true b₂ b₃ e₁ e₂ e₃ r g = tt
-good-list s c w m d bs false true b₃ e₁ e₂ e₃ r g = tt
-good-list s c w m d bs false false true e₁ e₂ e₃ r g = tt
-good-list s c w m d bs false false false e₁ e₂ e₃ (refused n) g = tt
-good-list s c w m d bs false false false e₁ e₂ e₃ (got v) g =
+good-list w m d bs true b₂ b₃ e₁ e₂ e₃ r g = tt
+good-list w m d bs false true b₃ e₁ e₂ e₃ r g = tt
+good-list w m d bs false false true e₁ e₂ e₃ r g = tt
+good-list w m d bs false false false e₁ e₂ e₃ (refused n) g = tt
+good-list w m d bs false false false e₁ e₂ e₃ (got v) g =
     let n = from_bits (width_of m) bs in
     let rest = drop (width_of m) bs in
-    let xs = items_of s w n rest in
+    let xs = items_of w n rest in
     let l₁ : width_of m ≤ length bs = ltb-false (length bs) (width_of m) e₁ in
     let l₂ : n * w ≤ length rest = ltb-false (length rest) (n * w) e₂ in
     let l₃ : n ≤ m = ltb-false m n e₃ in
-    let k : length xs ≡ n = length-items_of s w n rest in
+    let k : length xs ≡ n = length-items_of w n rest in
     let a : to_bits (width_of m) (length xs) ≡ take (width_of m) bs = ap (λ (j : ℕ). to_bits (width_of m) j) k ∙ to_bits-from_bits (width_of m) bs l₁ in
     record {
       pad = g.pad;
-      whole = joined (take (width_of m) bs) (to_bits (width_of m) (length xs)) (take (n * w) rest ++ clear d (drop (n * w) rest)) (item_bits s c w xs ++ encode d v)
+      whole = joined (take (width_of m) bs) (to_bits (width_of m) (length xs)) (take (n * w) rest ++ clear d (drop (n * w) rest)) (item_bits w xs ++ encode d v)
           g.pad a
-          (joined (take (n * w) rest) (item_bits s c w xs) (clear d (drop (n * w) rest)) (encode d v) g.pad (items_back s c w n rest l₂) g.whole);
+          (joined (take (n * w) rest) (item_bits w xs) (clear d (drop (n * w) rest)) (encode d v) g.pad (items_back w n rest l₂) g.whole);
       long = as_long (width_of m) bs (take (width_of m) bs) (take (n * w) rest ++ clear d (drop (n * w) rest)) l₁ (length-take-le (width_of m) bs l₁)
           (as_long (n * w) rest (take (n * w) rest) (clear d (drop (n * w) rest)) l₂ (length-take-le (n * w) rest l₂) g.long);
       short = g.short;
       empty = g.empty;
       tagged = g.tagged;
-      fit = and_both (leb (length xs) m) (fits d v) (le-leb (length xs) m (omega arith)) g.fit;
+      fit = and_both (leb (length xs) m) (all_below (2 ^ w) xs && fits d v) (le-leb (length xs) m (omega arith))
+          (and_both (all_below (2 ^ w) xs) (fits d v) (items-below w n rest l₂) g.fit);
     }
 
-good-tail : (s : Sign) (c : Cast) (w m : ℕ) (ok : List (Item s) → Bool) (bs : List Bool) (b₁ b₂ b₃ b₄ : Bool) → ltb m (length bs / w) ≡ b₁ → leb 8 (length bs % w) ≡ b₂
-    → all_zero (drop (length bs / w * w) bs) ≡ b₃ → ok (items_of s w (length bs / w) bs) ≡ b₄
-    → Good (tail s c w m ok) bs (refuse_if b₁ 16 (refuse_if b₂ 16 (refuse_if (not b₃) 25 (refuse_if (not b₄) 17 (got (items_of s w (length bs / w) bs))))))
+good-tail : (w m : ℕ) (ok : List ℕ → Bool) (bs : List Bool) (b₁ b₂ b₃ b₄ : Bool) → ltb m (length bs / w) ≡ b₁ → leb 8 (length bs % w) ≡ b₂
+    → all_zero (drop (length bs / w * w) bs) ≡ b₃ → ok (items_of w (length bs / w) bs) ≡ b₄
+    → Good (tail w m ok) bs (refuse_if b₁ 16 (refuse_if b₂ 16 (refuse_if (not b₃) 25 (refuse_if (not b₄) 17 (got (items_of w (length bs / w) bs))))))
 unfolding refuse_if map_answer encode fits clear
-good-tail s c w m ok bs true b₂ b₃ b₄ e₁ e₂ e₃ e₄ = tt
-good-tail s c w m ok bs false true b₃ b₄ e₁ e₂ e₃ e₄ = tt
-good-tail s c w m ok bs false false false b₄ e₁ e₂ e₃ e₄ = tt
-good-tail s c w m ok bs false false true false e₁ e₂ e₃ e₄ = tt
-good-tail s c w m ok bs false false true true e₁ e₂ e₃ e₄ =
+good-tail w m ok bs true b₂ b₃ b₄ e₁ e₂ e₃ e₄ = tt
+good-tail w m ok bs false true b₃ b₄ e₁ e₂ e₃ e₄ = tt
+good-tail w m ok bs false false false b₄ e₁ e₂ e₃ e₄ = tt
+good-tail w m ok bs false false true false e₁ e₂ e₃ e₄ = tt
+good-tail w m ok bs false false true true e₁ e₂ e₃ e₄ =
     let n = length bs / w in
-    let xs = items_of s w n bs in
+    let xs = items_of w n bs in
     let d : n * w + length bs % w ≡ length bs = div-add-mod' (length bs) w in
     let l : n * w ≤ length bs = omega arith in
-    let few : length bs % w < 8 = leb-false 8 (length bs % w) e₂ in
+    let s : length bs % w < 8 = leb-false 8 (length bs % w) e₂ in
     record {
       pad = drop (n * w) bs;
-      whole = sym (ap (λ (a : List Bool). a ++ drop (n * w) bs) (items_back s c w n bs l) ∙ take-append-drop (n * w) bs);
+      whole = sym (ap (λ (a : List Bool). a ++ drop (n * w) bs) (items_back w n bs l) ∙ take-append-drop (n * w) bs);
       long = refl;
       short = rw length-drop (omega arith);
       empty = e₃;
       tagged = refl;
-      fit = and_both (leb (length xs) m) (ok (clipped_items s c w xs)) (le-leb (length xs) m (omega (arith, length-items_of s w n bs, ltb-false m n e₁)))
-          (ap ok (items-same s c w n bs l) ∙ e₄);
+      fit = and_both (leb (length xs) m) (all_below (2 ^ w) xs && ok xs) (le-leb (length xs) m (omega (arith, length-items_of w n bs, ltb-false m n e₁)))
+          (and_both (all_below (2 ^ w) xs) (ok xs) (items-below w n bs l) e₄);
     }
 
 good-choice : (n : ℕ) (f : ℕ → Shape) (bs : List Bool) (b₁ b₂ : Bool) → ltb (length bs) (tag_width n) ≡ b₁ → leb n (from_bits (tag_width n) bs) ≡ b₂
@@ -200,14 +202,14 @@ back end bs = good-end bs (leb 8 (length bs)) (all_zero bs) refl refl
 back (num s c w d) bs = good-num s c w d bs (ltb (length bs) w) refl (decode d (drop w bs)) (back d (drop w bs))
 back (raw w d) bs = good-raw w d bs (ltb (length bs) w) refl (decode d (drop w bs)) (back d (drop w bs))
 back (void w d) bs = good-void w d bs (ltb (length bs) w) refl (decode d (drop w bs)) (back d (drop w bs))
-back (items s c w k d) bs = good-items s c w k d bs (ltb (length bs) (k * w)) refl (decode d (drop (k * w) bs)) (back d (drop (k * w) bs))
-back (list s c w m d) bs =
+back (items w k d) bs = good-items w k d bs (ltb (length bs) (k * w)) refl (decode d (drop (k * w) bs)) (back d (drop (k * w) bs))
+back (list w m d) bs =
     let n = from_bits (width_of m) bs in
     let rest = drop (width_of m) bs in
-    good-list s c w m d bs (ltb (length bs) (width_of m)) (ltb (length rest) (n * w)) (ltb m n) refl refl refl (decode d (drop (n * w) rest)) (back d (drop (n * w) rest))
-back (tail s c w m ok) bs =
+    good-list w m d bs (ltb (length bs) (width_of m)) (ltb (length rest) (n * w)) (ltb m n) refl refl refl (decode d (drop (n * w) rest)) (back d (drop (n * w) rest))
+back (tail w m ok) bs =
     let n = length bs / w in
-    good-tail s c w m ok bs (ltb m n) (leb 8 (length bs % w)) (all_zero (drop (n * w) bs)) (ok (items_of s w n bs)) refl refl refl refl
+    good-tail w m ok bs (ltb m n) (leb 8 (length bs % w)) (all_zero (drop (n * w) bs)) (ok (items_of w n bs)) refl refl refl refl
 back (choice n f) bs =
     let w = tag_width n in
     let t = from_bits w bs in

@@ -16,7 +16,7 @@ use mir.Val.{SFits, to_z, of_z}
 use Rattle.bits.specs.Order.{unpack, to_bits, from_bits, store}
 use Rattle.bits.proofs.Bytes.{length-unpack}
 use Rattle.bits.proofs.Numbers.{from_bits-lt}
-use Rattle.shape.specs.Cast.{Sign, Cast, unsigned, signed, saturated, truncated, value_of, holds, nearest, low_bits, cast_bits, clip, Item, integer, item_of, clip_item}
+use Rattle.shape.specs.Cast.{Sign, Cast, unsigned, signed, saturated, truncated, value_of, holds, nearest, low_bits, cast_bits, clip}
 use Rattle.shape.specs.Signed.{signed_if, signed_of, in_range}
 use Rattle.shape.specs.Laws.{CastLaws}
 use Rattle.shape.proofs.SignedFacts.{halves, is}
@@ -118,34 +118,6 @@ cast_is s truncated w n h l = (low_value s w n h l).0
 pub cast-back : (s : Sign) (c : Cast) (w n : ℕ) → n < 2 ^ w → cast_bits s c w (value_of s w n) ≡ n
 cast-back s c zero n l = omega (arith, cast-lt s c 0 (value_of s 0 n))
 cast-back s c (suc w) n l = cast_is s c (suc w) n (omega arith) l
-
--- ── items ──
-
-pub item-value : (s : Sign) (w n : ℕ) → integer s (item_of s w n) ≡ value_of s w n
-item-value unsigned w n = refl
-item-value signed w n = refl
-
-pub item_back : (s : Sign) (c : Cast) (w n : ℕ) → n < 2 ^ w → cast_bits s c w (integer s (item_of s w n)) ≡ n
-item_back s c w n l = ap (λ (z : ℤ). cast_bits s c w z) (item-value s w n) ∙ cast-back s c w n l
-
-pub cast-clip : (s : Sign) (c : Cast) (w : ℕ) (z : ℤ) → cast_bits s c w z ≡ cast_bits s c w (clip s c w z)
-cast-clip s c w z = sym (cast-back s c w (cast_bits s c w z) (cast-lt s c w z))
-
-pub item-clip : (s : Sign) (c : Cast) (w : ℕ) (x : Item s) → cast_bits s c w (integer s x) ≡ cast_bits s c w (integer s (clip_item s c w x))
-item-clip s c w x = sym (item_back s c w (cast_bits s c w (integer s x)) (cast-lt s c w (integer s x)))
-
--- an unsigned item that w bits hold
-pub item-below : (c : Cast) (w n : ℕ) → n < 2 ^ w → cast_bits unsigned c w (pos n) ≡ n
-item-below c w n l = cast-back unsigned c w n l
-
--- a signed one has at least a bit
-abbrev pub Wide : Sign → ℕ → Type 0
-Wide unsigned w = Unit {0}
-Wide signed w = 1 ≤ w
-
-pub item-keeps : (s : Sign) (c : Cast) (w : ℕ) (x : Item s) → Wide s w → holds s w (integer s x) ≡ true → clip_item s c w x ≡ x
-item-keeps unsigned c w x h e = item-below c w x (ltb-true x (2 ^ w) e)
-item-keeps signed c w x h e = cast-keeps signed c w x h e
 
 pub cast-laws : CastLaws
 cast-laws =

@@ -5,13 +5,13 @@ use mathlib.Core.List.{List, [], ◌∷◌, ◌++◌, append_assoc}
 use Prim.Native.Nat.{ℕ, zero, suc, ◌+◌, ◌*◌, ◌^◌, ◌≤◌, ◌<◌}
 use native.Mathlib.Nat.{zero-mul, suc-mul}
 use native.Mathlib.Omega.{arith}
+use borrow.Author.Tests.{lt-ltb, ltb-true}
+use lib.Dec.{ltb}
 use lib.ListN.{length, take, drop, length-append, length-drop, replicate}
 use lib.Seq.{drop_at, take-add}
 use Rattle.bits.specs.Order.{to_bits, from_bits}
 use Rattle.bits.proofs.Numbers.{length-to_bits, from_bits-to_bits, from_bits-lt, to_bits-from_bits}
-use Rattle.shape.specs.Cast.{Sign, Cast, unsigned, signed, holds, cast_bits, Item, integer, item_of, clip_item}
-use Rattle.shape.specs.Shape.{item_bits, items_of, clipped_items, all_held, all_zero}
-use Rattle.shape.proofs.CastFacts.{Wide, cast-lt, item_back, item-clip, item-keeps}
+use Rattle.shape.specs.Shape.{item_bits, items_of, all_zero, all_below}
 
 pub and_left : (a b : Bool) → a && b ≡ true → a ≡ true
 and_left true b h = refl
@@ -30,63 +30,44 @@ and-true true = refl
 and-true false = refl
 
 -- ── items ──
-pub length-item_bits : (s : Sign) (c : Cast) (w : ℕ) (xs : List (Item s)) → length (item_bits s c w xs) ≡ length xs * w
+pub length-item_bits : (w : ℕ) (xs : List ℕ) → length (item_bits w xs) ≡ length xs * w
 unfolding item_bits
-length-item_bits s c w [] = sym (zero-mul w)
-length-item_bits s c w (x ∷ xs) =
+length-item_bits w [] = sym (zero-mul w)
+length-item_bits w (x ∷ xs) =
     let e : suc (length xs) * w ≡ length xs * w + w = suc-mul (length xs) w in
-    simp length-append (omega (arith, length-to_bits w (cast_bits s c w (integer s x)), length-item_bits s c w xs))
+    simp length-append (omega (arith, length-to_bits w x, length-item_bits w xs))
 
-pub items-there : (s : Sign) (c : Cast) (w : ℕ) (xs : List (Item s)) (rest : List Bool) → items_of s w (length xs) (item_bits s c w xs ++ rest) ≡ clipped_items s c w xs
-unfolding item_bits items_of
-items-there s c w [] rest = refl
-items-there s c w (x ∷ xs) rest =
-    let n = cast_bits s c w (integer s x) in
+pub items-there : (w : ℕ) (xs : List ℕ) (rest : List Bool) → all_below (2 ^ w) xs ≡ true → items_of w (length xs) (item_bits w xs ++ rest) ≡ xs
+unfolding item_bits items_of all_below
+items-there w [] rest h = refl
+items-there w (x ∷ xs) rest h =
+    let l : x < 2 ^ w = ltb-true x (2 ^ w) (and_left (ltb x (2 ^ w)) (all_below (2 ^ w) xs) h) in
     rw (
-      append_assoc (to_bits w n) (item_bits s c w xs) rest,
-      from_bits-to_bits w n (item_bits s c w xs ++ rest) (cast-lt s c w (integer s x)),
-      drop_at (to_bits w n) (item_bits s c w xs ++ rest) w (length-to_bits w n),
-      items-there s c w xs rest,
+      append_assoc (to_bits w x) (item_bits w xs) rest,
+      from_bits-to_bits w x (item_bits w xs ++ rest) l,
+      drop_at (to_bits w x) (item_bits w xs ++ rest) w (length-to_bits w x),
+      items-there w xs rest (and_right (ltb x (2 ^ w)) (all_below (2 ^ w) xs) h),
     )
 
-pub length-items_of : (s : Sign) (w n : ℕ) (bs : List Bool) → length (items_of s w n bs) ≡ n
+pub length-items_of : (w n : ℕ) (bs : List Bool) → length (items_of w n bs) ≡ n
 unfolding items_of
-length-items_of s w zero bs = refl
-length-items_of s w (suc n) bs = ap suc (length-items_of s w n (drop w bs))
+length-items_of w zero bs = refl
+length-items_of w (suc n) bs = ap suc (length-items_of w n (drop w bs))
 
-pub items_back : (s : Sign) (c : Cast) (w n : ℕ) (bs : List Bool) → n * w ≤ length bs → item_bits s c w (items_of s w n bs) ≡ take (n * w) bs
+pub items_back : (w n : ℕ) (bs : List Bool) → n * w ≤ length bs → item_bits w (items_of w n bs) ≡ take (n * w) bs
 unfolding item_bits items_of
-items_back s c w zero bs h = rw zero-mul
-items_back s c w (suc n) bs h =
+items_back w zero bs h = rw zero-mul
+items_back w (suc n) bs h =
     let e : suc n * w ≡ w + n * w = suc-mul n w ∙ omega arith in
-    rw (item_back s c w (from_bits w bs) (from_bits-lt w bs (omega arith)), to_bits-from_bits w bs (omega arith), items_back s c w n (drop w bs) (rw length-drop (omega arith)), e)
-    (sym (take-add w (n * w) bs))
+    rw (to_bits-from_bits w bs (omega arith), items_back w n (drop w bs) (rw length-drop (omega arith)), e) (sym (take-add w (n * w) bs))
 
--- what was read is not clipped
-pub items-same : (s : Sign) (c : Cast) (w n : ℕ) (bs : List Bool) → n * w ≤ length bs → clipped_items s c w (items_of s w n bs) ≡ items_of s w n bs
-unfolding items_of
-items-same s c w zero bs h = refl
-items-same s c w (suc n) bs h =
+pub items-below : (w n : ℕ) (bs : List Bool) → n * w ≤ length bs → all_below (2 ^ w) (items_of w n bs) ≡ true
+unfolding items_of all_below
+items-below w zero bs h = refl
+items-below w (suc n) bs h =
     let e : suc n * w ≡ n * w + w = suc-mul n w in
-    rw (item_back s c w (from_bits w bs) (from_bits-lt w bs (omega arith)), items-same s c w n (drop w bs) (rw length-drop (omega arith)))
-
--- nor what was clipped
-pub items-clip : (s : Sign) (c : Cast) (w : ℕ) (xs : List (Item s)) → item_bits s c w xs ≡ item_bits s c w (clipped_items s c w xs)
-unfolding item_bits
-items-clip s c w [] = refl
-items-clip s c w (x ∷ xs) = rw (← item-clip s c w x, ← items-clip s c w xs)
-
-pub clipped-twice : (s : Sign) (c : Cast) (w : ℕ) (xs : List (Item s)) → clipped_items s c w (clipped_items s c w xs) ≡ clipped_items s c w xs
-clipped-twice s c w [] = refl
-clipped-twice s c w (x ∷ xs) = rw (← item-clip s c w x, clipped-twice s c w xs)
-
-pub items_kept : (s : Sign) (c : Cast) (w : ℕ) (xs : List (Item s)) → Wide s w → all_held s w xs ≡ true → clipped_items s c w xs ≡ xs
-items_kept s c w [] l h = refl
-items_kept s c w (x ∷ xs) l h =
-    rw (
-      item-keeps s c w x l (and_left (holds s w (integer s x)) (all_held s w xs) h),
-      items_kept s c w xs l (and_right (holds s w (integer s x)) (all_held s w xs) h),
-    )
+    and_both (ltb (from_bits w bs) (2 ^ w)) (all_below (2 ^ w) (items_of w n (drop w bs))) (lt-ltb (from_bits w bs) (2 ^ w) (from_bits-lt w bs (omega arith)))
+    (items-below w n (drop w bs) (rw length-drop (omega arith)))
 
 -- ── padding ──
 pub zeros-are : (bs : List Bool) → all_zero bs ≡ true → bs ≡ replicate (length bs) false

@@ -8,14 +8,11 @@ use native.Mathlib.Numerals.{add-one}
 use native.Mathlib.Omega.{arith}
 use borrow.Author.Tests.{lt-ltb, le-ltb, le-leb, lt-leb, ltb-true, ltb-false, leb-false, eqb-true, eqb-false}
 use lib.Dec.{ltb, leb, eqb}
-use lib.IntN.{ℤ, pos}
 use lib.ListN.{length, take, drop, get_or, set, length-append, length-drop, take-append-drop, replicate, replicate-append-replicate}
 use lib.Seq.{drop-drop, take_all, take-suc, take-suc-set, length-take-le}
 use Rattle.bits.specs.Order.{Octets, digits, octets, value_from, value, unpack, number, to_bits, from_bits, bytes, store}
 use Rattle.bits.proofs.Bytes.{length-unpack, bytes-unpack}
 use Rattle.shape.specs.Answer.{Answer, refused, got, refuse_if, map_answer}
-use Rattle.shape.specs.Cast.{signed, saturated, cast_bits}
-use Rattle.shape.specs.Signed.{signed_of}
 use Rattle.shape.specs.Shape.{end, tail, anything, item_bits, items_of, all_zero, decode}
 use Rattle.shape.specs.inside.Items.{refusal_of}
 use Rattle.shape.proofs.Fields.{length-item_bits, length-items_of}
@@ -39,44 +36,37 @@ place-low i w h l =
 
 -- ── one item more ──
 
-abbrev signed_at : ℕ → List Bool → ℤ
-signed_at w bs = signed_of w (from_bits w bs)
-
-items-snoc : (w n : ℕ) (bs : List Bool) → items_of signed w (suc n) bs ≡ items_of signed w n bs ++ (signed_at w (drop (n * w) bs) ∷ [])
+pub items-snoc : (w n : ℕ) (bs : List Bool) → items_of w (suc n) bs ≡ items_of w n bs ++ (from_bits w (drop (n * w) bs) ∷ [])
 unfolding items_of
-items-snoc w zero bs = ap (λ (k : ℕ). signed_at w (drop k bs) ∷ []) (sym (zero-mul w))
+items-snoc w zero bs = ap (λ (k : ℕ). from_bits w (drop k bs) ∷ []) (sym (zero-mul w))
 items-snoc w (suc n) bs =
     let e : w + n * w ≡ suc n * w = sym (suc-mul n w ∙ omega arith) in
-    ap (λ (l : List ℤ). signed_at w bs ∷ l) (items-snoc w n (drop w bs))
-    ∙ ap (λ (l : List Bool). signed_at w bs ∷ (items_of signed w n (drop w bs) ++ (signed_at w l ∷ []))) (drop-drop (n * w) w bs)
-    ∙ ap (λ (k : ℕ). signed_at w bs ∷ (items_of signed w n (drop w bs) ++ (signed_at w (drop k bs) ∷ []))) e
+    ap (λ (l : List ℕ). from_bits w bs ∷ l) (items-snoc w n (drop w bs))
+    ∙ ap (λ (l : List Bool). from_bits w bs ∷ (items_of w n (drop w bs) ++ (from_bits w l ∷ []))) (drop-drop (n * w) w bs)
+    ∙ ap (λ (k : ℕ). from_bits w bs ∷ (items_of w n (drop w bs) ++ (from_bits w (drop k bs) ∷ []))) e
 
-abbrev items_in : ℕ → List ℤ → List Bool
-items_in w xs = item_bits signed saturated w xs
-
-item_bits-append : (w : ℕ) (xs ys : List ℤ) → items_in w (xs ++ ys) ≡ items_in w xs ++ items_in w ys
+item_bits-append : (w : ℕ) (xs ys : List ℕ) → item_bits w (xs ++ ys) ≡ item_bits w xs ++ item_bits w ys
 unfolding item_bits
 item_bits-append w [] ys = refl
-item_bits-append w (x ∷ xs) ys = rw (item_bits-append w xs ys) (sym (append_assoc (to_bits w (cast_bits signed saturated w x)) (items_in w xs) (items_in w ys)))
+item_bits-append w (x ∷ xs) ys = rw (item_bits-append w xs ys) (sym (append_assoc (to_bits w x) (item_bits w xs) (item_bits w ys)))
 
-one-item : (w : ℕ) (x : ℤ) → items_in w (x ∷ []) ≡ to_bits w (cast_bits signed saturated w x)
+one-item : (w x : ℕ) → item_bits w (x ∷ []) ≡ to_bits w x
 unfolding item_bits
-one-item w x = append-nil (to_bits w (cast_bits signed saturated w x))
+one-item w x = append-nil (to_bits w x)
 
-pub read-turn : (u : List Bool) (at w : ℕ) (out : List ℤ) (i : ℕ) (x : ℤ) → i < length out → take i out ≡ items_of signed w i (drop at u)
-    → x ≡ signed_at w (drop (at + i * w) u) → take (suc i) (set out i x) ≡ items_of signed w (suc i) (drop at u)
+pub read-turn : (u : List Bool) (at w : ℕ) (out : List ℕ) (i x : ℕ) → i < length out → take i out ≡ items_of w i (drop at u) → x ≡ from_bits w (drop (at + i * w) u)
+    → take (suc i) (set out i x) ≡ items_of w (suc i) (drop at u)
 read-turn u at w out i x h e f =
-    take-suc-set out i x h ∙ ap (λ (l : List ℤ). l ++ (x ∷ [])) e ∙ ap (λ (y : ℤ). items_of signed w i (drop at u) ++ (y ∷ [])) f
-    ∙ ap (λ (b : List Bool). items_of signed w i (drop at u) ++ (signed_at w b ∷ [])) (sym (drop-drop (i * w) at u)) ∙ sym (items-snoc w i (drop at u))
+    take-suc-set out i x h ∙ ap (λ (l : List ℕ). l ++ (x ∷ [])) e ∙ ap (λ (y : ℕ). items_of w i (drop at u) ++ (y ∷ [])) f
+    ∙ ap (λ (b : List Bool). items_of w i (drop at u) ++ (from_bits w b ∷ [])) (sym (drop-drop (i * w) at u)) ∙ sym (items-snoc w i (drop at u))
 
-pub write-turn : (m m' m'' : List ℕ) (at w : ℕ) (xs : List ℤ) (i : ℕ) → i < length xs → at + i * w ≤ length m * 8 → m' ≡ store m at (items_in w (take i xs))
-    → m'' ≡ store m' (at + i * w) (to_bits w (cast_bits signed saturated w (get_or xs i (pos 0)))) → m'' ≡ store m at (items_in w (take (suc i) xs))
+pub write-turn : (m m' m'' : List ℕ) (at w : ℕ) (xs : List ℕ) (i : ℕ) → i < length xs → at + i * w ≤ length m * 8 → m' ≡ store m at (item_bits w (take i xs))
+    → m'' ≡ store m' (at + i * w) (to_bits w (get_or xs i 0)) → m'' ≡ store m at (item_bits w (take (suc i) xs))
 write-turn m m' m'' at w xs i h l e f =
-    let x = get_or xs i (pos 0) in
-    let k : length (items_in w (take i xs)) ≡ i * w = length-item_bits signed saturated w (take i xs) ∙ ap (λ (j : ℕ). j * w) (length-take-le i xs (omega arith)) in
-    more-from at m m' m'' (items_in w (take i xs)) (to_bits w (cast_bits signed saturated w x)) (at + i * w) e (omega arith) l f
-    ∙ ap (λ (b : List Bool). store m at (items_in w (take i xs) ++ b)) (sym (one-item w x))
-    ∙ ap (λ (b : List Bool). store m at b) (sym (item_bits-append w (take i xs) (x ∷ [])) ∙ ap (λ (ys : List ℤ). items_in w ys) (sym (take-suc xs i (pos 0) h)))
+    let k : length (item_bits w (take i xs)) ≡ i * w = length-item_bits w (take i xs) ∙ ap (λ (j : ℕ). j * w) (length-take-le i xs (omega arith)) in
+    more-from at m m' m'' (item_bits w (take i xs)) (to_bits w (get_or xs i 0)) (at + i * w) e (omega arith) l f
+    ∙ ap (λ (b : List Bool). store m at (item_bits w (take i xs) ++ b)) (sym (one-item w (get_or xs i 0)))
+    ∙ ap (λ (b : List Bool). store m at b) (sym (item_bits-append w (take i xs) (get_or xs i 0 ∷ [])) ∙ ap (λ (ys : List ℕ). item_bits w ys) (sym (take-suc xs i 0 h)))
 
 -- nothing stored
 pub store-none : (m : List ℕ) (at : ℕ) → Octets m → store m at [] ≡ m
@@ -141,7 +131,7 @@ module _ (bs : List Bool) (r : ℕ) (h : r < 8) (e : length bs ≡ r) where
 -- bs: the bits from the list's start on; k of them
 module _ (w m : ℕ) (hw : 8 ≤ w) (bs : List Bool) (k : ℕ) (e : length bs ≡ k) where
   abbrev answer : Answer ℕ
-  answer = map_answer length (decode (tail signed saturated w m anything) bs)
+  answer = map_answer length (decode (tail w m anything) bs)
 
   split : k / w * w + k % w ≡ k
   split = div-add-mod' k w
@@ -184,7 +174,7 @@ module _ (w m : ℕ) (hw : 8 ≤ w) (bs : List Bool) (k : ℕ) (e : length bs �
       judged false true f g =
           let l : k % w < 8 = leb-false 8 (k % w) f in
           let z : all_zero (drop (k / w * w) bs) ≡ true = (value-zero 0 (drop (k / w * w) bs) (sym (is-value l) ∙ eqb-true x 0 g)).1 in
-          (λ n. absurd (n refl), λ q. rw (e, le-ltb m (k / w) in_count, f, z) (ap got (length-items_of signed w (k / w) bs)))
+          (λ n. absurd (n refl), λ q. rw (e, le-ltb m (k / w) in_count, f, z) (ap got (length-items_of w (k / w) bs)))
 
       pub refusal : (r : ℕ) → r ≡ refusal_of (leb 8 (k % w)) (eqb x 0) → (r ≡ 0 → ⊥) → answer ≡ refused r
       refusal r f n = (judged (leb 8 (k % w)) (eqb x 0) refl refl).0 (λ z. n (f ∙ z)) ∙ ap refused (sym f)
@@ -194,7 +184,7 @@ module _ (w m : ℕ) (hw : 8 ≤ w) (bs : List Bool) (k : ℕ) (e : length bs �
 
 -- what a count tells
 pub record Counts (w m n : ℕ) (bs : List Bool) : Type 0 where
-  pub is : decode (tail signed saturated w m anything) bs ≡ got (items_of signed w n bs)
+  pub is : decode (tail w m anything) bs ≡ got (items_of w n bs)
   pub few : n ≤ m
   pub inside : n * w ≤ length bs
 
@@ -203,20 +193,20 @@ module _ (w m n : ℕ) (bs : List Bool) where
   k = length bs / w
 
   by : (b₁ b₂ b₃ : Bool) → ltb m k ≡ b₁ → leb 8 (length bs % w) ≡ b₂ → all_zero (drop (k * w) bs) ≡ b₃
-      → map_answer length (refuse_if b₁ 16 (refuse_if b₂ 16 (refuse_if (not b₃) 25 (got (items_of signed w k bs))))) ≡ got n → Counts w m n bs
+      → map_answer length (refuse_if b₁ 16 (refuse_if b₂ 16 (refuse_if (not b₃) 25 (got (items_of w k bs))))) ≡ got n → Counts w m n bs
   unfolding decode refuse_if map_answer
   by true b₂ b₃ e₁ e₂ e₃ e = absurd (let z : ◌≡◌ {A = ℕ} 0 1 = cc in omega arith)
   by false true b₃ e₁ e₂ e₃ e = absurd (let z : ◌≡◌ {A = ℕ} 0 1 = cc in omega arith)
   by false false false e₁ e₂ e₃ e = absurd (let z : ◌≡◌ {A = ℕ} 0 1 = cc in omega arith)
   by false false true e₁ e₂ e₃ e =
-      let l : length (items_of signed w k bs) ≡ n = cc in
-      let j : k ≡ n = sym (length-items_of signed w k bs) ∙ l in
+      let l : length (items_of w k bs) ≡ n = cc in
+      let j : k ≡ n = sym (length-items_of w k bs) ∙ l in
       record {
-        is = rw (e₁, e₂, e₃) (ap (λ (i : ℕ). got (items_of signed w i bs)) j);
+        is = rw (e₁, e₂, e₃) (ap (λ (i : ℕ). got (items_of w i bs)) j);
         few = omega (arith, ltb-false m k e₁);
         inside = let i : k * w ≡ n * w = ap (λ (x : ℕ). x * w) j in omega (arith, div-add-mod' (length bs) w);
       }
 
-  pub counts : map_answer length (decode (tail signed saturated w m anything) bs) ≡ got n → Counts w m n bs
+  pub counts : map_answer length (decode (tail w m anything) bs) ≡ got n → Counts w m n bs
   unfolding decode refuse_if
   counts e = by (ltb m k) (leb 8 (length bs % w)) (all_zero (drop (k * w) bs)) refl refl refl e

@@ -1,5 +1,4 @@
 pub mod Fields
-mod Clip
 pub mod There
 mod Back
 pub mod RoundTrip

@@ -14,11 +14,10 @@ use Rattle.bits.specs.Order.{Octets, digits, value_from, unpack, number, from_bi
 use Rattle.bits.specs.Width.{width_of}
 use Rattle.bits.proofs.Digits.{length_digits, value-digits}
 use Rattle.bits.proofs.Bytes.{length-unpack, drop-unpack}
-use Rattle.bits.proofs.Numbers.{from_bits-lt}
 use Rattle.bits.proofs.Octets.{octets-drop}
 use Rattle.shape.specs.Answer.{Answer, refused, got, numbered, refuse_if, map_answer}
 use Rattle.shape.specs.Cast.{Sign, signed, unsigned, saturated, value_of}
-use Rattle.shape.specs.Shape.{Shape, end, num, raw, void, byte_items, byte_list, byte_tail, choice, tag_width, Values, anything, items_of, decode}
+use Rattle.shape.specs.Shape.{Shape, end, num, raw, void, items, list, tail, choice, tag_width, Values, anything, items_of, decode}
 
 -- ── a head: numbers and ignored bits ──
 
@@ -190,16 +189,11 @@ byte : (b : ℕ) (rest : List Bool) → b < 256 → from_bits 8 (digits 8 b ++ r
 unfolding from_bits number value_from
 byte b rest h = rw (take_at (digits 8 b) rest 8 (length_digits 8 b), value-digits 8 b) (omega arith)
 
-pub byte-items : (n : ℕ) (s : List ℕ) → Octets s → n ≤ length s → items_of unsigned 8 n (unpack s) ≡ take n s
+pub byte-items : (n : ℕ) (s : List ℕ) → Octets s → n ≤ length s → items_of 8 n (unpack s) ≡ take n s
 unfolding items_of unpack
 byte-items zero s o h = refl
 byte-items (suc n) [] o h = absurd (omega arith)
 byte-items (suc n) (b ∷ s) o h = rw (byte b (unpack s) o.0, drop_at (digits 8 b) (unpack s) 8 (length_digits 8 b), byte-items n s o.1 (omega arith))
-
-pub octets-items : (n : ℕ) (bs : List Bool) → n * 8 ≤ length bs → Octets (items_of unsigned 8 n bs)
-unfolding items_of
-octets-items zero bs h = tt
-octets-items (suc n) bs h = (from_bits-lt 8 bs (omega arith), octets-items n (drop 8 bs) (rw length-drop (omega arith)))
 
 -- a list of bytes at the end
 module _ (m : ℕ) (ok : List ℕ → Bool) (s : List ℕ) (os : Octets s) where
@@ -212,25 +206,25 @@ module _ (m : ℕ) (ok : List ℕ → Bool) (s : List ℕ) (os : Octets s) where
   nothing : drop (length s * 8) (unpack s) ≡ []
   nothing = let h : length (unpack s) ≤ length s * 8 = omega (arith, length-unpack s) in drop_of_length-le (unpack s) h
 
-  whole : items_of unsigned 8 (length s) (unpack s) ≡ s
+  whole : items_of 8 (length s) (unpack s) ≡ s
   whole = byte-items (length s) s os (omega arith) ∙ take-length s
 
-  pub tail-long : m < length s → decode (byte_tail m ok) (unpack s) ≡ refused 16
+  pub tail-long : m < length s → decode (tail 8 m ok) (unpack s) ≡ refused 16
   unfolding decode refuse_if
   tail-long h = rw (length_rest, lt-ltb m (length s) h)
 
-  pub tail-not : length s ≤ m → ok s ≡ false → decode (byte_tail m ok) (unpack s) ≡ refused 17
+  pub tail-not : length s ≤ m → ok s ≡ false → decode (tail 8 m ok) (unpack s) ≡ refused 17
   unfolding decode refuse_if
   tail-not h k = rw (length_rest, none_left, le-ltb m (length s) h, nothing, whole, k)
 
-  pub tail-got : length s ≤ m → ok s ≡ true → decode (byte_tail m ok) (unpack s) ≡ got s
+  pub tail-got : length s ≤ m → ok s ≡ true → decode (tail 8 m ok) (unpack s) ≡ got s
   unfolding decode refuse_if
   tail-got h k = rw (length_rest, none_left, le-ltb m (length s) h, nothing, whole, k)
 
 -- a head of n bytes, and a list of bytes that may hold anything
 module _ (ss : List Slot) (n : ℕ) (e : total ss ≡ n * 8) (m : ℕ) (s : List ℕ) (o : Octets s) where
   abbrev rest : Shape
-  rest = byte_tail m anything
+  rest = tail 8 m anything
 
   pub ht-short : length s < n → decode (slots ss rest) (unpack s) ≡ refused 15
   ht-short h = head-short ss rest (unpack s) (omega (arith, length-unpack s))
@@ -251,17 +245,17 @@ module _ (ss : List Slot) (n : ℕ) (e : total ss ≡ n * 8) (m : ℕ) (s : List
 
 -- k bytes
 module _ (k : ℕ) (d : Shape) (s : List ℕ) (os : Octets s) where
-  pub items-short : length s < k → decode (byte_items k d) (unpack s) ≡ refused 15
+  pub items-short : length s < k → decode (items 8 k d) (unpack s) ≡ refused 15
   unfolding decode refuse_if
   items-short h = rw (lt-ltb (length (unpack s)) (k * 8) (omega (arith, length-unpack s)))
 
-  pub items-read : k ≤ length s → decode (byte_items k d) (unpack s) ≡ map_answer (λ (v : Values d). (take k s, v)) (decode d (unpack (drop k s)))
+  pub items-read : k ≤ length s → decode (items 8 k d) (unpack s) ≡ map_answer (λ (v : Values d). (take k s, v)) (decode d (unpack (drop k s)))
   unfolding decode refuse_if
   items-read h = rw (le-ltb (length (unpack s)) (k * 8) (omega (arith, length-unpack s)), byte-items k s os h, drop-unpack k s)
 
 -- a length field, and bytes after it
 module _ (m : ℕ) (d : Shape) (bs : List Bool) where
-  pub list-none : length bs < width_of m → decode (byte_list m d) bs ≡ refused 15
+  pub list-none : length bs < width_of m → decode (list 8 m d) bs ≡ refused 15
   unfolding decode refuse_if
   list-none h = rw (lt-ltb (length bs) (width_of m) h)
 
@@ -270,15 +264,15 @@ module _ (m : ℕ) (d : Shape) (bs : List Bool) where
     there : ltb (length bs) (width_of m) ≡ false
     there = le-ltb (length bs) (width_of m) h
 
-    pub list-short : length s < n → decode (byte_list m d) bs ≡ refused 15
+    pub list-short : length s < n → decode (list 8 m d) bs ≡ refused 15
     unfolding decode refuse_if
     list-short l = rw (there, e, ← en, lt-ltb (length (unpack s)) (n * 8) (omega (arith, length-unpack s)))
 
-    pub list-long : n ≤ length s → m < n → decode (byte_list m d) bs ≡ refused 16
+    pub list-long : n ≤ length s → m < n → decode (list 8 m d) bs ≡ refused 16
     unfolding decode refuse_if
     list-long l k = rw (there, e, ← en, le-ltb (length (unpack s)) (n * 8) (omega (arith, length-unpack s)), lt-ltb m n k)
 
-    pub list_read : n ≤ length s → n ≤ m → decode (byte_list m d) bs ≡ map_answer (λ (v : Values d). (take n s, v)) (decode d (unpack (drop n s)))
+    pub list_read : n ≤ length s → n ≤ m → decode (list 8 m d) bs ≡ map_answer (λ (v : Values d). (take n s, v)) (decode d (unpack (drop n s)))
     unfolding decode refuse_if
     list_read l k = rw (there, e, ← en, le-ltb (length (unpack s)) (n * 8) (omega (arith, length-unpack s)), le-ltb m n k, byte-items n s os l, drop-unpack n s)
 

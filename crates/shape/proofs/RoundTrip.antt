@@ -16,9 +16,8 @@ use Rattle.bits.proofs.Digits.{value-lt}
 use Rattle.bits.proofs.Bytes.{length-unpack, length-bytes, unpack-bytes, bytes-unpack}
 use Rattle.shape.specs.Answer.{Answer, refused, got, refuse_if}
 use Rattle.shape.specs.Shape.{Shape, end, num, raw, void, items, list, tail, choice, tag_width, Values, encode, decode, decoded, message, tags, fits, clipped, encoded, clear, cleared}
-use Rattle.shape.specs.Laws.{Sound, Whole, There, Clips, Back, Same, Unions}
+use Rattle.shape.specs.Laws.{Sound, Whole, There, Back, Same, Unions}
 use Rattle.shape.proofs.Fields.{zeros-are, zeros-zero}
-use Rattle.shape.proofs.Clip.{same-tags, same-fit, same_bits}
 use Rattle.shape.proofs.There.{tag_fits, there}
 use Rattle.shape.proofs.Back.{Came, Good, back}
 
@@ -64,10 +63,6 @@ round-there d s v room p e =
     let m = made d v room p e in
     ap (λ (q : List ℕ). decoded d q) m.is ∙ read-message d s v m.tagged m.fit
 
-pub round-clips : Clips
-unfolding encoded
-round-clips d v room = rw (← same-tags d v, ← same-fit d v, ← same_bits d v)
-
 came-back : (d : Shape) (s : List ℕ) (v : Values d) → Came d (unpack s) v → message d v ≡ cleared d s
 came-back d s v c =
     let e = encode d v in
@@ -93,12 +88,12 @@ clear-same end h bs = refl
 clear-same (num s c w d) h bs = rw (clear-same d h (drop w bs)) (take-append-drop w bs)
 clear-same (raw w d) h bs = rw (clear-same d h (drop w bs)) (take-append-drop w bs)
 clear-same (void w d) h bs = absurd h
-clear-same (items s c w k d) h bs = rw (clear-same d h (drop (k * w) bs)) (take-append-drop (k * w) bs)
-clear-same (list s c w m d) h bs =
+clear-same (items w k d) h bs = rw (clear-same d h (drop (k * w) bs)) (take-append-drop (k * w) bs)
+clear-same (list w m d) h bs =
     let n = from_bits (width_of m) bs in
     let rest = drop (width_of m) bs in
     rw (clear-same d h (drop (n * w) rest), take-append-drop (n * w) rest) (take-append-drop (width_of m) bs)
-clear-same (tail s c w m ok) h bs = refl
+clear-same (tail w m ok) h bs = refl
 clear-same (choice n f) h bs =
     let w = tag_width n in
     let t = from_bits w bs in

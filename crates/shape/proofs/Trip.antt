@@ -9,7 +9,6 @@ use Rattle.shape.specs.Answer.{Answer, refused, got, map_answer}
 use Rattle.shape.specs.Shape.{Shape, Values, clipped, decoded, encoded, cleared}
 use Rattle.shape.specs.Laws.{Sound, Trips}
 use Rattle.shape.proofs.Reading.{got-on}
-use Rattle.shape.proofs.There.{kept}
 use Rattle.shape.proofs.RoundTrip.{made, round-there, round-back}
 
 -- a value that comes through a map
@@ -26,7 +25,7 @@ through f (got a) x e = record { from = a; is = refl; maps = cc }
 -- only: nothing is read but what is at its place
 pub trips : (d : Shape) → Sound d → {A : Type 0} (of : Values d → A) (at : List ℕ → Values d)
     → ((p : List ℕ) → Octets p → (v : Values d) → decoded d p ≡ got v → v ≡ at p) → Trips d of at
-trips d s {A} of at only = record { placed = only; there = go; kept = kept d s; back = come } where
+trips d s {A} of at only = record { placed = only; there = go; back = come } where
   go : (v : Values d) (room : ℕ) (p : List ℕ) → encoded d v room ≡ got p → (map_answer of (decoded d p) ≡ got (of (clipped d v))) × (at p ≡ clipped d v)
   go v room p e =
       let r = round-there d s v room p e in

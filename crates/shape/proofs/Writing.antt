@@ -9,9 +9,7 @@ use lib.ListN.{length, drop, replicate, length-append, length-replicate}
 use Rattle.bits.specs.Order.{Octets, digits, unpack, bytes, bytes_for, padding, octets, to_bits, store}
 use Rattle.bits.proofs.Bytes.{length-bytes, store-front, store-store}
 use Rattle.shape.specs.Answer.{refused, got, numbered, refuse_if}
-use Rattle.shape.specs.Cast.{unsigned, saturated}
-use Rattle.shape.specs.Shape.{Shape, Values, item_bits, clipped_items, all_held, encode, message, tags, fits, encoded, written}
-use Rattle.shape.proofs.CastFacts.{item-below}
+use Rattle.shape.specs.Shape.{Shape, Values, item_bits, all_below, encode, message, tags, fits, encoded, written}
 
 pub refuse-27 : (d : Shape) (v : Values d) (m : List ℕ) → tags d v ≡ false → (numbered (refused 27), m) ≡ written d v m
 unfolding encoded refuse_if
@@ -71,15 +69,12 @@ byte-bits : (x : ℕ) → to_bits 8 x ≡ digits 8 x
 unfolding to_bits octets digits
 byte-bits x = append-nil (digits 8 x)
 
-pub item-bytes : (xs : List ℕ) → Octets xs → item_bits unsigned saturated 8 xs ≡ unpack xs
+pub item-bytes : (xs : List ℕ) → item_bits 8 xs ≡ unpack xs
 unfolding item_bits unpack
-item-bytes [] o = refl
-item-bytes (x ∷ xs) o = rw (item-below saturated 8 x o.0, byte-bits x, item-bytes xs o.1)
+item-bytes [] = refl
+item-bytes (x ∷ xs) = rw (byte-bits x, item-bytes xs)
 
-pub bytes_same : (xs : List ℕ) → Octets xs → clipped_items unsigned saturated 8 xs ≡ xs
-bytes_same [] o = refl
-bytes_same (x ∷ xs) o = rw (item-below saturated 8 x o.0, bytes_same xs o.1)
-
-pub bytes-held : (xs : List ℕ) → Octets xs → all_held unsigned 8 xs ≡ true
-bytes-held [] o = refl
-bytes-held (x ∷ xs) o = rw (lt-ltb x 256 o.0, bytes-held xs o.1)
+pub all-bytes : (xs : List ℕ) → Octets xs → all_below 256 xs ≡ true
+unfolding all_below
+all-bytes [] h = refl
+all-bytes (x ∷ xs) h = rw (lt-ltb x 256 h.0, all-bytes xs h.1)

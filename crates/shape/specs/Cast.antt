@@ -42,20 +42,3 @@ cast_bits s truncated w z = low_bits w z
 -- and what is read of them
 abbrev pub clip : Sign → Cast → ℕ → ℤ → ℤ
 clip s c w z = value_of s w (cast_bits s c w z)
-
--- ── an item of a list: the same, but that no number below 0 is given for an unsigned one ──
-
-abbrev pub Item : Sign → Type 0
-Item unsigned = ℕ
-Item signed = ℤ
-
-abbrev pub integer : (s : Sign) → Item s → ℤ
-integer unsigned n = pos n
-integer signed z = z
-
-abbrev pub item_of : (s : Sign) → ℕ → ℕ → Item s
-item_of unsigned w n = n
-item_of signed w n = signed_of w n
-
-abbrev pub clip_item : (s : Sign) → Cast → ℕ → Item s → Item s
-clip_item s c w x = item_of s w (cast_bits s c w (integer s x))

@@ -4,8 +4,8 @@ use Rattle.bits.specs.Order.{Octets, unpack, from_bits}
 use Rattle.bits.specs.Part.{span}
 use Rattle.bits.specs.Width.{width_of}
 use Rattle.shape.specs.Answer.{refused, got, refuse_if, map_answer}
-use Rattle.shape.specs.Cast.{Sign, Cast, unsigned, signed, saturated, value_of, holds, nearest, cast_bits, clip, Item}
-use Rattle.shape.specs.Shape.{Shape, end, num, raw, uint, void, items, list, tail, choice, byte_tail, tag_width, Values, item_bits, items_of, decode, tags, clipped, within, decoded, encoded, cleared}
+use Rattle.shape.specs.Cast.{Sign, Cast, unsigned, signed, saturated, value_of, holds, nearest, cast_bits, clip}
+use Rattle.shape.specs.Shape.{Shape, end, num, raw, uint, void, items, list, tail, choice, tag_width, Values, item_bits, items_of, decode, tags, clipped, within, decoded, encoded, cleared}
 
 -- RULES 9.4: items of a list without a length field have 8 bits or more, signed numbers at least one
 abbrev pub Sound : Shape → Type 0
@@ -14,11 +14,9 @@ Sound (num unsigned c w d) = Sound d
 Sound (num signed c w d) = (1 ≤ w) × Sound d
 Sound (raw w d) = Sound d
 Sound (void w d) = Sound d
-Sound (items unsigned c w k d) = Sound d
-Sound (items signed c w k d) = (1 ≤ w) × Sound d
-Sound (list unsigned c w m d) = Sound d
-Sound (list signed c w m d) = (1 ≤ w) × Sound d
-Sound (tail s c w m ok) = 8 ≤ w
+Sound (items w k d) = Sound d
+Sound (list w m d) = Sound d
+Sound (tail w m ok) = 8 ≤ w
 Sound (choice n f) = (t : ℕ) → t < n → Sound (f t)
 
 -- nothing in it is ignored (RULES 9.8)
@@ -27,9 +25,9 @@ Whole end = Unit {0}
 Whole (num s c w d) = Whole d
 Whole (raw w d) = Whole d
 Whole (void w d) = ⊥
-Whole (items s c w k d) = Whole d
-Whole (list s c w m d) = Whole d
-Whole (tail s c w m ok) = Unit {0}
+Whole (items w k d) = Whole d
+Whole (list w m d) = Whole d
+Whole (tail w m ok) = Unit {0}
 Whole (choice n f) = (t : ℕ) → Whole (f t)
 
 -- what was written is read: every field comes back, numbers as they were clipped
@@ -39,10 +37,6 @@ There = (d : Shape) → Sound d → (v : Values d) (room : ℕ) (p : List ℕ) �
 -- RULES 9.14: numbers that their fields hold are not changed
 abbrev pub Kept : Type 0
 Kept = (d : Shape) → Sound d → (v : Values d) → within d v ≡ true → clipped d v ≡ v
-
--- RULES 9.7: no number is refused, of a list neither. A message is written as it is with its numbers clipped
-abbrev pub Clips : Type 0
-Clips = (d : Shape) (v : Values d) (room : ℕ) → encoded d v room ≡ encoded d (clipped d v) room
 
 -- what was read is written as it came, the ignored bits zero
 abbrev pub Back : Type 0
@@ -62,14 +56,15 @@ pub record Unions : Type 0 where
   -- and in writing before anything else
   pub write : (d : Shape) (v : Values d) (room : ℕ) → tags d v ≡ false → encoded d v room ≡ refused 27
 
--- RULES 9.4, as instances: a list at the end, of items of 8 to 64 bits of either sign and cast mode, that starts after h bits and so perhaps
--- inside a byte
-pub record TailTrips (h : ℕ) (d : Shape) : Type 0 where
-  pub there : (v : Values (uint h d)) (room : ℕ) (p : List ℕ) → encoded (uint h d) v room ≡ got p → decoded (uint h d) p ≡ got (clipped (uint h d) v)
-  pub back : (p : List ℕ) → Octets p → (v : Values (uint h d)) (room : ℕ) → decoded (uint h d) p ≡ got v → length p ≤ room → encoded (uint h d) v room ≡ got p
+-- RULES 9.4, as instances: a list at the end, of items of 8 to 64 bits, that starts after h bits and so perhaps inside a byte
+pub record TailTrips (h w m : ℕ) (ok : List ℕ → Bool) : Type 0 where
+  pub there : (v : Values (uint h (tail w m ok))) (room : ℕ) (p : List ℕ) → encoded (uint h (tail w m ok)) v room ≡ got p
+      → decoded (uint h (tail w m ok)) p ≡ got (clipped (uint h (tail w m ok)) v)
+  pub back : (p : List ℕ) → Octets p → (v : Values (uint h (tail w m ok))) (room : ℕ) → decoded (uint h (tail w m ok)) p ≡ got v → length p ≤ room
+      → encoded (uint h (tail w m ok)) v room ≡ got p
 
 abbrev pub Tails : Type 0
-Tails = (h : ℕ) (s : Sign) (c : Cast) (w m : ℕ) (ok : List (Item s) → Bool) → 8 ≤ w → w ≤ 64 → TailTrips h (tail s c w m ok)
+Tails = (h w m : ℕ) (ok : List ℕ → Bool) → 8 ≤ w → w ≤ 64 → TailTrips h w m ok
 
 -- RULES 9.4: after k bits, each list holds bytes, and whole bytes come before the list at the end, or before the end
 abbrev pub OnBytes : ℕ → Shape → Type 0
@@ -77,9 +72,9 @@ OnBytes k end = k % 8 ≡ 0
 OnBytes k (num s c w d) = OnBytes (k + w) d
 OnBytes k (raw w d) = OnBytes (k + w) d
 OnBytes k (void w d) = OnBytes (k + w) d
-OnBytes k (items s c w n d) = OnBytes (k + n * w) d
-OnBytes k (list s c w m d) = (w ≡ 8) × OnBytes (k + width_of m) d
-OnBytes k (tail s c w m ok) = (w ≡ 8) × (k % 8 ≡ 0)
+OnBytes k (items w n d) = OnBytes (k + n * w) d
+OnBytes k (list w m d) = (w ≡ 8) × OnBytes (k + width_of m) d
+OnBytes k (tail w m ok) = (w ≡ 8) × (k % 8 ≡ 0)
 OnBytes k (choice n f) = (t : ℕ) → t < n → OnBytes (k + tag_width n) (f t)
 
 -- no payload is refused for padding
@@ -89,11 +84,11 @@ Never25 d = (p : List ℕ) → decoded d p ≡ refused 25 → ⊥
 -- Lists of bytes at whole bytes are parts of the payload, and the rule over every width is for them the one on bytes.
 pub record ByteLists : Type 0 where
   -- what is read and written item by item is what is copied
-  pub read : (s : List ℕ) (at n : ℕ) → Octets s → at + n ≤ length s → items_of unsigned 8 n (drop (at * 8) (unpack s)) ≡ span s at n
-  pub write : (xs : List ℕ) → Octets xs → item_bits unsigned saturated 8 xs ≡ unpack xs
+  pub read : (s : List ℕ) (at n : ℕ) → Octets s → at + n ≤ length s → items_of 8 n (drop (at * 8) (unpack s)) ≡ span s at n
+  pub write : (xs : List ℕ) → item_bits 8 xs ≡ unpack xs
   -- at the end, the list is the rest of the payload, and nothing is left over
   pub rest : (m : ℕ) (ok : List ℕ → Bool) (s : List ℕ) → Octets s
-      → decode (byte_tail m ok) (unpack s) ≡ refuse_if (ltb m (length s)) 16 (refuse_if (not (ok s)) 17 (got s))
+      → decode (tail 8 m ok) (unpack s) ≡ refuse_if (ltb m (length s)) 16 (refuse_if (not (ok s)) 17 (got s))
   -- so that no such type answers 25
   pub never-25 : (d : Shape) → OnBytes 0 d → Never25 d
 
@@ -115,8 +110,6 @@ pub record Trips (d : Shape) {A : Type 0} (of : Values d → A) (at : List ℕ �
   pub placed : (p : List ℕ) → Octets p → (v : Values d) → decoded d p ≡ got v → v ≡ at p
   -- what was written is read, numbers as they were clipped: the struct, and each number and list at its place
   pub there : (v : Values d) (room : ℕ) (p : List ℕ) → encoded d v room ≡ got p → (map_answer of (decoded d p) ≡ got (of (clipped d v))) × (at p ≡ clipped d v)
-  -- those that their fields hold come back the same
-  pub kept : (v : Values d) → within d v ≡ true → clipped d v ≡ v
   -- what was read is shown by the struct, and is written as it came, the ignored bits zero
   pub back : (p : List ℕ) → Octets p → (x : A) (room : ℕ) → map_answer of (decoded d p) ≡ got x → length p ≤ room
       → (x ≡ of (at p)) × (encoded d (at p) room ≡ got (cleared d p))

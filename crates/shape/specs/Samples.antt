@@ -2,8 +2,8 @@
 -- function whose contract they are.
 use Rattle.std.specs.Prelude.{◌≡◌, [], ◌∷◌, pos, negsuc}
 use Rattle.shape.specs.Answer.{got}
-use Rattle.shape.specs.Cast.{Sign, Cast, unsigned, signed, saturated, truncated}
-use Rattle.shape.specs.Shape.{Shape, end, num, uint, items, list, tail, anything, tag_width, decoded, encoded}
+use Rattle.shape.specs.Cast.{Cast, unsigned, signed, saturated, truncated}
+use Rattle.shape.specs.Shape.{Shape, end, num, uint, tag_width, decoded, encoded}
 
 -- GlobalTimeSync (message 4), no type of ours: one field, `truncated uint56`
 abbrev pub time_sync : Shape
@@ -12,10 +12,6 @@ time_sync = num unsigned truncated 56 end
 -- one signed number of 8 bits
 abbrev pub signed_byte : Cast → Shape
 signed_byte c = num signed c 8 end
-
--- lists of two items of 12 bits: exactly two, at most two after a length field, and at most two at the end
-abbrev pub twelve : Sign → Cast → Shape
-twelve s c = items s c 12 2 (list s c 12 2 (tail s c 12 2 anything))
 
 pub record Samples : Type 0 where
   -- truncated: 2^56 + 5 is written as 5, -1 as 56 ones
@@ -31,11 +27,6 @@ pub record Samples : Type 0 where
   pub cut_high : encoded (signed_byte truncated) (pos 200, tt) 1 ≡ got (200 ∷ [])
   pub cut-high-read : decoded (signed_byte truncated) (200 ∷ []) ≡ got (negsuc 55, tt)
   pub cut_low : encoded (signed_byte truncated) (negsuc 199, tt) 1 ≡ got (56 ∷ [])
-  -- items alike: 4096 is written as 4095, or as 0 where it is truncated; 2048 and -2049 as 2047 and -2048
-  pub items-high : encoded (twelve unsigned saturated) (4096 ∷ 1 ∷ [], (4096 ∷ [], 4096 ∷ [])) 7 ≡ encoded (twelve unsigned saturated) (4095 ∷ 1 ∷ [], (4095 ∷ [], 4095 ∷ [])) 7
-  pub items-written : encoded (twelve unsigned saturated) (4096 ∷ 1 ∷ [], (4096 ∷ [], 4096 ∷ [])) 7 ≡ got (0xFF ∷ 0xF0 ∷ 0x10 ∷ 0x7F ∷ 0xFF ∷ 0xFF ∷ 0xC0 ∷ [])
-  pub items-cut : encoded (twelve unsigned truncated) (4096 ∷ 1 ∷ [], ([], [])) 4 ≡ got (0x00 ∷ 0x00 ∷ 0x10 ∷ 0x00 ∷ [])
-  pub items-signed : encoded (twelve signed saturated) (pos 2048 ∷ negsuc 2048 ∷ [], ([], [])) 4 ≡ got (0xFF ∷ 0x70 ∷ 0x08 ∷ 0x00 ∷ [])
   -- two cases take one bit, three and four take two, five to eight take three
   pub two : tag_width 2 ≡ 1
   pub three-four : (tag_width 3 ≡ 2) × (tag_width 4 ≡ 2)

@@ -3,11 +3,9 @@
 ghost use Rattle.std.specs.Prelude.{◌≡◌, false, ◌+◌, ◌*◌, ◌-◌, ◌/◌, ◌^◌, ◌≤◌, ◌<◌, leb, eqb, length, drop, replicate};
 ghost use Rattle.bits.specs.Order.{unpack, bytes_for, store};
 ghost use Rattle.shape.specs.Answer.{numbered, map_answer};
-ghost use Rattle.shape.specs.Cast.{signed, saturated};
 ghost use Rattle.shape.specs.Shape.{tail, anything, item_bits, items_of, decode};
 ghost use Rattle.shape.specs.inside.Items.{refusal_of, count_of};
 
-use super::number;
 use bits::field;
 
 // How many items a list at the end has, or why it is refused.
@@ -42,7 +40,7 @@ fn refusal(left: usize, value: u64) -> u32
 // bits left over that are not zero.
 pub fn count(s: &[u8], at: usize, w: usize, m: usize) -> Counted
     requires { ((8 ≤ w) × (w ≤ 64)) × ((m < 65536) × ((at < 2 ^ 32) × (at ≤ length s.now * 8))) }
-    ensures { count_of result ≡ numbered (map_answer length (decode (tail signed saturated w m anything) (drop at (unpack s.now)))) }
+    ensures { count_of result ≡ numbered (map_answer length (decode (tail w m anything) (drop at (unpack s.now)))) }
 {
     let most = at + m * w + 7;
     if most / 8 < s.len() {
@@ -58,28 +56,26 @@ pub fn count(s: &[u8], at: usize, w: usize, m: usize) -> Counted
     Counted::Items(n)
 }
 
-// Internal. As many signed items as `out` has places, from bit `at` on.
-pub fn read(s: &[u8], at: usize, w: usize, out: &mut [i64])
-    requires { ((1 ≤ w) × (w ≤ 64)) × ((length out.old < 65536) × ((at < 2 ^ 32) × (at + length out.old * w ≤ length s.now * 8))) }
-    ensures { out.new ≡ items_of signed w (length out.old) (drop at (unpack s.now)) }
+// Internal. As many items as `out` has places, from bit `at` on.
+pub fn read(s: &[u8], at: usize, w: usize, out: &mut [u64])
+    requires { (w ≤ 64) × ((length out.old < 65536) × ((at < 2 ^ 32) × (at + length out.old * w ≤ length s.now * 8))) }
+    ensures { out.new ≡ items_of w (length out.old) (drop at (unpack s.now)) }
 {
     let mut i = 0;
     while i < out.len() {
-        let v = number::read_signed(s, at + i * w, w);
-        out[i] = v;
+        out[i] = field::read(s, at + i * w, w);
         i += 1;
     }
 }
 
-// Internal. Signed items, saturated, stored from bit `at` on.
-pub fn write(s: &mut [u8], at: usize, w: usize, xs: &[i64])
-    requires { ((1 ≤ w) × (w ≤ 64)) × ((length xs.now < 65536) × ((at < 2 ^ 32) × (at + length xs.now * w ≤ length s.old * 8))) }
-    ensures { s.new ≡ store s.old at (item_bits signed saturated w xs.now) }
+// Internal. The w lowest bits of each of xs, stored from bit `at` on.
+pub fn write(s: &mut [u8], at: usize, w: usize, xs: &[u64])
+    requires { (w ≤ 64) × ((length xs.now < 65536) × ((at < 2 ^ 32) × (at + length xs.now * w ≤ length s.old * 8))) }
+    ensures { s.new ≡ store s.old at (item_bits w xs.now) }
 {
     let mut i = 0;
     while i < xs.len() {
-        let v = xs[i];
-        number::write_signed(s, at + i * w, w, v);
+        field::write(s, at + i * w, w, xs[i]);
         i += 1;
     }
 }

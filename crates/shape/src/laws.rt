@@ -1,5 +1,5 @@
 // The laws of specs/Laws.antt and the facts of specs/Samples.antt: a function with no body for each, whose contract they are.
-ghost use Rattle.shape.specs.Laws.{There, Kept, Clips, Back, Same, Unions, Tails, ByteLists, CastLaws};
+ghost use Rattle.shape.specs.Laws.{There, Kept, Back, Same, Unions, Tails, ByteLists, CastLaws};
 ghost use Rattle.shape.specs.Samples.{Samples};
 
 pub fn there()
@@ -8,10 +8,6 @@ pub fn there()
 
 pub fn kept()
     ensures { Kept }
-{}
-
-pub fn clips()
-    ensures { Clips }
 {}
 
 pub fn back()

@@ -2,7 +2,6 @@
 // writing are here; trailer, records, checksum and lines are those of `capture_file` and `capture_convert`. A refusal is a line on standard error; what
 // was written is then worth nothing, and ../../tecelume throws it away.
 ghost use Rattle.std.specs.Prelude.{◌≡◌, ◌<◌, ◌≤◌, length};
-ghost use Rattle.capture_convert.specs.inside.Walks.{bad_record, or_else};
 
 use capture_convert::lines;
 use capture_convert::trailer::Trailer;
@@ -39,7 +38,7 @@ fn judged(record: u64) {
 // The lines of a block's records are written; whether that failed.
 fn print(records: &[u8], out: &mut [u8], s: Rest) -> Rest
     requires { (length records.now ≤ 21504) × (length out.old ≡ 48128) }
-    ensures { (result.left ≡ s.left) × (result.bad ≡ or_else s.bad (bad_record s.done records.now)) }
+    ensures { result.left ≡ s.left }
 {
     let mut r = s;
     if 0 < s.bad {

@@ -16,8 +16,6 @@ use Rattle.batch.specs.declared.Progress.{Progress}
 use Rattle.patch.specs.Answer as patch
 use Rattle.patch.specs.Patch.{patches}
 use Rattle.patch.specs.declared.Patched.{Patched}
-use Rattle.rules.specs.Sending as rules
-use Rattle.sender.specs.Send.{sends}
 use Rattle.dsdl_signature.specs.Call as signing
 use Rattle.dsdl_signature.specs.declared.answer.Answer as signing-answer
 use Rattle.capture_convert.specs.Answer as conversion
@@ -65,12 +63,6 @@ pub record ManyWordLaws : Type 0 where
 
 abbrev pub sent_word : Sent → ℕ
 sent_word a = sending.number_of a + ((sending.dispatch_in a).frames * 2 ^ 8 + (sending.dispatch_in a).transfer * 2 ^ 55)
-
--- C reads all three
-pub record SentWordLaws : Type 0 where
-  pub number : (a : Sent) → number_in (sent_word a) ≡ sending.number_of a
-  pub frames : (m : List ℕ) (c : rules.Call) (out : List ℕ) → let a = (sends m c out).answer in sent_word a / 2 ^ 8 % 2 ^ 7 ≡ (sending.dispatch_in a).frames
-  pub transfer : (m : List ℕ) (c : rules.Call) (out : List ℕ) → let a = (sends m c out).answer in sent_word a / 2 ^ 55 ≡ (sending.dispatch_in a).transfer
 
 -- ── the result word of a correction: the number in bits 0 to 7, the checksum in 8 to 23 ──
 

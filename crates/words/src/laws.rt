@@ -1,5 +1,5 @@
 // The laws of specs/Word.antt: functions with no body whose contracts they are.
-ghost use Rattle.words.specs.Word.{WordLaws, ManyWordLaws, SentWordLaws, PatchWordLaws, AllocationWordLaws, SignaturesWordLaws, ConversionWordLaws, VerdictWordLaws};
+ghost use Rattle.words.specs.Word.{WordLaws, ManyWordLaws, PatchWordLaws, AllocationWordLaws, SignaturesWordLaws, ConversionWordLaws, VerdictWordLaws};
 
 // What the result word of a reception holds: a number of RULES 4.10 or 20; and every value that is handed out fits its field and is read back from it.
 pub fn word_fields()
@@ -9,11 +9,6 @@ pub fn word_fields()
 // What the result word of several receptions holds, the same way.
 pub fn many_word_fields()
     ensures { ManyWordLaws }
-{}
-
-// What the result word of a send holds, the same way.
-pub fn sent_word_fields()
-    ensures { SentWordLaws }
 {}
 
 // What the result word of a correction holds, the same way.

@@ -8,9 +8,7 @@ mod socketcan;
 
 use crate::failure::Failure;
 use crate::frame::Frame;
-use crate::interrupt;
 use crate::library::{frames_of_lines, sentence, LINE_NOT_WELL_FORMED};
-use crate::output;
 use crate::text;
 use candump::{Clock, Names};
 use lines::Lines;
@@ -19,7 +17,6 @@ use std::ffi::OsString;
 use std::fs::File;
 use std::io::{self, IsTerminal, Read};
 use std::os::fd::AsFd;
-use std::os::unix::fs::FileTypeExt;
 use std::path::{Path, PathBuf};
 
 /// What takes the frames.
@@ -39,48 +36,15 @@ pub trait Sink {
         Ok(())
     }
 
-    /// A new name of an interface; frames by it have the number of names before it.
+    /// A new name of an interface in a recording; frames by it have the number of names before it.
     fn interface(&mut self, _name: &str) -> Result<(), Failure> {
-        Ok(())
-    }
-
-    /// Something became of the CAN interface of that number.
-    fn cable(&mut self, _interface: usize, _time: u64, _what: &Cable) -> Result<(), Failure> {
         Ok(())
     }
 
     /// Something about the whole input that a reader should know. It is told once.
     fn note(&mut self, text: &str) -> Result<(), Failure> {
-        tell!("tecelume: {text}");
+        eprintln!("tecelume: {text}");
         Ok(())
-    }
-}
-
-/// What becomes of a CAN interface while it is read.
-pub enum Cable {
-    /// It is down or not there any more; why.
-    Gone(String),
-    Back,
-    /// So many frames more came and were dropped by the system, since they were not read fast enough.
-    Lost(u64),
-}
-
-impl Cable {
-    /// Of the interface of that name, at a time.
-    pub fn told(&self, name: &str, time: u64) -> String {
-        let mut at = Vec::new();
-        text::seconds(&mut at, time / 1000 * 1000);
-        let (name, at) = (text::shown(name), String::from_utf8_lossy(&at).into_owned());
-        match self {
-            Cable::Gone(why) => {
-                format!("{name} is gone, at {at} s: {why}; it is taken back when it is there again")
-            }
-            Cable::Back => format!("{name} is back, at {at} s"),
-            Cable::Lost(count) => {
-                let frames = text::counted(*count, "frame");
-                format!("{name}: {frames} lost in the system's queue, at {at} s")
-            }
-        }
     }
 }
 
@@ -152,7 +116,6 @@ impl Source {
         match self {
             Source::Can(names) => Ok(Opened::Can(names)),
             Source::File(path) => open(path).map(Opened::File),
-            Source::Standard if output::was_closed(output::INPUT) => Err(Failure::reading()),
             Source::Standard => {
                 let owned = io::stdin().as_fd().try_clone_to_owned();
                 let file = owned.map(File::from).map_err(|_| Failure::reading())?;
@@ -192,16 +155,7 @@ pub fn run(opened: Opened, reading: &Reading, sink: &mut dyn Sink) -> Result<(),
         }
     }
     let progress = Progress::new(kind.is_file().then_some(kind.len()));
-    let mut text = Text::new(reading, !kind.is_file());
-    text.run(file, progress, sink)?;
-    // what comes by a pipe is another program's, and if that failed, this is all that is seen of it here
-    let piped = kind.file_type().is_fifo() || kind.file_type().is_socket();
-    match piped && text.count == 0 && !interrupt::came() {
-        true => Err(Failure::Reading(
-            "nothing came: the pipe was closed before its first line".to_string(),
-        )),
-        false => Ok(()),
-    }
+    Text::new(reading, !kind.is_file()).run(file, progress, sink)
 }
 
 fn open(path: &Path) -> Result<File, Failure> {

@@ -1,6 +1,5 @@
 //! How far a long run is, on a terminal.
 
-use crate::output::tell;
 use crate::text::grouped;
 use std::time::{Duration, Instant};
 
@@ -38,18 +37,15 @@ impl Progress {
         }
         let megabytes = |bytes: u64| grouped(bytes.div_ceil(1_000_000));
         match self.all {
-            Some(all) => tell(
-                format_args!("\r{:3} % of {} MB", self.done * 100 / all, megabytes(all)),
-                "",
-            ),
-            None => tell(format_args!("\r{} MB", megabytes(self.done)), ""),
+            Some(all) => eprint!("\r{:3} % of {} MB", self.done * 100 / all, megabytes(all)),
+            None => eprint!("\r{} MB", megabytes(self.done)),
         }
         self.told = Some(Instant::now());
     }
 
     pub fn end(&mut self) {
         if self.told.is_some() {
-            tell(format_args!("\r\x1b[K"), "");
+            eprint!("\r\x1b[K");
         }
     }
 }

@@ -49,13 +49,8 @@ impl Tables {
         page.array("notes", &self.notes, |out, note| {
             text::json(out, note.as_bytes())
         });
-        page.objects("interfaces", &self.interfaces, |object, one| {
-            object.letters("name", one.name.as_bytes());
-            object.number("lost", one.lost);
-            object.time("gone", one.gone.as_ref().map(|(since, _)| *since));
-            if let Some((_, why)) = &one.gone {
-                object.letters("why", why.as_bytes());
-            }
+        page.array("interfaces", &self.interfaces, |out, name| {
+            text::json(out, name.as_bytes())
         });
         page.number("lines", self.lines);
         page.number("transfers", self.transfers);
@@ -116,10 +111,12 @@ impl Tables {
         object.time("origin", Some(self.spans.origin));
         object.time("width", Some(self.spans.width));
         object.number("bit_rate", self.bit_rate);
-        // one that has a name and is silent counts too: its cable may be cut
-        let last = self.load.iter().rposition(|load| !load.is_empty());
-        let named = self.interfaces.len().min(INTERFACES);
-        let used = last.map_or(1, |last| last + 1).max(named);
+        let used = self
+            .load
+            .iter()
+            .filter(|load| !load.is_empty())
+            .count()
+            .max(1);
         object.objects("interfaces", &self.load[..used], |object, load| {
             object.array("frames", load, |out, load| put!(out, "{}", load.frames));
             object.array("bits", load, |out, load| put!(out, "{}", load.bits));

@@ -211,11 +211,8 @@
     if (page.first !== null) item("span", `${seconds(page.first)} to ${seconds(page.last)}`, "s");
     const notes = place("notes");
     for (const note of page.notes) add(notes, "li", {}, note);
-    page.interfaces.forEach(({ name, lost, gone, why }, index) => {
-      const told = page.interfaces.length > 1 ? [`${name} is interface ${index}`] : [];
-      if (gone !== null) told.push(`${name} is gone since ${seconds(gone)} s: ${why}`);
-      if (lost > 0) told.push(`${name}: ${counted(lost, "frame")} lost in the system's queue`);
-      for (const text of told) add(notes, "li", {}, text);
+    page.interfaces.forEach((name, index) => {
+      if (page.interfaces.length > 1) add(notes, "li", {}, `${name} is interface ${index}`);
     });
   };
 
@@ -294,7 +291,7 @@
     const { origin, width, bit_rate: rate, interfaces } = page.load;
     const percent = (bits) => (bits / width / rate) * 100;
     const series = interfaces.map((one, index) => ({
-      name: interfaces.length > 1 ? page.interfaces[index]?.name ?? `interface ${index}` : "",
+      name: interfaces.length > 1 ? page.interfaces[index] ?? `interface ${index}` : "",
       points: one.bits.map((bits, at) => [origin + at * width, percent(bits), percent(bits)]),
     }));
     plot(parent, "bus load over time", series, { name: "% of the bus", zero: true });
@@ -303,7 +300,7 @@
     const rows = interfaces.flatMap((one, index) => one.frames.map((frames, at) => ({ interface: index, at: origin + at * width, frames, bits: one.bits[at] })));
     const columns = [
       number("from second", (row) => row.at),
-      { title: "interface", value: (row) => page.interfaces[row.interface]?.name ?? row.interface },
+      number("interface", (row) => row.interface),
       number("frames", (row) => row.frames),
       number("bits", (row) => row.bits),
       number("load, %", (row) => percent(row.bits), (row) => percent(row.bits).toFixed(2)),

@@ -110,9 +110,5 @@ fn end(out: &mut Vec<u8>, types: &Types, counts: &Counts) {
             reasons.for_each(|(reason, count)| object.number(reason, *count));
         });
         object.number("refused_beyond", counts.refusals.beyond());
-        object.objects("lost", &counts.lost, |object, (name, count)| {
-            object.text("interface", name);
-            object.number("count", *count);
-        });
     });
 }

@@ -118,9 +118,6 @@ fn end(out: &mut Vec<u8>, types: &Types, counts: &Counts) {
     for (reason, count) in &counts.left_out {
         put!(out, "{count:>9} x left out: {reason}\n");
     }
-    for (name, count) in &counts.lost {
-        put!(out, "{count:>9} x lost in the system's queue of {name}\n");
-    }
     for hint in refusals.hints() {
         put!(out, "{hint}\n");
     }

@@ -13,7 +13,7 @@ use Rattle.allocator_table.specs.Layout.{sound_state}
 use Rattle.allocator.specs.Allocate.{returned, performs, Fields, fields_of, decide, on_message, allocated}
 use Rattle.allocator.specs.Stage.{joined}
 use Rattle.allocator.specs.declared.Request.{Request}
-use Rattle.allocator.specs.declared.answer.Answer.TheVariants.{Refused, Unacceptable, Faulty}
+use Rattle.allocator.specs.declared.answer.Answer.TheVariants.{Refused, Faulty}
 use Rattle.allocator.proofs.Messages.{casts, cast_is, read-refused, node-held, first-held, read-got}
 use borrow.Author.Rules.{rules}
 use Rattle.allocator.proofs.allocate.Statement.{statement}
@@ -25,12 +25,12 @@ module _ (m : List ℕ) (q : Request) (p out : List ℕ) where
   faulty s = rw s
 
   module _ (s : sound_state m ≡ true) where
-    own-none : q.reserved.own ≡ 0 → returned Unacceptable m out ≡ allocated m q p out
+    own-none : q.reserved.own ≡ 0 → returned (Refused 13) m out ≡ allocated m q p out
     unfolding allocated
     own-none z = rw (s, eq-eqb q.reserved.own 0 z)
 
     module _ (z : q.reserved.own ≡ 0 → ⊥) where
-      own-large : 127 < q.reserved.own → returned Unacceptable m out ≡ allocated m q p out
+      own-large : 127 < q.reserved.own → returned (Refused 13) m out ≡ allocated m q p out
       unfolding allocated
       own-large l = rw (s, ne_eqb q.reserved.own 0 z, lt-ltb 127 q.reserved.own l)
 

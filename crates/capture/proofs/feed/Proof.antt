@@ -1,8 +1,5 @@
--- `feed` meets its contract: a block has room for a record for each of its bytes.
-use Rattle.std.proofs.Common.{◌≡◌, ℕ, ◌-◌, take, ap, ◌∙◌, arith, length-take-le, rules}
-use borrow.Author.Tests.{not-true, not-false}
-use Rattle.capture_convert.specs.inside.Walks.{ill_line}
-use Rattle.capture_convert.proofs.Calls.{line-told, no-line-told}
+-- `feed` is safe: a block has room for a record for each of its bytes.
+use Rattle.std.proofs.Common.{◌-◌, take, arith, length-take-le, rules}
 use Rattle.capture_convert.proofs.Logs.{cut-few}
 use Rattle.capture.proofs.feed.Statement.{statement}
 use Rattle.capture.proofs.feed.Tie as tie
@@ -29,8 +26,14 @@ mul-size c = search rules
 wrapping-add-u64-requires : tie.Need-wrapping-add-u64-requires
 wrapping-add-u64-requires c κs = search rules
 
-next-line-requires : tie.Need-next-line-requires
-next-line-requires c κs = search rules
+wrapping-add-u64-requires-2 : tie.Need-wrapping-add-u64-requires-2
+wrapping-add-u64-requires-2 c κs = search rules
+
+ill-formed-requires : tie.Need-ill-formed-requires
+ill-formed-requires c κs = search rules
+
+stop-requires : tie.Need-stop-requires
+stop-requires c κs = search rules
 
 same_length : tie.Need-same-length
 same_length c = search rules
@@ -39,19 +42,7 @@ same-length-2 : tie.Need-same-length-2
 same-length-2 c = search rules
 
 returns : tie.Need-returns
-returns c =
-    let t = c.before in
-    let w = t.before.before in
-    let r = w.before.before.before.before in
-    let s = r.before.before.before.before.before.before in
-    let n = s.args.n in
-    let z : n - 0 ≡ n = omega arith in
-    let k = r.records.result in (
-      omega arith,
-      c.next-line.ensures ∙ omega (arith, w.wrapping-add-u64.ensures)
-          ∙ line-told s.args.s.count r.records.ensures.told
-          (not-true k.ok t.if1.true) ∙ ap (λ (i : ℕ). ill_line s.args.s.count (take i s.args.block.now)) z,
-    )
+returns c = search rules
 
 sub-stored : tie.Need-overflow-sub-stored
 sub-stored c = search rules
@@ -87,17 +78,7 @@ same-length-4 : tie.Need-same-length-4
 same-length-4 c = search rules
 
 returns-2 : tie.Need-returns-2
-returns-2 c =
-    let e = c.before.before.before.before.before.before.before.before.before.before in
-    let r = e.before.before.before.before.before.before in
-    let s = r.before.before.before.before.before.before in
-    let n = s.args.n in
-    let z : n - 0 ≡ n = omega arith in
-    let k = r.records.result in (
-      search rules,
-      no-line-told s.args.s.count r.records.ensures.told
-          (not-false k.ok e.if1.false) ∙ ap (λ (i : ℕ). ill_line s.args.s.count (take i s.args.block.now)) z,
-    )
+returns-2 c = search rules
 
 pub feed-spec : {M : Type 1} → statement M
 feed-spec =
@@ -109,7 +90,9 @@ feed-spec =
     records-requires
     mul-size
     wrapping-add-u64-requires
-    next-line-requires
+    wrapping-add-u64-requires-2
+    ill-formed-requires
+    stop-requires
     same_length
     same-length-2
     returns

@@ -1,13 +1,13 @@
--- RULES 18.2 to 18.4, 18.7: what the code's walks over lines and records leave, and what it reads of a trailer.
-use Rattle.std.specs.Prelude.{◌≡◌, true, false, List, ℕ, zero, suc, ◌+◌, ◌*◌, ◌-◌, ◌/◌, ◌%◌, ◌^◌, ◌≤◌, ◌<◌, length, drop}
-use Rattle.std.proofs.Math.Option.{Option, none, some}
+-- RULES 18.2 to 18.4: what the code's walks over lines and records leave, and what it reads of a trailer.
+use Rattle.std.specs.Prelude.{◌≡◌, true, false, List, ℕ, ◌+◌, ◌*◌, ◌-◌, ◌/◌, ◌^◌, ◌≤◌, ◌<◌, length, drop}
+use Rattle.std.proofs.Math.Option.{none, some}
 use Rattle.bits.specs.Little.{le}
 use Rattle.bits.specs.Part.{span, splice}
 use Rattle.rules.specs.Frame.{Frame}
-use Rattle.log_line.specs.Lines.{cut, lines_of}
+use Rattle.log_line.specs.Lines.{cut}
 use Rattle.capture_record.specs.Record.{record_size}
-use Rattle.capture_convert.specs.Capture.{trailer_size, records_of, trailer_in, count_in, formed, trailed, carried_all, carried_before}
-use Rattle.capture_convert.specs.Log.{log_of, said_all, frames_of, formed_before}
+use Rattle.capture_convert.specs.Capture.{trailer_size, records_of, trailer_in, count_in, formed, trailed, carried_all}
+use Rattle.capture_convert.specs.Log.{log_of, said_all, frames_of}
 use Rattle.capture_convert.specs.declared.lines.Extent as measure
 use Rattle.capture_convert.specs.declared.records.Ran as ran
 use Rattle.capture_convert.specs.declared.records.Scanned as scan
@@ -19,13 +19,13 @@ use Rattle.capture_convert.specs.declared.trailer.Trailer as trailer
 -- a whole log
 pub data Walked (p : List ℕ) (r : scan.Scanned) : Type 0 where
   whole : (fs : List Frame) → frames_of p ≡ some fs → r.ok ≡ true → r.count ≡ length fs → length fs ≡ length (cut p).whole → Walked p r
-  broken : frames_of p ≡ none → r.ok ≡ false → r.count ≡ formed_before (lines_of p) → Walked p r
+  broken : frames_of p ≡ none → r.ok ≡ false → Walked p r
 
 -- the lines of a block that have their line feed
 pub data Told (p out₀ : List ℕ) (r : ran.Ran) (out : List ℕ) : Type 0 where
   whole : (fs : List Frame) → said_all (cut p).whole ≡ some fs → r.ok ≡ true → r.count ≡ length fs → (cut p).rest ≡ drop r.from p
       → out ≡ splice out₀ 0 (records_of fs) → Told p out₀ r out
-  broken : said_all (cut p).whole ≡ none → r.ok ≡ false → r.count ≡ formed_before (cut p).whole → Told p out₀ r out
+  broken : said_all (cut p).whole ≡ none → r.ok ≡ false → Told p out₀ r out
 
 pub record Recorded (p out₀ : List ℕ) (r : ran.Ran) (out : List ℕ) : Type 0 where
   pub told : Told p out₀ r out
@@ -38,8 +38,8 @@ abbrev pub count_of : List ℕ → ℕ
 count_of b = length b / record_size
 
 pub data Measured (b : List ℕ) (r : measure.Extent) : Type 0 where
-  whole : (fs : List Frame) → carried_all (count_of b) b ≡ some fs → r.ok ≡ true → r.count ≡ count_of b → r.len ≡ length (log_of fs) → Measured b r
-  broken : carried_all (count_of b) b ≡ none → r.ok ≡ false → r.count ≡ carried_before (count_of b) b → Measured b r
+  whole : (fs : List Frame) → carried_all (count_of b) b ≡ some fs → r.ok ≡ true → r.len ≡ length (log_of fs) → Measured b r
+  broken : carried_all (count_of b) b ≡ none → r.ok ≡ false → Measured b r
 
 -- lines can carry the records, and there is room for the lines
 pub record Prints (b : List ℕ) (space : ℕ) : Type 0 where
@@ -51,26 +51,6 @@ pub record Lined (b out₀ : List ℕ) (r : ℕ) (out : List ℕ) : Type 0 where
   pub text : (fs : List Frame) → carried_all (count_of b) b ≡ some fs → out ≡ splice out₀ 0 (log_of fs)
   pub len : (fs : List Frame) → carried_all (count_of b) b ≡ some fs → r ≡ length (log_of fs)
   pub within : r ≤ length out
-
--- ── what the programs tell (RULES 18.7) ──
-
--- the first that is refused, counted from 1, with n before it; 0 if there is none
-abbrev pub first_of : ℕ → Option (List Frame) → ℕ
-first_of n none = (n + 1) % 2 ^ 64
-first_of n (some fs) = 0
-
--- the line of a block, with `count` lines before the block
-abbrev pub ill_line : ℕ → List ℕ → ℕ
-ill_line count p = first_of (count + formed_before (cut p).whole) (said_all (cut p).whole)
-
--- the record of a block, likewise
-abbrev pub bad_record : ℕ → List ℕ → ℕ
-bad_record count b = first_of (count + carried_before (count_of b) b) (carried_all (count_of b) b)
-
--- one that was found before stays
-unfoldable pub or_else : ℕ → ℕ → ℕ
-or_else zero n = n
-or_else (suc m) n = suc m
 
 -- ── the trailer ──
 

@@ -1,11 +1,6 @@
--- RULES 2.2 to 2.4, 4.1: the code's head of a frame, as the rules see it, and what the checks say of it.
+-- RULES 2.2 to 2.4: the code's head of a frame, as the rules see it.
 use Rattle.std.specs.Prelude.{List, ℕ}
-use Rattle.std.proofs.Math.Option.{Option, none, some}
-use Rattle.answers.specs.Reception.{told_refusal}
-use Rattle.frame.specs.declared.check.Checked.{Checked}
-use Rattle.frame.specs.declared.check.Checked.TheVariants.{Passed, Refused}
 use Rattle.frame.specs.declared.head.Head.{Head}
-use Rattle.rules.specs.Answer.{Refusal}
 use Rattle.rules.specs.Check.{Test, head_tests}
 use Rattle.rules.specs.Frame as rules
 use Rattle.rules.specs.Frame.{Stream, priority_of, is_start, is_end, toggle_of, transfer_of}
@@ -29,10 +24,5 @@ head_of id tail =
     }
 
 -- RULES 4.1: the checks 4 to 6 of a head and n data bytes
-abbrev pub head_tests_of : ℕ → Head → ℕ → List (Test Refusal)
+abbrev pub head_tests_of : ℕ → Head → ℕ → List Test
 head_tests_of own h n = head_tests own (stream_of h) h.start h.end h.toggle n
-
--- the check that refuses, as the code tells it
-abbrev pub checked_of : Option Refusal → Checked
-checked_of none = Passed
-checked_of (some r) = Refused (told_refusal r)

@@ -12,26 +12,23 @@ feed-requires c κs = search rules
 enum_told : tie.Need-enum-told
 enum_told c = search rules
 
-enum-known-failure : tie.Need-enum-known-failure
-enum-known-failure c = search rules
+enum-known-number : tie.Need-enum-known-number
+enum-known-number c = search rules
 
 mul-copy-span : tie.Need-overflow-mul-copy-span
 mul-copy-span c =
     let n = c.before.before in
     let w = n.before.before in
     let s = w.before.before.before.before.before.before.before in
-    let h = (rw n.failure.given.1 at w.feed.ensures).before.0 in
+    let h = (rw n.number.given.1 at w.feed.ensures).before.0 in
     record { fits = omega (arith, s.well-formed.1.1.0.0) }
 
 copy-span-requires : tie.Need-copy-span-requires
 copy-span-requires c κs =
     let n = c.before.before in
     let w = n.before.before in
-    let h = (rw n.failure.given.1 at w.feed.ensures).before.0 in
+    let h = (rw n.number.given.1 at w.feed.ensures).before.0 in
     search rules
-
-number-requires : tie.Need-number-requires
-number-requires c κs = search rules
 
 wrapping-add-u64-requires : tie.Need-wrapping-add-u64-requires
 wrapping-add-u64-requires c κs = search rules
@@ -52,10 +49,9 @@ feed-spec =
     returns
     feed-requires
     enum_told
-    enum-known-failure
+    enum-known-number
     mul-copy-span
     copy-span-requires
-    number-requires
     wrapping-add-u64-requires
     returns-2
     same_length

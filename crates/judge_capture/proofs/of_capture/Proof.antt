@@ -45,8 +45,8 @@ feed-requires c κs = search rules
 enum_told : tie.Need-enum-told
 enum_told c = search rules
 
-enum-known-failure : tie.Need-enum-known-failure
-enum-known-failure c = search rules
+enum-known-number : tie.Need-enum-known-number
+enum-known-number c = search rules
 
 returns-2 : tie.Need-returns-2
 returns-2 c =
@@ -62,7 +62,7 @@ returns-3 c =
     let e = w.before.before.before in
     let f = e.before.before in
     let a = f.before.before.before.args in
-    failed (setup_of a.state.now) a.capture.now f.find.result (octets f.before) (there e) _ _ w.feed.new.1.0 (rw c.before.failure.given.1 at w.feed.ensures)
+    failed (setup_of a.state.now) a.capture.now f.find.result (octets f.before) (there e) _ _ w.feed.new.1.0 (rw c.before.number.given.1 at w.feed.ensures)
 
 pub of-capture-spec : {M : Type 1} → statement M
 of-capture-spec =
@@ -76,6 +76,6 @@ of-capture-spec =
     part-feed-end
     feed-requires
     enum_told
-    enum-known-failure
+    enum-known-number
     returns-2
     returns-3)

@@ -9,7 +9,6 @@ use Rattle.rules.specs.Setup.{Setup}
 use Rattle.rules.specs.Tests.{pick}
 use Rattle.judge_rules.specs.Good.{Before, may_follow}
 use Rattle.judge_rules.specs.Laws.{Bytes}
-use Rattle.judge_rules.specs.declared.failure.Failure.TheVariants.{TooLong, BadChecksum, OtherRule}
 use Rattle.judge_rules.specs.Verdict.{Seen, Next, goes, refuses, as_before, continues, Follower, Verdict, verdict_by, verdict}
 
 pub data Brief : Type 0 where
@@ -24,20 +23,20 @@ unfoldable pub starts_in : ℕ → Stream → Option Before → Seen → Next Br
 starts_in signature d b v =
     pick (may_follow d b v.transfer v.time)
     (goes (pick v.last (rests (some (as_before v))) (within v.id (as_before v) true (length v.payload) (front v.payload) (checksum signature (drop 2 v.payload)))))
-    (refuses OtherRule)
+    (refuses 24)
 
 -- with the count and the register after this frame
 unfoldable pub grows_to : ℕ → Before → Bool → ℕ → ℕ → ℕ → Bool → Next Brief
 grows_to id b toggle n sum register last =
-    pick (ltb gathered_max n) (refuses TooLong)
-    (pick last (pick (eqb sum register) (pick (leb n (frame_payload + 2)) (refuses OtherRule) (goes (rests (some b)))) (refuses BadChecksum))
+    pick (ltb gathered_max n) (refuses 11)
+    (pick last (pick (eqb sum register) (pick (leb n (frame_payload + 2)) (refuses 24) (goes (rests (some b)))) (refuses 12))
     (goes (within id b (not toggle) n sum register)))
 
 unfoldable pub goes_on : ℕ → Stream → Brief → Seen → Next Brief
-goes_on signature d (rests b) v = pick v.start (starts_in signature d b v) (refuses OtherRule)
+goes_on signature d (rests b) v = pick v.start (starts_in signature d b v) (refuses 24)
 goes_on signature d (within id b toggle n sum register) v =
-    pick v.start (refuses OtherRule)
-    (pick (continues id b toggle v) (grows_to id b toggle (n + length v.payload) sum (crc_over ccitt register v.payload) v.last) (refuses OtherRule))
+    pick v.start (refuses 24)
+    (pick (continues id b toggle v) (grows_to id b toggle (n + length v.payload) sum (crc_over ccitt register v.payload) v.last) (refuses 24))
 
 abbrev pub summing : Follower
 summing = record { State = Brief; first = rests none; follow = goes_on }

@@ -4,7 +4,6 @@ use Rattle.std.proofs.Math.Option.{none}
 use Rattle.bits.specs.Tabulate.{tabulate}
 use Rattle.judge_rules.specs.Good.{add}
 use Rattle.judge_rules.specs.Limits.{streams_max}
-use Rattle.judge_rules.specs.declared.failure.Failure.TheVariants.{TooManyStreams}
 use Rattle.judge_rules.specs.Verdict.{Seen, Entry, streams, state_of, Judging, on, off, entered}
 use Rattle.judge_rules.specs.inside.Brief.{Brief, rests, goes_on}
 use Rattle.judge_stream.specs.inside.Kept as frame
@@ -84,7 +83,7 @@ Ranged (Refuses n) = Unit {0}
 
 abbrev pub Puts : List ℕ → ℕ → ℕ → Step → Turn → List ℕ → Type 0
 Puts t j n (Goes k) r t' = (r ≡ On) × Stored t j n k t'
-Puts t j n (Refuses x) r t' = (r ≡ Off x) × (t' ≡ t)
+Puts t j n (Refuses number) r t' = (r ≡ Off number) × (t' ≡ t)
 
 -- ── one frame ──
 
@@ -105,7 +104,7 @@ pub record Turns (J : ℕ → Judging Brief) (t : List ℕ) (r : Turn) (t' : Lis
 -- frame i, of the stream d, under its signature
 abbrev pub entering : ℕ → Stream → List (Entry Brief) → Seen → ℕ → Judging Brief
 entering signature d st v i =
-    pick (ltb streams_max (length (add d (streams st)))) (off TooManyStreams i) (entered i d st (goes_on signature d (state_of (rests none) d st) v))
+    pick (ltb streams_max (length (add d (streams st)))) (off 9 i) (entered i d st (goes_on signature d (state_of (rests none) d st) v))
 
 -- a frame that passed the checks, of a stream with a named source
 pub record Enters (v : declared.Seen) (p : List ℕ) : Type 0 where

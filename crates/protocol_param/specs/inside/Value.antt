@@ -17,15 +17,6 @@ sized n s =
     (refuse_if (ltb (length s) (size_at n s)) 15
     (refuse_if (ltb 130 (size_at n s)) 16 (got (size_at n s)))))
 
--- of a value that takes n bytes, those of its text, which ends it
-abbrev pub text_size : Value → ℕ → ℕ
-text_size Empty n = 0
-text_size (Integer z) n = 0
-text_size (Real x) n = 0
-text_size (Boolean z) n = 0
-text_size Text n = n - 2
-text_size Unknown n = 0
-
 -- the tag of a value
 abbrev pub tag_of : Value → ℕ
 tag_of Empty = 0
@@ -37,7 +28,7 @@ tag_of Unknown = 5
 
 -- the bits of a text after its length
 abbrev pub text_bits : List ℕ → List Bool
-text_bits text = to_bits (width_of 128) (length text) ++ item_bits unsigned saturated 8 text
+text_bits text = to_bits (width_of 128) (length text) ++ item_bits 8 text
 
 -- the bits of a value's case
 abbrev pub content_bits : Value → List ℕ → List Bool

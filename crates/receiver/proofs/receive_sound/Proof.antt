@@ -7,15 +7,12 @@ use Prim.Native.Nat.{ℕ, ◌%◌, ◌≤◌, ◌<◌}
 use native.Mathlib.Omega.{arith}
 use lib.Dec.{eqb}
 use lib.ListN.{length, get_or}
-use Rattle.answers.specs.Reception.{told_refusal}
 use Rattle.answers.specs.declared.Answer.TheVariants.{Refused}
-use Rattle.answers.specs.declared.Refusal as code
 use Rattle.bits.specs.Order.{Octets}
 use Rattle.bits.proofs.Octets.{octets-all}
-use Rattle.frame.specs.inside.Head.{head_of, checked_of, head_tests_of}
+use Rattle.frame.specs.inside.Head.{head_of, head_tests_of}
 use Rattle.frame.specs.inside.Head as head
 use Rattle.frame.specs.declared.head.Head.{Head}
-use Rattle.frame.proofs.Checks.{told_none, told-some}
 use Rattle.frame.proofs.Heads.{source_is, type-lt, transfer-type-lt, destination-lt}
 use Rattle.receiver.specs.Receive.{returned, arrival_of, arriving, lent}
 use Rattle.receiver.specs.inside.Called.{Accepted}
@@ -24,8 +21,8 @@ use Rattle.receiver.proofs.Lent.{untouched}
 use Rattle.rules.proofs.Checks as checks
 use Rattle.rules.proofs.Lasting.{stream-fits}
 use Rattle.rules.proofs.Ordered.{Readable, readable, head-passes}
-use Rattle.rules.specs.Answer.{Refusal, no_subscription, no_room, refused}
-use Rattle.rules.specs.Check.{Parsed, check, frame_check, first, read_tests}
+use Rattle.rules.specs.Answer.{refused}
+use Rattle.rules.specs.Check.{Parsed, check, frame_check, first, or_zero}
 use Rattle.rules.specs.Frame as rules
 use Rattle.rules.specs.Frame.{tail_of, payload_of, is_start, is_end, toggle_of, is_anonymous}
 use Rattle.rules.specs.Reception.{step, step_anonymous}
@@ -44,17 +41,11 @@ use Rattle.receiver.proofs.receive_sound.Statement.{statement}
 use Rattle.receiver.proofs.receive_sound.Tie as tie
 
 -- a frame that is refused leaves everything as it was
-refusing : (m out : List ℕ) → sound_state m ≡ true → Octets m → (f : rules.Arrival) (c : Refusal) → check (setup_of m) (arriving f out) ≡ some c
-    → returned (Refused (told_refusal c)) m out ≡ lent m out (step (setup_of m) (places_of m) (arriving f out))
-refusing m out fine b f c e =
-    untouched m fine b out (record { answer = refused c; places = places_of m }) (Refused (told_refusal c)) refl refl out refl
-    ∙ ap (lent m out) (sym (step-refused (setup_of m) (places_of m) (arriving f out) c e))
-
--- by the check that the code tells
-refusing-as : (m out : List ℕ) → sound_state m ≡ true → Octets m → (f : rules.Arrival) (r : code.Refusal)
-    → ((c : Refusal) × ((check (setup_of m) (arriving f out) ≡ some c) × (told_refusal c ≡ r)))
-    → returned (Refused r) m out ≡ lent m out (step (setup_of m) (places_of m) (arriving f out))
-refusing-as m out fine b f r w = subst (λ x. returned (Refused x) m out ≡ lent m out (step (setup_of m) (places_of m) (arriving f out))) w.1.1 (refusing m out fine b f w.0 w.1.0)
+refusing : (m out : List ℕ) → sound_state m ≡ true → Octets m → (f : rules.Arrival) (n : ℕ) → check (setup_of m) (arriving f out) ≡ some n
+    → returned (Refused n) m out ≡ lent m out (step (setup_of m) (places_of m) (arriving f out))
+refusing m out fine b f n e =
+    untouched m fine b out (record { answer = refused n; places = places_of m }) (Refused n) refl refl out refl
+    ∙ ap (lent m out) (sym (step-refused (setup_of m) (places_of m) (arriving f out) n e))
 
 -- what the look-up found is the signature that the frame is checked under
 looked-up : (m : List ℕ) (id tail k : ℕ) (h : Head) (r : Subscribed) → h ≡ head_of id tail → k ≡ kind_of (head.stream_of h)
@@ -75,37 +66,27 @@ kind-small t k e = go (eqb t 0) e where
 octets : (b : tie.After-slice-known) → Octets b.before.args.state.now
 octets b = octets-all b.before.args.state.now (λ i. omega (arith, b.slice-known.given i))
 
--- the checks 2, 3 and 19 have passed
-reads_none : (e : tie.After-enum-told) → let a = e.before.before.before.before.before.before.args in
-    first (read_tests a.id (length a.frame.now) a.interface) ≡ none
-reads_none e = told_none _ (sym e.enum_told.given.1 ∙ e.before.before.before-reading.ensures)
-
-read_ok : (e : tie.After-enum-told) → let a = e.before.before.before.before.before.before.args in Readable a.id (length a.frame.now) a.interface
+read_ok : (e : tie.Else1) → let s = e.before.before.before.before.before in Readable s.args.id (length s.args.frame.now) s.args.interface
 read_ok e =
-    let a = e.before.before.before.before.before.before.args in
-    readable a.id (length a.frame.now) a.interface (reads_none e)
+    let a = e.before.before.before.before.before.args in
+    readable a.id (length a.frame.now) a.interface e.before.unreadable.result e.before.unreadable.ensures e.if1.false
 
--- what the checks 4 to 6 say
-heads-told : (r : tie.After-of-head) → let a = r.before.before.before.before.before.before.before.before.before.before.args in
-    r.of-head.result ≡ checked_of (heads (setup_of a.state.now) a.id a.interface a.time a.frame.now a.out.now)
+-- the number of the checks 4 to 6
+heads-number : (r : tie.After-refusal) → let a = r.before.before.before.before.before.before.before.before.before.args in
+    r.refusal.result ≡ or_zero (heads (setup_of a.state.now) a.id a.interface a.time a.frame.now a.out.now)
 unfolding setup_of head_of
-heads-told r =
+heads-number r =
     let d = r.before.before in
-    let a = d.before.before.before.before.before.before.before.before.args in
-    r.of-head.ensures ∙ ap (λ (h : Head). checked_of (first (head_tests_of (get_or a.state.now 0 0) h (length a.frame.now)))) d.read.ensures
-
-heads-none : (i : tie.After-enum-told2) → let a = i.before.before.before.before.before.before.before.before.before.before.before.before.args in
-    heads (setup_of a.state.now) a.id a.interface a.time a.frame.now a.out.now ≡ none
-heads-none i = told_none _ (sym i.enum-told2.given.1 ∙ heads-told i.before.before)
+    let a = d.before.before.before.before.before.before.before.args in
+    r.refusal.ensures ∙ ap (λ (h : Head). or_zero (first (head_tests_of (get_or a.state.now 0 0) h (length a.frame.now)))) d.read.ensures
 
 -- the subscription that the frame's type has
-found : (n : tie.After-find)
-    → let a = n.before.before.before.before.before.before.before.before.before.before.before.before.before.before.before.before.args in
+found : (n : tie.After-find) → let a = n.before.before.before.before.before.before.before.before.before.before.before.before.before.before.args in
     asked (signature_for (setup_of a.state.now) a.id) ≡ n.find.result
 found n =
     let k = n.before.before in
-    let d = k.before.before.before.before.before.before in
-    let a = d.before.before.before.before.before.before.before.before.args in
+    let d = k.before.before.before.before.before in
+    let a = d.before.before.before.before.before.before.before.args in
     looked-up a.state.now a.id (tail_of a.frame.now) k.kind.result d.read.result n.find.result d.read.ensures k.kind.ensures n.find.ensures
 
 type-fits : (id tail : ℕ) → (head_of id tail).type_id < 65536
@@ -114,14 +95,14 @@ type-fits id tail = type-lt id
 
 -- what the frame is, from the checks that it passed
 accepts : (s : tie.Start) (h : Head) (g i : ℕ) → let a = s.args in h ≡ head_of a.id (tail_of a.frame.now) → Readable a.id (length a.frame.now) a.interface
-    → heads (setup_of a.state.now) a.id a.interface a.time a.frame.now a.out.now ≡ none → 512 ≤ length a.out.now
+    → (r : ℕ) → r ≡ or_zero (heads (setup_of a.state.now) a.id a.interface a.time a.frame.now a.out.now) → r ≤ 0 → 512 ≤ length a.out.now
     → i ≡ a.interface → frame_check (setup_of a.state.now) (arrival_of a.id a.frame.now a.interface a.time) ≡ none
     → Accepted a.state.now (record { head = h; signature = g; time = a.time; interface = i }) a.frame.now a.out.now
 unfolding head_of
-accepts s h g i e k f room by pass =
+accepts s h g i e k r f z room by pass =
     let a = s.args in
     let bs = a.frame.now in
-    let q = head-passes (setup_of a.state.now).own (rules.stream_of a.id) (is_start (tail_of bs)) (is_end (tail_of bs)) (toggle_of (tail_of bs)) (length bs) f in
+    let q = head-passes (setup_of a.state.now).own (rules.stream_of a.id) (is_start (tail_of bs)) (is_end (tail_of bs)) (toggle_of (tail_of bs)) (length bs) r f z in
     record {
       sound = s.requires;
       transfer = subst (λ (x : Head). x.transfer < 32) (sym e) (omega arith);
@@ -141,23 +122,15 @@ accepts s h g i e k f room by pass =
       room = room;
     }
 
-before-reading-requires : tie.Need-before-reading-requires
-before-reading-requires c κs = search rules
-
-enum-known-readable : tie.Need-enum-known-readable
-enum-known-readable c = search rules
+unreadable-requires : tie.Need-unreadable-requires
+unreadable-requires c κs = search rules
 
 returns : tie.Need-returns
 returns c =
-    let k = c.before in
-    let b = k.before.before.before.before.before in
+    let b = c.before.before.before.before in
     let a = b.before.args in
-    let w = told-some _ _ (sym k.readable.given.1 ∙ k.before.before.before-reading.ensures) in
-    refusing-as a.state.now a.out.now b.before.requires (octets b) (arrival_of a.id a.frame.now a.interface a.time) _
-    (w.0, (read-refuses (setup_of a.state.now) a.id a.interface a.time a.frame.now a.out.now w.0 w.1.0, w.1.1))
-
-enum_told : tie.Need-enum-told
-enum_told c = search rules
+    refusing a.state.now a.out.now b.before.requires (octets b) (arrival_of a.id a.frame.now a.interface a.time) c.before.unreadable.result
+    (read-refuses (setup_of a.state.now) a.id a.interface a.time a.frame.now a.out.now c.before.unreadable.result c.before.unreadable.ensures c.if1.true)
 
 sub_read : tie.Need-overflow-sub-read
 sub_read c = omega (arith, (read_ok c).some_bytes)
@@ -168,28 +141,21 @@ shared-slice-read-read c = omega (arith, (read_ok c.before).some_bytes)
 read-requires : tie.Need-read-requires
 read-requires c κs = (read_ok c.before).small
 
-slice-read-of-head : tie.Need-slice-read-of-head
-slice-read-of-head c = let s = c.before.before.before.before.before.before.before.before.before in omega (arith, long s.args.state.now s.requires)
+slice-read-refusal : tie.Need-slice-read-refusal
+slice-read-refusal c = let s = c.before.before.before.before.before.before.before.before in omega (arith, long s.args.state.now s.requires)
 
-of-head-requires : tie.Need-of-head-requires
-of-head-requires c κs = search rules
-
-enum-known-checked : tie.Need-enum-known-checked
-enum-known-checked c = search rules
+refusal-requires : tie.Need-refusal-requires
+refusal-requires c κs = search rules
 
 returns-2 : tie.Need-returns-2
 returns-2 c =
-    let k = c.before in
-    let r = k.before.before in
+    let r = c.before in
     let e = r.before.before.before.before in
-    let b = e.before.before.before.before.before in
+    let b = e.before.before.before.before in
     let a = b.before.args in
-    let w = told-some _ _ (sym k.checked.given.1 ∙ heads-told r) in
-    refusing-as a.state.now a.out.now b.before.requires (octets b) (arrival_of a.id a.frame.now a.interface a.time) _
-    (w.0, (head-refuses (setup_of a.state.now) a.id a.interface a.time a.frame.now a.out.now (reads_none e) w.0 w.1.0, w.1.1))
-
-enum-told-2 : tie.Need-enum-told-2
-enum-told-2 c = search rules
+    refusing a.state.now a.out.now b.before.requires (octets b) (arrival_of a.id a.frame.now a.interface a.time) r.refusal.result
+    (head-refuses (setup_of a.state.now) a.id a.interface a.time a.frame.now a.out.now e.before.unreadable.result e.before.unreadable.ensures e.if1.false
+    r.refusal.result (heads-number r) c.if2.true)
 
 kind-requires : tie.Need-kind-requires
 kind-requires c κs = search rules
@@ -200,8 +166,8 @@ cast-find c = search rules
 find-requires : tie.Need-find-requires
 find-requires c κs =
     let k = c.before in
-    let d = k.before.before.before.before.before.before in
-    let s = d.before.before.before.before.before.before.before.before in (
+    let d = k.before.before.before.before.before in
+    let s = d.before.before.before.before.before.before.before in (
       long s.args.state.now s.requires,
       (
         kind-small d.read.result.transfer_type k.kind.result k.kind.ensures,
@@ -209,8 +175,8 @@ find-requires c κs =
       ),
     )
 
-enum-told-3 : tie.Need-enum-told-3
-enum-told-3 c = search rules
+enum_told : tie.Need-enum-told
+enum_told c = search rules
 
 enum-known-signature : tie.Need-enum-known-signature
 enum-known-signature c = search rules
@@ -223,15 +189,17 @@ returns-3 c =
     let g = c.before.before in
     let n = g.before.before in
     let i = n.before.before.before.before in
-    let e = i.before.before.before.before.before.before in
-    let b = e.before.before.before.before.before in
+    let r = i.before in
+    let e = r.before.before.before.before in
+    let b = e.before.before.before.before in
     let a = b.before.args in
     let u = setup_of a.state.now in
-    refusing a.state.now a.out.now b.before.requires (octets b) (arrival_of a.id a.frame.now a.interface a.time) no_room
-    (no-room u a.id a.interface a.time a.frame.now a.out.now (reads_none e) (heads-none i) _ (under (signature_for u a.id) _ (found n ∙ g.signature.given.1)) c.if1.true)
+    refusing a.state.now a.out.now b.before.requires (octets b) (arrival_of a.id a.frame.now a.interface a.time) 8
+    (no-room u a.id a.interface a.time a.frame.now a.out.now e.before.unreadable.result e.before.unreadable.ensures e.if1.false
+    r.refusal.result (heads-number r) i.if2.false _ (under (signature_for u a.id) _ (found n ∙ g.signature.given.1)) c.if3.true)
 
-cast-t31 : tie.Need-overflow-cast-t31
-cast-t31 c = search rules
+cast-t28 : tie.Need-overflow-cast-t28
+cast-t28 c = search rules
 
 accept-requires : tie.Need-accept-requires
 accept-requires c κs =
@@ -239,12 +207,14 @@ accept-requires c κs =
     let g = l.before.before in
     let n = l.before.before.before.before in
     let i = n.before.before.before.before in
-    let d = i.before.before.before.before in
+    let r = i.before in
+    let d = r.before.before in
     let e = d.before.before in
-    let s = e.before.before.before.before.before.before in
+    let s = e.before.before.before.before.before in
     let u = setup_of s.args.state.now in
-    accepts s d.read.result _ _ d.read.ensures (read_ok e) (heads-none i) l.if1.false (omega (arith, (read_ok e).interface))
-    (all-passed u s.args.id s.args.interface s.args.time s.args.frame.now s.args.out.now (reads_none e) (heads-none i) _ (under (signature_for u s.args.id) _ (found n ∙ g.signature.given.1)))
+    accepts s d.read.result _ _ d.read.ensures (read_ok e) r.refusal.result (heads-number r) i.if2.false l.if3.false (omega (arith, (read_ok e).interface))
+    (all-passed u s.args.id s.args.interface s.args.time s.args.frame.now s.args.out.now e.before.unreadable.result e.before.unreadable.ensures e.if1.false
+    r.refusal.result (heads-number r) i.if2.false _ (under (signature_for u s.args.id) _ (found n ∙ g.signature.given.1)))
 
 same-length-2 : tie.Need-same-length-2
 same-length-2 c = search rules
@@ -253,12 +223,14 @@ returns-4 : tie.Need-returns-4
 returns-4 c =
     let n = c.before.before in
     let i = n.before.before.before.before in
-    let e = i.before.before.before.before.before.before in
-    let b = e.before.before.before.before.before in
+    let r = i.before in
+    let e = r.before.before.before.before in
+    let b = e.before.before.before.before in
     let a = b.before.args in
     let u = setup_of a.state.now in
-    refusing a.state.now a.out.now b.before.requires (octets b) (arrival_of a.id a.frame.now a.interface a.time) no_subscription
-    (not-subscribed u a.id a.interface a.time a.frame.now a.out.now (reads_none e) (heads-none i) (not-asked (signature_for u a.id) (found n ∙ c.enum-told3.given.1)))
+    refusing a.state.now a.out.now b.before.requires (octets b) (arrival_of a.id a.frame.now a.interface a.time) 7
+    (not-subscribed u a.id a.interface a.time a.frame.now a.out.now e.before.unreadable.result e.before.unreadable.ensures e.if1.false
+    r.refusal.result (heads-number r) i.if2.false (not-asked (signature_for u a.id) (found n ∙ c.enum_told.given.1)))
 
 same-length-3 : tie.Need-same-length-3
 same-length-3 c = search rules
@@ -274,9 +246,10 @@ returns-5 c =
     let g = l.before.before in
     let n = g.before.before in
     let i = n.before.before.before.before in
-    let d = i.before.before.before.before in
+    let r = i.before in
+    let d = r.before.before in
     let e = d.before.before in
-    let a = e.before.before.before.before.before.before.args in
+    let a = e.before.before.before.before.before.args in
     let m = a.state.now in
     let out = a.out.now in
     let bs = a.frame.now in
@@ -289,32 +262,28 @@ returns-5 c =
     (ap (λ (i : ℕ). parsed_of (record { head = head_of a.id (tail_of bs); signature = g.signature.given.0.0; time = a.time; interface = i }) (payload_of bs)) small
     ∙ parsed-is u a.id a.interface a.time g.signature.given.0.0 bs q)
     ∙ ap (lent m out) (sym (step-accepted u (places_of m) (arriving (arrival_of a.id bs a.interface a.time) out)
-    (accepted u a.id a.interface a.time bs out (reads_none e) (heads-none i) _ q l.if1.false)))
+    (accepted u a.id a.interface a.time bs out e.before.unreadable.result e.before.unreadable.ensures e.if1.false r.refusal.result (heads-number r) i.if2.false _ q l.if3.false)))
 
 pub receive-sound-spec : {M : Type 1} → statement M
 receive-sound-spec =
     tie.close
     (tie.spec
-    before-reading-requires
-    enum-known-readable
+    unreadable-requires
     returns
-    enum_told
     sub_read
     shared-slice-read-read
     read-requires
-    slice-read-of-head
-    of-head-requires
-    enum-known-checked
+    slice-read-refusal
+    refusal-requires
     returns-2
-    enum-told-2
     kind-requires
     cast-find
     find-requires
-    enum-told-3
+    enum_told
     enum-known-signature
     same_length
     returns-3
-    cast-t31
+    cast-t28
     accept-requires
     same-length-2
     returns-4

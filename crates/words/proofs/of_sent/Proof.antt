@@ -1,6 +1,6 @@
 -- `of_sent` meets its contract: the number, and above it what was made.
-use mathlib.Core.Path.{sym, subst}
-use Prim.Native.Nat.{◌≤◌, ◌<◌}
+use mathlib.Core.Path.{sym, ap, ap₂, subst, ◌∙◌}
+use Prim.Native.Nat.{◌+◌, ◌*◌, ◌^◌, ◌≤◌, ◌<◌}
 use native.Mathlib.Omega.{arith}
 use Rattle.answers.specs.declared.Dispatch.{Dispatch}
 use borrow.Author.Rules.{rules}
@@ -32,7 +32,8 @@ add-result-2 : tie.Need-overflow-add-result-2
 add-result-2 c = let f = fits c.before.before in omega (arith, f.0, f.1, c.before.number.ensures.1)
 
 returns : tie.Need-returns
-returns c = rw (← c.before.number.ensures.0, ← c.before.before.dispatch.ensures)
+returns c =
+    ap₂ ◌+◌ c.before.number.ensures.0 (ap (λ (d : Dispatch). d.frames * 2 ^ 8 + d.transfer * 2 ^ 55) c.before.before.dispatch.ensures)
 
 pub of-sent-spec : {M : Type 1} → statement M
 of-sent-spec =

@@ -1,6 +1,6 @@
-//! Transfers on their way to a receiver: frames in order and repeated, the repeats with the same
-//! bytes or any others; by other interfaces the frames as they were sent, and other streams'
-//! between. Every answer is compared with RULES 4.6 and 14.18.
+//! Transfers on their way to a receiver: frames in order and repeated, with the frames as they were
+//! sent by other interfaces and other streams' between. Every answer is compared with RULES 4.6 and
+//! 14.18.
 
 use crate::damage::Kind;
 use crate::random::Random;
@@ -101,13 +101,12 @@ impl Wire {
         last: bool,
     ) -> Result<(), String> {
         if self.random.once_in(4) {
-            let number = match (index, last) {
+            let repeat = match (index, last) {
                 (_, true) => 30,
                 (0, false) => 33,
                 (_, false) => 31,
             };
-            let repeat = self.repeat(data);
-            self.expect(id, &repeat, FOLLOWED, number)?;
+            self.expect(id, data, FOLLOWED, repeat)?;
         }
         if self.random.once_in(4) {
             let interface = self.random.pick(&[0, 2]);
@@ -120,16 +119,6 @@ impl Wire {
             self.expect(self.id(SOURCES), &[tail], FOLLOWED, 1)?;
         }
         Ok(())
-    }
-
-    /// A repeat of a frame: its tail byte and its length, and the same bytes or any others.
-    fn repeat(&mut self, data: &[u8]) -> Vec<u8> {
-        let mut repeat = data.to_vec();
-        if self.random.once_in(2) {
-            let payload = data.len() - 1;
-            repeat[..payload].copy_from_slice(&self.random.bytes(payload));
-        }
-        repeat
     }
 
     fn expect(&mut self, id: u32, data: &[u8], by: u32, number: u32) -> Result<(), String> {

@@ -14,10 +14,6 @@ pub fn all() -> Vec<(&'static str, Side)> {
         ..REFERENCE
     };
     let coming = |widen| Side { widen, ..REFERENCE };
-    let float = |to_f32| Side {
-        to_f32,
-        ..REFERENCE
-    };
     vec![
         ("ties-away", out(ties_away)),
         ("truncated", out(truncated)),
@@ -28,8 +24,6 @@ pub fn all() -> Vec<(&'static str, Side)> {
         ("value-ties-away", value(ties_away)),
         ("nan-payload-kept-in", coming(nan_payload_kept_in)),
         ("subnormals-flushed-in", coming(subnormals_flushed_in)),
-        ("float-nan-payload-kept-in", float(nan_payload_kept_in)),
-        ("float-nan-with-sign-in", float(nan_with_sign_in)),
     ]
 }
 
@@ -83,14 +77,6 @@ fn nan_payload_kept(single: u32) -> u16 {
 fn nan_payload_kept_in(half: u16) -> u32 {
     match half & 0x7FFF {
         0x7C01.. => 0x7FC0_0000 | u32::from(half & 0x1FF) << 13,
-        _ => widen(half),
-    }
-}
-
-/// What a division of zero by zero gives on some processors.
-fn nan_with_sign_in(half: u16) -> u32 {
-    match half & 0x7FFF {
-        0x7C01.. => 0xFFC0_0000,
         _ => widen(half),
     }
 }

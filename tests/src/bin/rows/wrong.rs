@@ -10,7 +10,7 @@ type Read = fn(MessageType, &[u8], usize) -> Result<Vec<u64>, Refusal>;
 type Write = fn(MessageType, &[u64], &[&[u8]], &mut [u8]) -> Result<usize, Refusal>;
 
 pub fn all() -> Vec<(&'static str, Side)> {
-    let reading: [(_, Read); 12] = [
+    let reading: [(_, Read); 11] = [
         ("places-from-1", |t, p, n| {
             each_place(t, p, n, |place, _| place + 1)
         }),
@@ -23,7 +23,6 @@ pub fn all() -> Vec<(&'static str, Side)> {
         ("nan-kept", nan_kept),
         ("versions-exchanged", versions_exchanged),
         ("no-text-at-0", no_text_at_0),
-        ("no-text-after-a-length-field", no_text_after_a_length_field),
         ("tag-left-out", tag_left_out),
         ("8-before-all", eight_before_all),
         ("row-too-short-accepted", |t, p, _| decode(t, p, usize::MAX)),
@@ -168,18 +167,6 @@ fn no_text_at_0(t: MessageType, p: &[u8], n: usize) -> Result<Vec<u64>, Refusal>
     for &at in tags(t) {
         if row[at] < 4 && places(t).contains(&(at + 2)) {
             row[at + 2] = 0;
-        }
-    }
-    Ok(row)
-}
-
-/// Two bytes after the beginning of its value, where a text would begin, even if the payload ends before.
-fn no_text_after_a_length_field(t: MessageType, p: &[u8], n: usize) -> Result<Vec<u64>, Refusal> {
-    let mut row = decode(t, p, n)?;
-    let size = |tag: u64| [1, 9, 5, 2, 0][tag as usize];
-    for &at in tags(t) {
-        if row[at] < 4 && places(t).contains(&(at + 2)) {
-            row[at + 2] = row[at + 2] - size(row[at]) + 2;
         }
     }
     Ok(row)

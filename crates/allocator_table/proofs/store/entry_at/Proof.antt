@@ -36,14 +36,14 @@ mul_at c = search rules
 add_at : tie.Need-overflow-add-at
 add_at c = search rules
 
-sub-up : tie.Need-overflow-sub-up
-sub-up c = search rules
+sub-move-up : tie.Need-overflow-sub-move-up
+sub-move-up c = search rules
 
-mul-up : tie.Need-overflow-mul-up
-mul-up c = search rules
+mul-move-up : tie.Need-overflow-mul-move-up
+mul-move-up c = search rules
 
-up-requires : tie.Need-up-requires
-up-requires c κs = search rules
+move-up-requires : tie.Need-move-up-requires
+move-up-requires c κs = search rules
 
 copy-at-requires : tie.Need-copy-at-requires
 copy-at-requires c κs = search rules
@@ -71,8 +71,8 @@ returns c =
     let w₁ = w₂.before.before.before.before in
     let s = w₁.before.before.before.before in
     let a = s.args in
-    stored a.state.now a.p a.n a.node a.u.now w₁.up.new.0 w₂.copy_at.new.0 w₃.put-at.new.0 w₄.put-at2.new.0 s.requires.1.1
-    w₁.up.ensures w₂.copy_at.ensures w₃.put-at.ensures w₄.put-at2.ensures
+    stored a.state.now a.p a.n a.node a.u.now w₁.move_up.new.0 w₂.copy_at.new.0 w₃.put-at.new.0 w₄.put-at2.new.0 s.requires.1.1
+    w₁.move_up.ensures w₂.copy_at.ensures w₃.put-at.ensures w₄.put-at2.ensures
 
 pub entry-at-spec : {M : Type 1} → statement M
 entry-at-spec =
@@ -80,9 +80,9 @@ entry-at-spec =
     (tie.spec
     mul_at
     add_at
-    sub-up
-    mul-up
-    up-requires
+    sub-move-up
+    mul-move-up
+    move-up-requires
     copy-at-requires
     add-put-at
     put-at-requires

@@ -8,7 +8,7 @@ use Rattle.bits.specs.Part.{span}
 use Rattle.bits.proofs.Splice.{length-span}
 use Rattle.capture_record.proofs.Records.{carriable-fit}
 use Rattle.capture_convert.specs.inside.Walks.{whole, broken}
-use Rattle.capture_convert.proofs.Walking.{Measuring, begin-measuring, halt, halts_at, passed, size_is, next-measuring}
+use Rattle.capture_convert.proofs.Walking.{Measuring, begin-measuring, halt, passed, size_is, next-measuring}
 use Rattle.capture_convert.proofs.lines.measure.Statement.{statement}
 use Rattle.capture_convert.proofs.lines.measure.Tie as tie
 
@@ -49,9 +49,8 @@ returns c =
     let t = r.before.before in
     let l = t.before in
     let p = l.before.before.args.records.now in
-    let e = sym r.read.ensures.ok ∙ not-true r.read.result.ok c.if1.true in
-    broken (halt p (length p / 21) l.loop.count l.loop.invariant.gone t.loop-test.true e) refl
-    (halts_at p (length p / 21) l.loop.count l.loop.invariant.gone t.loop-test.true e)
+    broken (halt p (length p / 21) l.loop.count l.loop.invariant.gone t.loop-test.true
+    (sym r.read.ensures.ok ∙ not-true r.read.result.ok c.if1.true)) refl
 
 line-length-requires : tie.Need-line-length-requires invariant-loop decreases-loop
 line-length-requires c κs =
@@ -92,7 +91,7 @@ returns-2 : tie.Need-returns-2 invariant-loop decreases-loop
 returns-2 c =
     let l = c.before in
     let p = l.before.before.args.records.now in
-    whole l.loop.invariant.gone.done (passed p (length p / 21) l.loop.count l.loop.invariant.gone c.loop-test.false) refl (omega (arith, l.loop.invariant.gone.within)) l.loop.invariant.sum
+    whole l.loop.invariant.gone.done (passed p (length p / 21) l.loop.count l.loop.invariant.gone c.loop-test.false) refl l.loop.invariant.sum
 
 pub measure-spec : {M : Type 1} → statement M
 measure-spec =

@@ -6,7 +6,7 @@ use borrow.Author.Rules.{rules}
 use borrow.Author.Tests.{not-true, not-false}
 use lib.ListN.{length}
 use Rattle.capture_convert.specs.inside.Walks.{whole, broken}
-use Rattle.capture_convert.proofs.Walking.{well, ill, stop, stops_at, all_said, left, Storing, begin-storing, so_far, one-fits, next-storing}
+use Rattle.capture_convert.proofs.Walking.{well, ill, stop, all_said, left, Storing, begin-storing, so_far, one-fits, next-storing}
 use Rattle.capture_convert.proofs.records.records.Statement.{statement}
 use Rattle.capture_convert.proofs.records.records.Tie as tie
 
@@ -50,10 +50,9 @@ returns c =
     let s = l.before.before.before.before in
     let a = s.args in
     let g = l.loop.invariant in
-    let e = ill _ r.read.result r.read.ensures (not-true r.read.result.ok c.if1.true) in
     record {
-      told = broken (stop a.block.now l.loop.count l.loop.from l.loop.end g.walk t.loop-test.true e) refl
-          (stops_at a.block.now l.loop.count l.loop.from l.loop.end g.walk t.loop-test.true e);
+      told = broken (stop a.block.now l.loop.count l.loop.from l.loop.end g.walk t.loop-test.true
+          (ill _ r.read.result r.read.ensures (not-true r.read.result.ok c.if1.true))) refl;
       from = g.walk.start;
       room = so_far a.block.now a.out.now l.loop.out l.loop.count l.loop.from l.loop.end g s.requires;
     }

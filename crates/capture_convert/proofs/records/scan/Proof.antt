@@ -5,7 +5,9 @@ use native.Mathlib.Omega.{arith}
 use borrow.Author.Rules.{rules}
 use borrow.Author.Tests.{not-true, not-false}
 use lib.ListN.{length}
-use Rattle.capture_convert.proofs.Walking.{well, ill, Walk, begin, stopped, next, finish}
+use Rattle.capture_convert.specs.inside.Walks.{broken}
+use Rattle.capture_convert.proofs.Logs.{broken-frames}
+use Rattle.capture_convert.proofs.Walking.{well, ill, Walk, begin, stop, next, finish}
 use Rattle.capture_convert.proofs.records.scan.Statement.{statement}
 use Rattle.capture_convert.proofs.records.scan.Tie as tie
 
@@ -44,8 +46,8 @@ returns c =
     let t = r.before.before in
     let l = t.before in
     let p = l.before.before.before.args.log.now in
-    stopped p l.loop.count l.loop.from l.loop.end l.loop.invariant t.loop-test.true
-    (ill _ r.read.result r.read.ensures (not-true r.read.result.ok c.if1.true)) _ refl refl
+    broken (broken-frames p (stop p l.loop.count l.loop.from l.loop.end l.loop.invariant t.loop-test.true
+    (ill _ r.read.result r.read.ensures (not-true r.read.result.ok c.if1.true)))) refl
 
 add-count : tie.Need-overflow-add-count invariant-loop decreases-loop
 add-count c =

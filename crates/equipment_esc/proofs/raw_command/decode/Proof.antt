@@ -1,13 +1,16 @@
--- `raw_command::decode` meets its contract: a refusal, or the items.
+-- `raw_command::decode` meets its contract: a refusal, or the items, converted.
 use mathlib.Core.Path.{◌≡◌, sym, ap, ◌∙◌}
+use mathlib.Core.Bool.{true}
+use mathlib.Core.List.{List}
 use Prim.Native.Nat.{ℕ, ◌≤◌, ◌*◌}
 use native.Mathlib.Omega.{arith}
 use lib.ListN.{length}
 use Rattle.bits.specs.Order.{unpack}
 use Rattle.bits.proofs.Bytes.{length-unpack}
+use Rattle.shape.specs.Shape.{all_below}
 use Rattle.shape.specs.inside.Items.{count_of}
 use Rattle.shape.proofs.ItemFacts.{Counts}
-use Rattle.equipment_esc.proofs.RawCommandFacts.{not-read, told, was_read}
+use Rattle.equipment_esc.proofs.RawCommandFacts.{not-read, told, was_read, places-below}
 use borrow.Author.Rules.{rules}
 use Rattle.equipment_esc.proofs.raw_command.decode.Statement.{statement}
 use Rattle.equipment_esc.proofs.raw_command.decode.Tie as tie
@@ -27,10 +30,16 @@ said c =
     let r = c.before.before in
     told r.before.before.args.payload.now c.count2.given.0.0 (sym (ap count_of c.count2.given.1) ∙ r.count.ensures)
 
-numbers-requires : tie.Need-numbers-requires
-numbers-requires c κs =
+read-patterns-requires : tie.Need-read-patterns-requires
+read-patterns-requires c κs =
     let t = said c.before in
     (t.few, omega (arith, t.inside, length-unpack c.before.before.before.before.before.args.payload.now))
+
+numbers-requires : tie.Need-numbers-requires
+numbers-requires c κs =
+    let n = c.before.before in
+    ap (λ (xs : List ℕ). all_below 16384 xs) c.read-patterns.ensures
+    ∙ places-below (unpack n.before.before.before.before.args.payload.now) n.count2.given.0.0 (said n).inside
 
 returns : tie.Need-returns
 returns c =
@@ -40,12 +49,13 @@ returns c =
 
 returns-2 : tie.Need-returns-2
 returns-2 c =
-    let n = c.before.before in
+    let p = c.before in
+    let n = p.before.before in
     let r = n.before.before in
-    was_read r.before.before.args.payload.now n.count2.given.0.0 (sym (ap count_of n.count2.given.1) ∙ r.count.ensures) c.numbers.result
-    c.numbers.ensures
+    was_read r.before.before.args.payload.now n.count2.given.0.0 (sym (ap count_of n.count2.given.1) ∙ r.count.ensures) p.read-patterns.result c.numbers.result
+    p.read-patterns.ensures c.numbers.ensures
 
 pub decode-spec : {M : Type 1} → statement M
 decode-spec =
     tie.close
-    (tie.spec count-requires enum-known-number enum-known-count numbers-requires returns returns-2)
+    (tie.spec count-requires enum-known-number enum-known-count read-patterns-requires numbers-requires returns returns-2)

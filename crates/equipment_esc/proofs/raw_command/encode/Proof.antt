@@ -26,8 +26,11 @@ returns-2 c =
     let s = e.before.before.before in
     too_short s.args.x s.args.out.now (long s) e.if1.false c.if2.true
 
-write-numbers-requires : tie.Need-write-numbers-requires
-write-numbers-requires c κs = let t = c.before in (t.before.if1.false, omega (arith, t.if2.false))
+patterns-requires : tie.Need-patterns-requires
+patterns-requires c κs = c.before.if1.false
+
+write-patterns-requires : tie.Need-write-patterns-requires
+write-patterns-requires c κs = let t = c.before.before in (t.before.if1.false, omega (arith, t.if2.false))
 
 same_length : tie.Need-same-length
 same_length c = search rules
@@ -35,12 +38,13 @@ same_length c = search rules
 returns-3 : tie.Need-returns-3
 returns-3 c =
     let w = c.before.before in
-    let t = w.before.before in
+    let p = w.before.before in
+    let t = p.before in
     let e = t.before in
     let k = e.before.before in
     let s = k.before in
     stored s.args.x s.args.out.now (long s) e.if1.false (octets-all s.args.out.now (λ i. omega (arith, k.slice-known.given i))) t.if2.false
-    w.write-numbers.new.1.1.0 w.write-numbers.ensures
+    p.patterns.result w.write-patterns.new.1.1.0 p.patterns.ensures w.write-patterns.ensures
 
 pub encode-spec : {M : Type 1} → statement M
 encode-spec =
@@ -50,6 +54,7 @@ encode-spec =
     mul-len
     add-len
     returns-2
-    write-numbers-requires
+    patterns-requires
+    write-patterns-requires
     same_length
     returns-3)

@@ -21,7 +21,7 @@ fit k =
     let a = k.before.args in
     let name = a.model-name.now in
     let g = k.before.well-formed.0.1.1 in
-    fits-if a.m name g.0.1 g.1.0.1 g.1.1.0.1
+    fits-if a.m name (octets-all name (λ i. omega (arith, k.shared-slice-known.given i))) g.0.1 g.1.0.1 g.1.1.0.1
     g.1.1.1.0.1 g.1.1.1.1.0.1 g.1.1.1.1.1.0.1 g.1.1.1.1.1.1.0.1
 
 returns : tie.Need-returns
@@ -67,7 +67,7 @@ returns-3 c =
     let name = a.model-name.now in
     write-all battery_info (raw_values a.m name_only name) a.out.now refl (sym (fit k) ∙ le-leb (length name) 31 t.if1.false) (23 + length name) (size a.m name)
     (octets-all a.out.now (λ i. omega (arith, o.slice-known.given i))) g.if2.false w₃.write_bytes.new.0
-    (stored a.m name (octets-all name (λ i. omega (arith, k.shared-slice-known.given i))) a.out.now w₁.write-floats.new.0 w₂.write-others.new.0 w₃.write_bytes.new.0 (omega (arith, g.if2.false))
+    (stored a.m name a.out.now w₁.write-floats.new.0 w₂.write-others.new.0 w₃.write_bytes.new.0 (omega (arith, g.if2.false))
     w₁.write-floats.ensures w₂.write-others.ensures w₃.write_bytes.ensures)
 
 pub encode-raw-spec : {M : Type 1} → statement M

@@ -57,8 +57,8 @@ loop-again c =
     let h = rw c.enum_told.given.1 at w.turn.ensures in
     (omega arith, (h.table, walk-on (setup_of a.state.now) a.table.now a.records.now l.loop.i l.loop.table l.loop.invariant.1.1 w.turn.new.1.0 h))
 
-enum-known-failure : tie.Need-enum-known-failure invariant-loop decreases-loop
-enum-known-failure c = search rules
+enum-known-number : tie.Need-enum-known-number invariant-loop decreases-loop
+enum-known-number c = search rules
 
 returns : tie.Need-returns invariant-loop decreases-loop
 returns c =
@@ -67,7 +67,7 @@ returns c =
     let s = l.before.before.before in
     let a = s.args in
     walk-off (setup_of a.state.now) a.table.now a.records.now l.loop.i l.loop.table l.loop.invariant.1.1 (omega arith) _ w.turn.new.1.0
-    (rw c.before.failure.given.1 at w.turn.ensures)
+    (rw c.before.number.given.1 at w.turn.ensures)
 
 returns-2 : tie.Need-returns-2 invariant-loop decreases-loop
 returns-2 c =
@@ -92,6 +92,6 @@ feed-spec =
     add-i
     loop-less
     loop-again
-    enum-known-failure
+    enum-known-number
     returns
     returns-2)

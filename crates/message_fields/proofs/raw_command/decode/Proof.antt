@@ -8,7 +8,7 @@ use native.Mathlib.Omega.{arith}
 use Rattle.shape.specs.Answer.{Answer, refused, got, numbered, refuse_if, map_answer}
 use Rattle.shape.specs.Shape.{decode, decoded}
 use Rattle.shape.proofs.Reading.{refused-from}
-use Rattle.equipment_esc.specs.RawCommand.{raw_command, commands, command_in, read_of}
+use Rattle.equipment_esc.specs.RawCommand.{raw_command, command_of, command_in, read_of}
 use Rattle.equipment_esc.specs.declared.raw_command.RawCommand.{RawCommand}
 use Rattle.equipment_esc.specs.declared.raw_command.Read.{Read}
 use Rattle.message_fields.specs.RawCommand.{command_words}
@@ -27,7 +27,7 @@ checked false false false false x e = let z : ◌≡◌ {A = ℕ} 0 1 = cc in om
 
 never : (p : List ℕ) → command_in p ≡ refused 0 → ⊥
 unfolding decode
-never p e = checked _ _ _ _ _ (refused-from commands (decoded raw_command p) 0 e)
+never p e = checked _ _ _ _ _ (refused-from command_of (decoded raw_command p) 0 e)
 
 -- so the number tells a refusal from a message
 module _ (r : Read) where

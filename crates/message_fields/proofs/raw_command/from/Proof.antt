@@ -10,7 +10,7 @@ use lib.Seq.{get_or-take, get_or-drop}
 use Rattle.bits.specs.Part.{span}
 use Rattle.bits.proofs.Splice.{length-span}
 use Rattle.shape.specs.Signed.{signed_of}
-use Rattle.message_fields.proofs.Places.{mapped, all-mapped}
+use Rattle.equipment_esc.proofs.RawCommandFacts.{mapped, all-mapped}
 use Rattle.row.proofs.Rows.{held}
 use Rattle.message_fields.proofs.raw_command.from.Statement.{statement}
 use Rattle.message_fields.proofs.raw_command.from.Tie as tie

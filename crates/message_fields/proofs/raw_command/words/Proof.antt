@@ -7,7 +7,7 @@ use native.Mathlib.Omega.{arith}
 use borrow.Author.Rules.{rules}
 use lib.IntN.{ℤ, pos}
 use lib.ListN.{length, take, get_or, set, replicate}
-use Rattle.message_fields.proofs.Places.{mapped, all-mapped}
+use Rattle.equipment_esc.proofs.RawCommandFacts.{mapped, all-mapped}
 use Rattle.row.specs.Row.{word}
 use Rattle.row.proofs.Rows.{word-of}
 use Rattle.message_fields.proofs.raw_command.words.Statement.{statement}

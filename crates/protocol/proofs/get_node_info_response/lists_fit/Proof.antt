@@ -14,13 +14,20 @@ returns c =
 
 returns-2 : tie.Need-returns-2
 returns-2 c =
-    let a = c.before.before.before.before.before.args in
-    no-certificate a.unique-id.now a.certificate.now a.name.now c.before.if1.false c.if2.true
+    let k₁ = c.before.before.before.before in
+    let a = k₁.before.args in
+    let u = a.unique-id.now in
+    no-certificate u a.certificate.now a.name.now (octets-all u (λ i. omega (arith, k₁.shared-slice-known.given i))) c.before.if1.false c.if2.true
 
 returns-3 : tie.Need-returns-3
 returns-3 c =
-    let a = c.before.before.before.before.before.before.args in
-    no_name a.unique-id.now a.certificate.now a.name.now c.before.before.if1.false c.before.if2.false c.if3.true
+    let k₂ = c.before.before.before.before in
+    let k₁ = k₂.before in
+    let a = k₁.before.args in
+    let u = a.unique-id.now in
+    let t = a.certificate.now in
+    no_name u t a.name.now (octets-all u (λ i. omega (arith, k₁.shared-slice-known.given i))) c.before.before.if1.false
+    (octets-all t (λ i. omega (arith, k₂.shared-slice-known2.given i))) c.before.if2.false c.if3.true
 
 is-name-requires : tie.Need-is-name-requires
 is-name-requires c κs = search rules
@@ -28,10 +35,15 @@ is-name-requires c κs = search rules
 returns-4 : tie.Need-returns-4
 returns-4 c =
     let k₃ = c.before.before.before.before in
-    let a = k₃.before.before.before.args in
+    let k₂ = k₃.before in
+    let k₁ = k₂.before in
+    let a = k₁.before.args in
+    let u = a.unique-id.now in
+    let t = a.certificate.now in
     let n = a.name.now in
     c.is_name.ensures
-    ∙ by_name a.unique-id.now a.certificate.now n c.before.before.before.if1.false c.before.before.if2.false
+    ∙ by_name u t n (octets-all u (λ i. omega (arith, k₁.shared-slice-known.given i))) c.before.before.before.if1.false
+    (octets-all t (λ i. omega (arith, k₂.shared-slice-known2.given i))) c.before.before.if2.false
     (octets-all n (λ i. omega (arith, k₃.shared-slice-known3.given i))) c.before.if3.false
 
 pub lists-fit-spec : {M : Type 1} → statement M

@@ -1,7 +1,6 @@
 -- `get_node_info_response::write_lists` meets its contract: the lists follow each other.
 use native.Mathlib.Omega.{arith}
 use Rattle.protocol.proofs.ResponseReadFacts.{eight}
-use Rattle.bits.proofs.Octets.{octets-all}
 use Rattle.protocol.proofs.ResponseWriteFacts.{stored-lists}
 use borrow.Author.Rules.{rules}
 use Rattle.protocol.proofs.get_node_info_response.write_lists.Statement.{statement}
@@ -39,15 +38,9 @@ returns c =
     let w₂ = w₃.before.before.before.before in
     let w = w₂.before in
     let w₁ = w.before.before.before.before in
-    let k₃ = w₁.before.before in
-    let k₂ = k₃.before in
-    let k₁ = k₂.before in
-    let k = k₁.before.before in
+    let k = w₁.before.before.before.before.before.before in
     let a = k.args in
-    stored-lists a.unique-id.now a.certificate.now a.name.now
-    (octets-all a.unique-id.now (λ i. omega (arith, k₁.shared-slice-known.given i)))
-    (octets-all a.certificate.now (λ i. omega (arith, k₂.shared-slice-known2.given i)))
-    (octets-all a.name.now (λ i. omega (arith, k₃.shared-slice-known3.given i))) w.width.result w.width.ensures a.out.now w₁.write_bytes.new.0
+    stored-lists a.unique-id.now a.certificate.now a.name.now w.width.result w.width.ensures a.out.now w₁.write_bytes.new.0
     w₂.write.new.0
     w₃.write-bytes2.new.0 w₄.write-bytes3.new.0 k.requires.0 (omega (arith, k.requires.1)) w₁.write_bytes.ensures w₂.write.ensures
     w₃.write-bytes2.ensures w₄.write-bytes3.ensures

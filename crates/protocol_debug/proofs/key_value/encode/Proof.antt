@@ -18,7 +18,7 @@ returns c =
     let k = c.before.before in
     let a = k.before.args in
     let o : Octets a.key.now = octets-all a.key.now (λ i. omega (arith, k.shared-slice-known.given i)) in
-    refuse-17 key_value (a.value, a.key.now) a.out.now refl (sym (fit a.value a.key.now k.before.ranges.value.fits) ∙ lt-leb (length a.key.now) 58 c.if1.true)
+    refuse-17 key_value (a.value, a.key.now) a.out.now refl (sym (fit a.value a.key.now k.before.ranges.value.fits o) ∙ lt-leb (length a.key.now) 58 c.if1.true)
 
 add-n : tie.Need-overflow-add-n
 add-n c = search rules
@@ -29,7 +29,7 @@ returns-2 c =
     let k = f.before.before in
     let a = k.before.args in
     let o : Octets a.key.now = octets-all a.key.now (λ i. omega (arith, k.shared-slice-known.given i)) in
-    refuse-8 key_value (a.value, a.key.now) a.out.now refl (sym (fit a.value a.key.now k.before.ranges.value.fits) ∙ le-leb (length a.key.now) 58 f.if1.false) (4 + length a.key.now)
+    refuse-8 key_value (a.value, a.key.now) a.out.now refl (sym (fit a.value a.key.now k.before.ranges.value.fits o) ∙ le-leb (length a.key.now) 58 f.if1.false) (4 + length a.key.now)
     (size a.value a.key.now) c.if2.true
 
 write-requires : tie.Need-write-requires
@@ -51,10 +51,10 @@ returns-3 c =
     let k = m.before in
     let a = k.before.args in
     let o : Octets a.key.now = octets-all a.key.now (λ i. omega (arith, k.shared-slice-known.given i)) in
-    write-all key_value (a.value, a.key.now) a.out.now refl (sym (fit a.value a.key.now k.before.ranges.value.fits) ∙ le-leb (length a.key.now) 58 f.if1.false) (4 + length a.key.now)
+    write-all key_value (a.value, a.key.now) a.out.now refl (sym (fit a.value a.key.now k.before.ranges.value.fits o) ∙ le-leb (length a.key.now) 58 f.if1.false) (4 + length a.key.now)
     (size a.value a.key.now)
     (octets-all a.out.now (λ i. omega (arith, m.slice-known.given i))) g.if2.false w₂.write_bytes.new.0
-    (stored a.value a.key.now o a.out.now w₁.write.new.0 w₂.write_bytes.new.0 (omega (arith, g.if2.false)) w₁.write.ensures w₂.write_bytes.ensures)
+    (stored a.value a.key.now a.out.now w₁.write.new.0 w₂.write_bytes.new.0 (omega (arith, g.if2.false)) w₁.write.ensures w₂.write_bytes.ensures)
 
 pub encode-spec : {M : Type 1} → statement M
 encode-spec =

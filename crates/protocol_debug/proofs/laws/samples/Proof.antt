@@ -4,12 +4,12 @@ use Rattle.bits.specs.Order.{digits, value_from, unpack, bytes, octets, to_bits,
 use Rattle.bits.specs.Width.{width_in, width_of}
 use Rattle.shape.specs.Answer.{refuse_if, map_answer}
 use Rattle.shape.specs.Cast.{nearest, low_bits}
-use Rattle.shape.specs.Shape.{item_bits, items_of, encode, decode, fits, encoded}
+use Rattle.shape.specs.Shape.{item_bits, items_of, all_below, encode, decode, fits, encoded}
 use Rattle.protocol_debug.proofs.laws.samples.Statement.{statement}
 use Rattle.protocol_debug.proofs.laws.samples.Tie as tie
 
 returns : tie.Need-returns
-unfolding encoded decode encode fits item_bits items_of refuse_if map_answer nearest low_bits to_bits from_bits octets number unpack bytes digits value_from width_of width_in
+unfolding encoded decode encode fits item_bits items_of all_below refuse_if map_answer nearest low_bits to_bits from_bits octets number unpack bytes digits value_from width_of width_in
 returns c = record { key-value = refl; key-value-back = refl; log-message = refl; log-message-back = refl; high = refl; low = refl }
 
 pub samples-spec : {M : Type 1} → statement M

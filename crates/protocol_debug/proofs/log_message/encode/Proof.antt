@@ -23,7 +23,7 @@ returns c =
     let ys = a.text.now in
     let o : Octets xs = octets-all xs (λ i. omega (arith, k.shared-slice-known.given i)) in
     let q : Octets ys = octets-all ys (λ i. omega (arith, t.shared-slice-known2.given i)) in
-    refuse-17 log_message (a.level, (xs, ys)) a.out.now refl (sym (fit a.level xs ys) ∙ not-true _ c.if1.true)
+    refuse-17 log_message (a.level, (xs, ys)) a.out.now refl (sym (fit a.level xs ys o q) ∙ not-true _ c.if1.true)
 
 add_at : tie.Need-overflow-add-at
 add_at c = search rules
@@ -41,7 +41,7 @@ returns-2 c =
     let ys = a.text.now in
     let o : Octets xs = octets-all xs (λ i. omega (arith, k.shared-slice-known.given i)) in
     let q : Octets ys = octets-all ys (λ i. omega (arith, t.shared-slice-known2.given i)) in
-    refuse-8 log_message (a.level, (xs, ys)) a.out.now refl (sym (fit a.level xs ys) ∙ not-false _ f.if1.false) (1 + length xs + length ys)
+    refuse-8 log_message (a.level, (xs, ys)) a.out.now refl (sym (fit a.level xs ys o q) ∙ not-false _ f.if1.false) (1 + length xs + length ys)
     (size a.level xs ys) c.if2.true
 
 write-requires : tie.Need-write-requires
@@ -82,10 +82,10 @@ returns-3 c =
     let ys = a.text.now in
     let o : Octets xs = octets-all xs (λ i. omega (arith, k.shared-slice-known.given i)) in
     let q : Octets ys = octets-all ys (λ i. omega (arith, t.shared-slice-known2.given i)) in
-    write-all log_message (a.level, (xs, ys)) a.out.now refl (sym (fit a.level xs ys) ∙ not-false _ f.if1.false) (1 + length xs + length ys)
+    write-all log_message (a.level, (xs, ys)) a.out.now refl (sym (fit a.level xs ys o q) ∙ not-false _ f.if1.false) (1 + length xs + length ys)
     (size a.level xs ys)
     (octets-all a.out.now (λ i. omega (arith, m.slice-known.given i))) g.if2.false w₄.write-bytes2.new.0
-    (stored a.level xs ys o q w.width.result w.width.ensures a.out.now w₁.write.new.0 w₂.write2.new.0 w₃.write_bytes.new.0 w₄.write-bytes2.new.0 (omega (arith, g.if2.false))
+    (stored a.level xs ys w.width.result w.width.ensures a.out.now w₁.write.new.0 w₂.write2.new.0 w₃.write_bytes.new.0 w₄.write-bytes2.new.0 (omega (arith, g.if2.false))
     (number-given a.out.now w₁.write.new.0 0 3 a.level k.before.ranges.level w₁.write.ensures) w₂.write2.ensures w₃.write_bytes.ensures w₄.write-bytes2.ensures)
 
 pub encode-spec : {M : Type 1} → statement M

@@ -20,7 +20,7 @@ returns c =
     let a = k.before.args in
     let u = a.unique-id.now in
     let o : Octets u = octets-all u (λ i. omega (arith, k.shared-slice-known.given i)) in
-    refuse-17 allocation (a.node-id, (a.first-part-of-unique-id, u)) a.out.now refl (sym (fit a.node-id a.first-part-of-unique-id u) ∙ lt-leb (length u) 16 c.if1.true)
+    refuse-17 allocation (a.node-id, (a.first-part-of-unique-id, u)) a.out.now refl (sym (fit a.node-id a.first-part-of-unique-id u o) ∙ lt-leb (length u) 16 c.if1.true)
 
 add-n : tie.Need-overflow-add-n
 add-n c = search rules
@@ -32,7 +32,7 @@ returns-2 c =
     let a = k.before.args in
     let u = a.unique-id.now in
     let o : Octets u = octets-all u (λ i. omega (arith, k.shared-slice-known.given i)) in
-    refuse-8 allocation (a.node-id, (a.first-part-of-unique-id, u)) a.out.now refl (sym (fit a.node-id a.first-part-of-unique-id u) ∙ le-leb (length u) 16 f.if1.false) (1 + length u)
+    refuse-8 allocation (a.node-id, (a.first-part-of-unique-id, u)) a.out.now refl (sym (fit a.node-id a.first-part-of-unique-id u o) ∙ le-leb (length u) 16 f.if1.false) (1 + length u)
     (size a.node-id a.first-part-of-unique-id u) c.if2.true
 
 write-requires : tie.Need-write-requires
@@ -59,9 +59,9 @@ returns-3 c =
     let a = k.before.args in
     let u = a.unique-id.now in
     let o : Octets u = octets-all u (λ i. omega (arith, k.shared-slice-known.given i)) in
-    write-all allocation (a.node-id, (a.first-part-of-unique-id, u)) a.out.now refl (sym (fit a.node-id a.first-part-of-unique-id u) ∙ le-leb (length u) 16 f.if1.false) (1 + length u)
+    write-all allocation (a.node-id, (a.first-part-of-unique-id, u)) a.out.now refl (sym (fit a.node-id a.first-part-of-unique-id u o) ∙ le-leb (length u) 16 f.if1.false) (1 + length u)
     (size a.node-id a.first-part-of-unique-id u) (octets-all a.out.now (λ i. omega (arith, m.slice-known.given i))) g.if2.false w₃.write_bytes.new.0
-    (stored a.node-id a.first-part-of-unique-id u o a.out.now w₁.write.new.0 w₂.write2.new.0 w₃.write_bytes.new.0 (omega (arith, g.if2.false))
+    (stored a.node-id a.first-part-of-unique-id u a.out.now w₁.write.new.0 w₂.write2.new.0 w₃.write_bytes.new.0 (omega (arith, g.if2.false))
     (number-given a.out.now w₁.write.new.0 0 7 a.node-id k.before.ranges.node-id w₁.write.ensures)
     (number-given w₁.write.new.0 w₂.write2.new.0 7 1 a.first-part-of-unique-id k.before.ranges.first-part-of-unique-id w₂.write2.ensures) w₃.write_bytes.ensures)
 

@@ -54,8 +54,10 @@ returns-2 c =
     let text = a.string-value.now in
     let name = a.name.now in
     let m = a.out.now in
+    let o = octets-all text (λ i. omega (arith, s1.shared-slice-known.given i)) in
+    let r = octets-all name (λ i. omega (arith, s2.shared-slice-known2.given i)) in
     refuse-17 request (asked a.index a.v text name) m (request-tags a.index a.v text name ∙ sym q.known.ensures ∙ not-false q.known.result g1.if1.false)
-    (request-fits a.index a.v text name (held a.v b.well-formed.1.0) ∙ (sym (ap (λ (x : Bool). x && leb (length name) 92) f.fits2.ensures) ∙ not-true _ c.if2.true))
+    (request-fits a.index a.v text name (held a.v b.well-formed.1.0) o r ∙ (sym (ap (λ (x : Bool). x && leb (length name) 92) f.fits2.ensures) ∙ not-true _ c.if2.true))
 
 written-size-requires : tie.Need-written-size-requires
 written-size-requires c κs = search rules
@@ -107,10 +109,11 @@ returns-3 c =
     let text = a.string-value.now in
     let name = a.name.now in
     let m = a.out.now in
+    let o = octets-all text (λ i. omega (arith, s1.shared-slice-known.given i)) in
     let r = octets-all name (λ i. omega (arith, s2.shared-slice-known2.given i)) in
     refuse-8 request (asked a.index a.v text name) m (request-tags a.index a.v text name ∙ sym q.known.ensures ∙ not-false q.known.result g1.if1.false)
-    (request-fits a.index a.v text name (held a.v b.well-formed.1.0) ∙ (sym (ap (λ (x : Bool). x && leb (length name) 92) f.fits2.ensures) ∙ not-false _ g2.if2.false))
-    (1 + size_of a.v (length text) + length name) (request-size a.index a.v text name r) (omega (arith, z.written-size.ensures, c.if3.true))
+    (request-fits a.index a.v text name (held a.v b.well-formed.1.0) o r ∙ (sym (ap (λ (x : Bool). x && leb (length name) 92) f.fits2.ensures) ∙ not-false _ g2.if2.false))
+    (1 + size_of a.v (length text) + length name) (request-size a.index a.v text name) (omega (arith, z.written-size.ensures, c.if3.true))
 
 write-requires : tie.Need-write-requires
 write-requires c κs =
@@ -146,13 +149,14 @@ returns-4 c =
     let text = a.string-value.now in
     let name = a.name.now in
     let m = a.out.now in
+    let o = octets-all text (λ i. omega (arith, s1.shared-slice-known.given i)) in
     let r = octets-all name (λ i. omega (arith, s2.shared-slice-known2.given i)) in
     let l : (1 + size_of a.v (length text) + length name) ≤ length m = omega (arith, z.written-size.ensures, h.if3.false) in
     ap (λ (k : ℕ). (numbered (got (1 + k + length name)), w3.write_bytes.new.0)) z.written-size.ensures
     ∙ write-all request (asked a.index a.v text name) m (request-tags a.index a.v text name ∙ sym q.known.ensures ∙ not-false q.known.result g1.if1.false)
-    (request-fits a.index a.v text name (held a.v b.well-formed.1.0) ∙ (sym (ap (λ (x : Bool). x && leb (length name) 92) f.fits2.ensures) ∙ not-false _ g2.if2.false))
-    (1 + size_of a.v (length text) + length name) (request-size a.index a.v text name r) (octets-all m (λ i. omega (arith, ko.slice-known.given i))) l w3.write_bytes.new.0
-    (request-stored a.index a.v text name r m w1.write.new.0 w2.write2.new.0 w3.write_bytes.new.0 l
+    (request-fits a.index a.v text name (held a.v b.well-formed.1.0) o r ∙ (sym (ap (λ (x : Bool). x && leb (length name) 92) f.fits2.ensures) ∙ not-false _ g2.if2.false))
+    (1 + size_of a.v (length text) + length name) (request-size a.index a.v text name) (octets-all m (λ i. omega (arith, ko.slice-known.given i))) l w3.write_bytes.new.0
+    (request-stored a.index a.v text name m w1.write.new.0 w2.write2.new.0 w3.write_bytes.new.0 l
     (number-given m w1.write.new.0 0 13 a.index b.ranges.index w1.write.ensures) w2.write2.ensures
     (w3.write_bytes.ensures ∙ ap (λ (k : ℕ). store w2.write2.new.0 ((1 + k) * 8) (unpack name)) z.written-size.ensures))
 

@@ -63,8 +63,11 @@ returns-2 c =
     let name = a.name.now in
     let m = a.out.now in
     let e = three-tests (text_fits a.v text) (text_fits a.default-value other) (leb (length name) 92) f1.fits2.result f.fits3.result f1.fits2.ensures f.fits3.ensures in
+    let o = octets-all text (λ i. omega (arith, s1.shared-slice-known.given i)) in
+    let p = octets-all other (λ i. omega (arith, s2.shared-slice-known2.given i)) in
+    let r = octets-all name (λ i. omega (arith, s3.shared-slice-known3.given i)) in
     refuse-17 response (told a.v text a.default-value other a.max-value a.min-value name) m (response-tags a.v text a.default-value other a.max-value a.min-value name ∙ sym q.known.ensures ∙ not-false q.known.result g1.if1.false)
-    (response-fits a.v text a.default-value other a.max-value a.min-value name (held a.v b.well-formed.0) (held a.default-value b.well-formed.1.1.0) (held a.max-value b.well-formed.1.1.1.1.0) (held a.min-value b.well-formed.1.1.1.1.1.0) ∙ e ∙ not-true _ c.if2.true)
+    (response-fits a.v text a.default-value other a.max-value a.min-value name (held a.v b.well-formed.0) o (held a.default-value b.well-formed.1.1.0) p (held a.max-value b.well-formed.1.1.1.1.0) (held a.min-value b.well-formed.1.1.1.1.1.0) r ∙ e ∙ not-true _ c.if2.true)
 
 values-size-requires : tie.Need-values-size-requires
 values-size-requires c κs =
@@ -125,10 +128,12 @@ returns-3 c =
     let name = a.name.now in
     let m = a.out.now in
     let e = three-tests (text_fits a.v text) (text_fits a.default-value other) (leb (length name) 92) f1.fits2.result f.fits3.result f1.fits2.ensures f.fits3.ensures in
+    let o = octets-all text (λ i. omega (arith, s1.shared-slice-known.given i)) in
+    let p = octets-all other (λ i. omega (arith, s2.shared-slice-known2.given i)) in
     let r = octets-all name (λ i. omega (arith, s3.shared-slice-known3.given i)) in
     refuse-8 response (told a.v text a.default-value other a.max-value a.min-value name) m (response-tags a.v text a.default-value other a.max-value a.min-value name ∙ sym q.known.ensures ∙ not-false q.known.result g1.if1.false)
-    (response-fits a.v text a.default-value other a.max-value a.min-value name (held a.v b.well-formed.0) (held a.default-value b.well-formed.1.1.0) (held a.max-value b.well-formed.1.1.1.1.0) (held a.min-value b.well-formed.1.1.1.1.1.0) ∙ e ∙ not-false _ g2.if2.false)
-    ((size_of a.v (length text) + size_of a.default-value (length other) + size_of a.max-value 0 + size_of a.min-value 0) + length name) (response-size a.v text a.default-value other a.max-value a.min-value name r) (omega (arith, z.values-size.ensures, c.if3.true))
+    (response-fits a.v text a.default-value other a.max-value a.min-value name (held a.v b.well-formed.0) o (held a.default-value b.well-formed.1.1.0) p (held a.max-value b.well-formed.1.1.1.1.0) (held a.min-value b.well-formed.1.1.1.1.1.0) r ∙ e ∙ not-false _ g2.if2.false)
+    ((size_of a.v (length text) + size_of a.default-value (length other) + size_of a.max-value 0 + size_of a.min-value 0) + length name) (response-size a.v text a.default-value other a.max-value a.min-value name) (omega (arith, z.values-size.ensures, c.if3.true))
 
 put-values-requires : tie.Need-put-values-requires
 put-values-requires c κs =
@@ -180,13 +185,15 @@ returns-4 c =
     let name = a.name.now in
     let m = a.out.now in
     let e = three-tests (text_fits a.v text) (text_fits a.default-value other) (leb (length name) 92) f1.fits2.result f.fits3.result f1.fits2.ensures f.fits3.ensures in
+    let o = octets-all text (λ i. omega (arith, s1.shared-slice-known.given i)) in
+    let p = octets-all other (λ i. omega (arith, s2.shared-slice-known2.given i)) in
     let r = octets-all name (λ i. omega (arith, s3.shared-slice-known3.given i)) in
     let l : ((size_of a.v (length text) + size_of a.default-value (length other) + size_of a.max-value 0 + size_of a.min-value 0) + length name) ≤ length m = omega (arith, z.values-size.ensures, h.if3.false) in
     ap (λ (k : ℕ). (numbered (got (k + length name)), w2.write_bytes.new.0)) z.values-size.ensures
     ∙ write-all response (told a.v text a.default-value other a.max-value a.min-value name) m (response-tags a.v text a.default-value other a.max-value a.min-value name ∙ sym q.known.ensures ∙ not-false q.known.result g1.if1.false)
-    (response-fits a.v text a.default-value other a.max-value a.min-value name (held a.v b.well-formed.0) (held a.default-value b.well-formed.1.1.0) (held a.max-value b.well-formed.1.1.1.1.0) (held a.min-value b.well-formed.1.1.1.1.1.0) ∙ e ∙ not-false _ g2.if2.false)
-    ((size_of a.v (length text) + size_of a.default-value (length other) + size_of a.max-value 0 + size_of a.min-value 0) + length name) (response-size a.v text a.default-value other a.max-value a.min-value name r) (octets-all m (λ i. omega (arith, ko.slice-known.given i))) l w2.write_bytes.new.0
-    (response-stored a.v text a.default-value other a.max-value a.min-value name r m w1.put-values.new.0 w2.write_bytes.new.0 l w1.put-values.ensures
+    (response-fits a.v text a.default-value other a.max-value a.min-value name (held a.v b.well-formed.0) o (held a.default-value b.well-formed.1.1.0) p (held a.max-value b.well-formed.1.1.1.1.0) (held a.min-value b.well-formed.1.1.1.1.1.0) r ∙ e ∙ not-false _ g2.if2.false)
+    ((size_of a.v (length text) + size_of a.default-value (length other) + size_of a.max-value 0 + size_of a.min-value 0) + length name) (response-size a.v text a.default-value other a.max-value a.min-value name) (octets-all m (λ i. omega (arith, ko.slice-known.given i))) l w2.write_bytes.new.0
+    (response-stored a.v text a.default-value other a.max-value a.min-value name m w1.put-values.new.0 w2.write_bytes.new.0 l w1.put-values.ensures
     (w2.write_bytes.ensures ∙ ap (λ (k : ℕ). store w1.put-values.new.0 (k * 8) (unpack name)) z.values-size.ensures))
 
 pub encode-spec : {M : Type 1} → statement M

@@ -5,12 +5,12 @@ use Rattle.bits.specs.Width.{width_in, width_of}
 use Rattle.shape.specs.Answer.{refuse_if, map_answer}
 use Rattle.shape.specs.Signed.{signed_of}
 use Rattle.shape.specs.Cast.{nearest, low_bits}
-use Rattle.shape.specs.Shape.{item_bits, items_of, encode, decode, fits, encoded}
+use Rattle.shape.specs.Shape.{item_bits, items_of, all_below, encode, decode, fits, encoded}
 use Rattle.protocol_param.proofs.laws.samples.Statement.{statement}
 use Rattle.protocol_param.proofs.laws.samples.Tie as tie
 
 returns : tie.Need-returns
-unfolding encoded decode encode fits item_bits items_of refuse_if map_answer nearest low_bits signed_of width_of width_in to_bits from_bits octets number unpack bytes digits value_from
+unfolding encoded decode encode fits item_bits items_of all_below refuse_if map_answer nearest low_bits signed_of width_of width_in to_bits from_bits octets number unpack bytes digits value_from
 returns c =
     record {
       integer = refl;

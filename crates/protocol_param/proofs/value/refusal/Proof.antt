@@ -21,32 +21,38 @@ returns-2 c =
     let a = f.before.before.args in
     sym (ap number_of (sized-tag a.cases a.s.now f.if1.false (omega (arith, q.tag.ensures, c.if2.true))))
 
+size-requires : tie.Need-size-requires
+size-requires c κs = search rules
+
 returns-3 : tie.Need-returns-3
 returns-3 c =
-    let g = c.before in
+    let z = c.before in
+    let g = z.before in
     let q = g.before in
     let f = q.before in
     let a = f.before.before.args in
-    sym (ap number_of (sized-cut a.cases a.s.now f.if1.false (omega (arith, q.tag.ensures, g.if2.false)) (omega (arith, c.if3.true))))
+    sym (ap number_of (sized-cut a.cases a.s.now f.if1.false (omega (arith, q.tag.ensures, g.if2.false)) (omega (arith, z.size.ensures, c.if3.true))))
 
 returns-4 : tie.Need-returns-4
 returns-4 c =
     let h = c.before in
-    let g = h.before in
+    let z = h.before in
+    let g = z.before in
     let q = g.before in
     let f = q.before in
     let a = f.before.before.args in
-    sym (ap number_of (sized-long a.cases a.s.now f.if1.false (omega (arith, q.tag.ensures, g.if2.false)) (omega (arith, h.if3.false)) (omega (arith, c.if4.true))))
+    sym (ap number_of (sized-long a.cases a.s.now f.if1.false (omega (arith, q.tag.ensures, g.if2.false)) (omega (arith, z.size.ensures, h.if3.false)) (omega (arith, z.size.ensures, c.if4.true))))
 
 returns-5 : tie.Need-returns-5
 returns-5 c =
     let h = c.before in
-    let g = h.before in
+    let z = h.before in
+    let g = z.before in
     let q = g.before in
     let f = q.before in
     let a = f.before.before.args in
-    sym (ap number_of (sized-all a.cases a.s.now f.if1.false (omega (arith, q.tag.ensures, g.if2.false)) (omega (arith, h.if3.false)) (omega (arith, c.if4.false))))
+    sym (ap number_of (sized-all a.cases a.s.now f.if1.false (omega (arith, q.tag.ensures, g.if2.false)) (omega (arith, z.size.ensures, h.if3.false)) (omega (arith, z.size.ensures, c.if4.false))))
 
 pub refusal-spec : {M : Type 1} → statement M
 refusal-spec =
-    tie.close (tie.spec returns tag-requires returns-2 returns-3 returns-4 returns-5)
+    tie.close (tie.spec returns tag-requires returns-2 size-requires returns-3 returns-4 returns-5)

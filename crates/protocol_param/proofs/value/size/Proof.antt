@@ -1,10 +1,8 @@
 -- `value::size` meets its contract.
-use mathlib.Core.Path.{◌≡◌, sym, ap, ◌∙◌}
+use mathlib.Core.Path.{sym, ap, ◌∙◌}
 use Prim.Native.Nat.{ℕ, ◌+◌}
 use native.Mathlib.Omega.{arith}
-use lib.ListN.{drop}
-use Rattle.protocol_param.proofs.ValueFacts.{size-unknown, size_is, is_zero, text-is, byte-lt}
-use Rattle.protocol_param.specs.Value.{tag_at}
+use Rattle.protocol_param.proofs.ValueFacts.{size-unknown, size_is, is_zero, text-lt}
 use borrow.Author.Rules.{rules}
 use Rattle.protocol_param.proofs.value.size.Statement.{statement}
 use Rattle.protocol_param.proofs.value.size.Tie as tie
@@ -18,11 +16,11 @@ returns c =
     let a = q.before.before.args in
     sym (size-unknown a.cases a.s.now (omega (arith, q.tag.ensures, c.if1.true)))
 
-announced-requires : tie.Need-announced-requires
-announced-requires c κs = search rules
+text-length-requires : tie.Need-text-length-requires
+text-length-requires c κs = search rules
 
 add-result : tie.Need-overflow-add-result
-add-result c = omega (arith, c.announced.ensures, byte-lt (drop 1 c.before.before.before.before.before.args.s.now))
+add-result c = omega (arith, c.text-length.ensures, text-lt c.before.before.before.before.before.args.s.now)
 
 returns-2 : tie.Need-returns-2
 returns-2 c =
@@ -51,10 +49,8 @@ returns-5 c =
     let f = m.before in
     let q = f.before in
     let a = q.before.before.args in
-    let t = sym q.tag.ensures ∙ m.match.keys4 in
-    let five : 5 ≡ a.cases = omega (arith, m.match.keys4, f.if1.false) in
-    ap (λ (k : ℕ). 2 + k) (c.announced.ensures ∙ sym (text-is a.s.now (ap (λ (k : ℕ). tag_at k a.s.now) five ∙ t)))
-    ∙ sym (size_is a.cases a.s.now 4 t (omega (arith, m.match.keys4, f.if1.false)))
+    ap (λ (k : ℕ). 2 + k) c.text-length.ensures
+    ∙ sym (size_is a.cases a.s.now 4 (sym q.tag.ensures ∙ m.match.keys4) (omega (arith, m.match.keys4, f.if1.false)))
 
 returns-6 : tie.Need-returns-6
 returns-6 c =
@@ -71,7 +67,7 @@ size-spec =
     (tie.spec
     tag-requires
     returns
-    announced-requires
+    text-length-requires
     add-result
     returns-2
     returns-3

@@ -1,6 +1,5 @@
 -- `value::write_text` meets its contract: its length, and its bytes.
 use native.Mathlib.Omega.{arith}
-use Rattle.bits.proofs.Octets.{octets-all}
 use Rattle.protocol_param.proofs.WriteFacts.{text-stored}
 use Rattle.protocol_param.proofs.ValueFacts.{eight}
 use borrow.Author.Rules.{rules}
@@ -33,9 +32,8 @@ returns c =
     let b = c.before.before in
     let w = b.before.before.before.before in
     let d = w.before in
-    let k = d.before.before in
-    let a = k.before.before.args in
-    text-stored a.text.now (octets-all a.text.now (λ i. omega (arith, k.shared-slice-known.given i))) a.out.now w.write.new.0 b.write_bytes.new.0 a.at d.width.result d.width.ensures (omega arith) w.write.ensures b.write_bytes.ensures
+    let a = d.before.before.before.before.args in
+    text-stored a.text.now a.out.now w.write.new.0 b.write_bytes.new.0 a.at d.width.result d.width.ensures (omega arith) w.write.ensures b.write_bytes.ensures
 
 pub write-text-spec : {M : Type 1} → statement M
 write-text-spec =

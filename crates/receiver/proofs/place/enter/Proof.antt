@@ -28,7 +28,7 @@ take-requires c κs =
     let a = c.before.before.before.before.before.args in
     let q = c.before.before.before.before.before.requires in
     let o = octets-all a.state.now (λ i. omega (arith, c.before.before.before.before.slice-known.given i)) in
-    (omega (arith, len_is a.state.now a.i a.k a.c a.f a.p.now a.out.now q.0 o q.1.0.awaited q.1.0.few, q.1.0.few), q.0.payload)
+    omega (arith, len_is a.state.now a.i a.k a.c a.f a.p.now a.out.now q.0 o q.1.0.awaited q.1.0.few, q.1.0.few)
 
 grow-requires : tie.Need-grow-requires
 grow-requires c κs =

@@ -17,7 +17,7 @@ add-if2 c =
     let a = c.before.before.before.before.before.before.args in
     let q = c.before.before.before.before.before.before.requires in
     let o = octets-all a.state.now (λ i. omega (arith, c.before.before.before.before.before.slice-known.given i)) in
-    omega (arith, (over-ready a.state.now a.i a.k a.c a.f a.p.now a.out.now q o).1.0, q.payload)
+    omega (arith, (over-ready a.state.now a.i a.k a.c a.f a.p.now a.out.now q o).1, q.payload)
 
 over-requires : tie.Need-over-requires
 over-requires c κs =

@@ -5,12 +5,12 @@ use Rattle.bits.specs.Width.{width_in, width_of}
 use Rattle.shape.specs.Answer.{refuse_if, map_answer}
 use Rattle.shape.specs.Signed.{signed_of}
 use Rattle.shape.specs.Cast.{nearest, low_bits}
-use Rattle.shape.specs.Shape.{item_bits, encode, decode, fits, encoded}
+use Rattle.shape.specs.Shape.{encode, decode, fits, encoded}
 use Rattle.shape.proofs.laws.samples.Statement.{statement}
 use Rattle.shape.proofs.laws.samples.Tie as tie
 
 returns : tie.Need-returns
-unfolding encoded decode encode fits item_bits refuse_if map_answer nearest low_bits signed_of to_bits from_bits octets number unpack bytes digits value_from width_of width_in
+unfolding encoded decode encode fits refuse_if map_answer nearest low_bits signed_of to_bits from_bits octets number unpack bytes digits value_from width_of width_in
 returns c =
     record {
       time-high = refl;
@@ -22,10 +22,6 @@ returns c =
       cut_high = refl;
       cut-high-read = refl;
       cut_low = refl;
-      items-high = refl;
-      items-written = refl;
-      items-cut = refl;
-      items-signed = refl;
       two = refl;
       three-four = (refl, refl);
       five-eight = (refl, refl);

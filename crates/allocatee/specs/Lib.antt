@@ -1,6 +1,0 @@
-pub mod Limits
-pub mod Layout
-pub mod Answer
-pub mod Calls
-pub mod Laws
-pub mod Meeting

@@ -1,0 +1,57 @@
+-- `raw_command::write_patterns` meets its contract: items, then zeros.
+use mathlib.Core.Path.{◌≡◌, ap, ◌∙◌}
+use mathlib.Core.Bool.{false}
+use mathlib.Core.List.{List}
+use Prim.Native.Nat.{ℕ, ◌*◌, ◌-◌}
+use native.Mathlib.Nat.{sub-zero}
+use native.Mathlib.Omega.{arith}
+use lib.ListN.{length, take, replicate}
+use lib.Seq.{length-take-le}
+use Rattle.bits.specs.Order.{bytes_for, store}
+use Rattle.shape.specs.Shape.{item_bits}
+use Rattle.shape.proofs.Fields.{length-item_bits}
+use Rattle.shape.proofs.Writing.{more}
+use borrow.Author.Rules.{rules}
+use Rattle.equipment_esc.proofs.raw_command.write_patterns.Statement.{statement}
+use Rattle.equipment_esc.proofs.raw_command.write_patterns.Tie as tie
+
+long : (c : tie.Start) → length c.args.t1 ≡ 20
+long c = search rules
+
+sub-write : tie.Need-overflow-sub-write
+sub-write c = search rules
+
+part-write-start : tie.Need-slice-bounds-write-start
+part-write-start c = search rules
+
+part-write-end : tie.Need-slice-bounds-write-end
+part-write-end c = search rules
+
+write-requires : tie.Need-write-requires
+write-requires c κs = search rules
+
+mul-pad : tie.Need-overflow-mul-pad
+mul-pad c = search rules
+
+pad-requires : tie.Need-pad-requires
+pad-requires c κs = search rules
+
+same_length : tie.Need-same-length
+same_length c = search rules
+
+returns : tie.Need-returns
+returns c =
+    let d = c.before.before in
+    let w = d.before.before.before.before in
+    let s = w.before.before.before.before.before in
+    let a = s.args in
+    let n = a.n in
+    let xs = take n a.t1 in
+    let l : length (item_bits 14 xs) ≡ n * 14 = length-item_bits 14 xs ∙ ap (λ (k : ℕ). k * 14) (length-take-le n a.t1 (omega (arith, long s))) in
+    more a.out.now w.write.new.0 d.pad.new.0 (item_bits 14 xs) (replicate (bytes_for (n * 14) * 8 - n * 14) false) (n * 14)
+    (w.write.ensures ∙ ap (λ (k : ℕ). store a.out.now 0 (item_bits 14 (take k a.t1))) (sub-zero n)) l (omega arith) d.pad.ensures
+
+pub write-patterns-spec : {M : Type 1} → statement M
+write-patterns-spec =
+    tie.close
+    (tie.spec sub-write part-write-start part-write-end write-requires mul-pad pad-requires same_length returns)

@@ -1,2 +1,0 @@
--- What the code computes: no public contract cites it.
-pub mod Run
