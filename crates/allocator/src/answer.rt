@@ -3,7 +3,7 @@ ghost use Rattle.std.specs.Prelude.{◌≡◌};
 ghost use Rattle.allocator.specs.Answer.{number_of, length_in};
 
 // `Replied` holds the length of the reply, `Refused` the number 8, 13, 15 or 16.
-#[derive(Drop)]
+#[derive(Clone, Copy)]
 pub enum Answer {
     Silent,
     Replied(usize),

@@ -1,4 +1,6 @@
 // The allocator of node IDs, where there is only one on the bus (RULES 16): setting one up, and one call for each Allocation message received.
+#![tactic(auto)]
+
 pub mod answer;
 pub mod laws;
 mod serve;

@@ -9,7 +9,7 @@ ghost use Rattle.allocator_table.specs.inside.Code.{number_of};
 use super::layout::{ENTRIES_AT, ENTRY, ENTRY_COUNT_AT, GATHERED_COUNT_AT, TIME_AT};
 use super::limits::UNIQUE_ID;
 
-#[derive(Drop)]
+#[derive(Clone, Copy)]
 pub struct UniqueId {
     pub low: u64,
     pub high: u64,

@@ -10,7 +10,7 @@ use super::find;
 use super::limits::NODES;
 
 // What is not free besides the entries' node IDs: the own one, and those marked as static nodes', bit n % 64 of `low` or `high`.
-#[derive(Drop)]
+#[derive(Clone, Copy)]
 pub struct Reserved {
     pub own: u32,
     pub low: u64,

@@ -1,5 +1,7 @@
 // What the calls of the transport answer (RULES 13.1): an enum for each, with its number. What a reader has to tell apart is the number and, of a
 // reception, the transfer that was handed out.
+#![tactic(auto)]
+
 pub mod word;
 
 ghost use Rattle.std.specs.Prelude.{◌≡◌, ◌<◌};
@@ -9,7 +11,7 @@ ghost use Rattle.answers.specs.Setup as setup;
 ghost use Rattle.answers.specs.Sending.{no_dispatch, dispatch_in};
 
 // A transfer that was handed out: its length, stream, the closing frame's priority and transfer ID.
-#[derive(Drop)]
+#[derive(Clone, Copy)]
 pub struct Transfer {
     pub len: usize,
     pub transfer_type: u8,
@@ -21,7 +23,7 @@ pub struct Transfer {
 }
 
 // Why a frame is passed over (RULES 4.6).
-#[derive(Drop)]
+#[derive(Clone, Copy)]
 pub enum Reason {
     NoTransfer,
     WrongToggle,
@@ -31,7 +33,7 @@ pub enum Reason {
 }
 
 // The receiver's answers. `Refused` holds the number of the frame check: 2 to 8 or 19.
-#[derive(Drop)]
+#[derive(Clone, Copy)]
 pub enum Answer {
     Taken,
     Handed(Transfer),
@@ -53,14 +55,14 @@ pub enum Outcome {
 }
 
 // What a send made: how many frames, and their transfer ID.
-#[derive(Drop)]
+#[derive(Clone, Copy)]
 pub struct Dispatch {
     pub frames: usize,
     pub transfer: u8,
 }
 
 // The sender's answers.
-#[derive(Drop)]
+#[derive(Clone, Copy)]
 pub enum Sent {
     Done(Dispatch),
     OutputSmall,

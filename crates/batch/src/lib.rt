@@ -1,4 +1,6 @@
 // Several frames in one call (RULES 5.8): records of frames that came, received one after the other on a state that is tested once.
+#![tactic(auto)]
+
 pub mod laws;
 pub mod layout;
 
@@ -16,7 +18,7 @@ use layout::{ARRIVAL, DATA_AT, ID_AT, INTERFACE_AT, LENGTH_AT, RECORDS, RESULT};
 use rules::limits::{FRAME_DATA, PAYLOAD};
 
 // What a call on several frames answers: how many records were used up, or a state at fault.
-#[derive(Drop)]
+#[derive(Clone, Copy)]
 pub enum Progress {
     Used(usize),
     Faulty,

@@ -1,4 +1,6 @@
 // Internal functions and messages under C names, for bench/ and for the comparison of conversions in tests/. Not part of the product.
+#![tactic(auto)]
+
 mod battery;
 mod floats;
 mod info;

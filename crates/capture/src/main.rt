@@ -1,6 +1,8 @@
 // The program `capture` (RULES 18.7): a log on standard input, its capture on standard output, a block at a time. Reading and writing are here; lines,
 // records, checksum and trailer are those of `capture_convert`. A refusal is a line on standard error; what was written is then worth nothing, and
 // ../../tecelume throws it away.
+#![tactic(auto)]
+
 ghost use Rattle.std.specs.Prelude.{◌≡◌, ◌≤◌, length};
 
 use capture_convert::{records, trailer};

@@ -3,7 +3,7 @@ ghost use Rattle.std.specs.Prelude.{◌≡◌, ◌<◌};
 ghost use Rattle.capture_convert.specs.Answer.{number_of, length_in};
 
 // `Done` holds the length of what was written.
-#[derive(Drop)]
+#[derive(Clone, Copy)]
 pub enum Converted {
     Done(usize),
     IllFormed,

@@ -1,4 +1,6 @@
 // Logs as captures and back (RULES 18): the two calls, and their parts, which the programs `capture` and `uncapture` run on a file block by block.
+#![tactic(auto)]
+
 pub mod answer;
 pub mod laws;
 pub mod lines;

@@ -11,7 +11,7 @@ pub const SIZE: usize = 16;
 const MARK: u64 = 0x5443;
 
 // A trailer that was read: whether mark and distance are right, the count, and the checksum.
-#[derive(Drop)]
+#[derive(Clone, Copy)]
 pub struct Trailer {
     pub ok: bool,
     pub count: usize,

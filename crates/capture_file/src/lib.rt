@@ -1,4 +1,6 @@
 // A capture on standard input, which must be a file (RULES 18.2): its trailer first, then its records, a block at a time. For programs that read one.
+#![tactic(auto)]
+
 ghost use Rattle.std.specs.Prelude.{◌*◌, ◌^◌, ◌≤◌, ◌<◌, length};
 ghost use Rattle.capture_record.specs.Record.{record_size};
 

@@ -1,4 +1,6 @@
 // The records of a capture (RULES 18.1): one read, with the test that a line of a log can carry it (18.4), and one written.
+#![tactic(auto)]
+
 ghost use Rattle.std.specs.Prelude.{◌≡◌, ◌+◌, ◌≤◌, length};
 ghost use Rattle.bits.specs.Order.{Octets};
 ghost use Rattle.bits.specs.Part.{splice};

@@ -1,5 +1,7 @@
 // The transfer checksum (RULES 6.2) by a table of 256 entries, one step a byte: twice as fast as `checksum::crc16` where the input is long, as the
 // records of a capture in a file are.
+#![tactic(auto)]
+
 ghost use Rattle.std.specs.Prelude.{◌≡◌};
 ghost use Rattle.checksum.specs.Crc.{crc_byte, crc_over};
 ghost use Rattle.checksum.specs.Crc16.{ccitt};

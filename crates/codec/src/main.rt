@@ -1,5 +1,7 @@
 // Messages by hand: one request a line on standard input, decode or encode, and one answer a line on standard output.
 // Lines are gathered from large reads, and the answers to a read's lines are written together.
+#![tactic(auto)]
+
 mod allocation;
 mod battery_info;
 mod decode;

@@ -1,4 +1,6 @@
 // Requests and answers of the codec program as text, for every type: numbers, lists, names, fields.
+#![tactic(auto)]
+
 pub mod answer;
 pub mod fields;
 pub mod float;

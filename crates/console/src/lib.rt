@@ -1,5 +1,6 @@
 // What the programs say when reading or writing fails: a line on standard error. A program has no exit status of its own;
 // ../../tecelume gives one by that line.
+#![tactic(auto)]
 
 // Internal. Writes the text to standard output. False, and the line, if it could not be written whole.
 pub fn written(text: &[u8]) -> bool {

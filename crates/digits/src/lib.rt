@@ -1,4 +1,6 @@
 // Numbers in text (RULES 12.3): decimal and capital hexadecimal digits, read and written.
+#![tactic(auto)]
+
 ghost use Rattle.std.specs.Prelude.{◌≡◌, ◌∷◌, [], ◌+◌, ◌*◌, ◌%◌, ◌≤◌, ◌<◌, length, drop};
 ghost use Rattle.bits.specs.Part.{splice};
 ghost use Rattle.digits.specs.Digits.{glyph, digits, count_of, words, hexes, digit_of, number as number_of};

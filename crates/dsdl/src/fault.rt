@@ -20,7 +20,7 @@ use dsdl_type::{base, initializer};
 
 // What is read so far: the line at fault, or 0; whether a marker came; of the part, the line of its union directive, or 0, and how many
 // attributes, fields and names it has.
-#[derive(Drop)]
+#[derive(Clone, Copy)]
 pub struct Reading {
     pub fault: usize,
     pub response: bool,

@@ -1,4 +1,6 @@
 // Whole definitions (RULES 17.8, 17.9).
+#![tactic(auto)]
+
 pub mod fault;
 pub mod laws;
 pub mod names;

@@ -12,7 +12,7 @@ use dsdl_text::word::Word;
 use dsdl_text::{class, name, text, word};
 use dsdl_type::{base, size};
 
-#[derive(Drop)]
+#[derive(Clone, Copy)]
 pub enum Cast {
     Unsaid,
     Saturated,

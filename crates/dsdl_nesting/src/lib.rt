@@ -1,4 +1,6 @@
 // Nested types and signatures (RULES 17.10, 17.11).
+#![tactic(auto)]
+
 pub mod base;
 pub mod index;
 pub mod marks;

@@ -2,7 +2,7 @@
 ghost use Rattle.std.specs.Prelude.{◌≡◌};
 ghost use Rattle.dsdl_signature.specs.Call.{number_of, definition_in, line_in};
 
-#[derive(Drop)]
+#[derive(Clone, Copy)]
 pub enum Answer {
     Done,
     // 43: more definitions than 8, or one that is too long, or a name twice.

@@ -1,4 +1,6 @@
 // Signatures from definitions (RULES 17.10 to 17.12).
+#![tactic(auto)]
+
 pub mod answer;
 pub mod call;
 pub mod fault;

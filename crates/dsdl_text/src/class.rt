@@ -2,7 +2,7 @@
 ghost use Rattle.std.specs.Prelude.{◌≡◌, ◌||◌, ◌≤◌, eqb, length};
 ghost use Rattle.dsdl_text.specs.Class.{within as is_within, is_blank, is_letter, is_digit, is_in, run as run_of};
 
-#[derive(Drop)]
+#[derive(Clone, Copy)]
 pub enum Class {
     // Not the end of a line.
     Inline,

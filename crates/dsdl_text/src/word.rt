@@ -6,7 +6,7 @@ use super::class;
 use super::class::Class;
 
 // Where a word begins and ends.
-#[derive(Drop)]
+#[derive(Clone, Copy)]
 pub struct Word {
     pub at: usize,
     pub end: usize,

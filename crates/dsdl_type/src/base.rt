@@ -9,7 +9,7 @@ use dsdl_text::class::Class;
 use dsdl_text::{class, name, text};
 
 // A primitive type with its bits, a void type, a nested type, or none.
-#[derive(Drop)]
+#[derive(Clone, Copy)]
 pub enum Base {
     Boolean,
     Signed(u32),

@@ -31,7 +31,7 @@ pub struct BatteryInfo {
 }
 
 // The same, each float as the 16 bits of its binary16.
-#[derive(Drop)]
+#[derive(Clone, Copy)]
 pub struct Raw {
     pub temperature: u16,
     pub voltage: u16,

@@ -3,7 +3,7 @@ ghost use Rattle.std.specs.Prelude.{◌≡◌, ◌^◌, ◌<◌};
 ghost use Rattle.frame.specs.inside.Head.{head_of};
 ghost use Rattle.rules.specs.Frame as rules;
 
-#[derive(Drop)]
+#[derive(Clone, Copy)]
 pub struct Head {
     pub transfer_type: u8,
     pub type_id: u16,

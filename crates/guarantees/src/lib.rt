@@ -1,4 +1,6 @@
 // What `receiver::receive` makes of a lent state, as theorems about its contract. The functions here have no body: each one's contract is a theorem.
+#![tactic(auto)]
+
 ghost use Rattle.guarantees.specs.Blocks.{BlockLaw};
 ghost use Rattle.guarantees.specs.Condition3.{lent_bytes};
 ghost use Rattle.guarantees.specs.Example.{LentExample};

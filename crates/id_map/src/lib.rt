@@ -1,4 +1,6 @@
 // The transfer-ID map in lent bytes (RULES 8): its layout, setting one up, finding and storing an entry, and the faults that answer 20.
+#![tactic(auto)]
+
 pub mod entry;
 pub mod find;
 pub mod laws;

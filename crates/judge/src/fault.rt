@@ -7,7 +7,7 @@ use capture_convert::lines;
 use frame::head::Head;
 
 // What its record says. The head is that of the ID's lower 29 bits.
-#[derive(Drop)]
+#[derive(Clone, Copy)]
 pub struct Fault {
     pub id: u32,
     pub len: usize,

@@ -1,5 +1,7 @@
 // The program `judge` (RULES 19.11): a capture on standard input, which must be a file, and the verdict on standard output, with fixed memory. Reading is
 // here; the verdict is that of `judge_capture`, a block of records at a time. ../../tecelume gives the exit status by what is on standard error.
+#![tactic(auto)]
+
 mod explain;
 mod fault;
 mod list;
@@ -20,7 +22,7 @@ use judge_streams::SIZE;
 
 // Records: how many are left and how many were read; the checksum of these; the number of the frame at fault and which one it is, 0 and 0 if there is
 // none so far; whether reading failed.
-#[derive(Drop)]
+#[derive(Clone, Copy)]
 struct Rest {
     left: usize,
     done: u64,

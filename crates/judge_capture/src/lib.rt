@@ -1,4 +1,6 @@
 // A capture is judged (RULES 19): the call, and its parts, which the program `judge` runs on a file block by block.
+#![tactic(auto)]
+
 pub mod laws;
 pub mod records;
 pub mod verdict;

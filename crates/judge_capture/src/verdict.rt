@@ -3,7 +3,7 @@ ghost use Rattle.std.specs.Prelude.{◌≡◌};
 ghost use Rattle.judge_capture.specs.Answer.{number_of, frame_of};
 
 // `Fails` holds the number and the frame that it is for, counted from 0.
-#[derive(Drop)]
+#[derive(Clone, Copy)]
 pub enum Verdict {
     Pass,
     Fails(u8, usize),

@@ -1,4 +1,6 @@
 // Checking a sender by its capture (RULES 19) as definitions, in specs/. The functions here have no body: each one's contract is a theorem about them.
+#![tactic(auto)]
+
 pub mod limits;
 
 ghost use Rattle.judge_rules.specs.Laws.{JudgeLaws, Readings};

@@ -1,4 +1,6 @@
 // One stream of a capture that is judged (RULES 19.8): what is kept of it, and one frame more.
+#![tactic(auto)]
+
 ghost use Rattle.std.specs.Prelude.{◌≡◌, not, ◌&&◌, [], ◌+◌, ◌<◌, leb};
 ghost use Rattle.std.proofs.Math.Option.{none, some};
 ghost use Rattle.judge_rules.specs.inside.Brief.{rests};
@@ -12,7 +14,7 @@ use rules::limits::{FRAME_PAYLOAD, GATHERED, UNUSED_AGE};
 
 // What is kept of a stream: the ID, the start's time and the transfer ID of its last transfer. Of one that is not over yet, the next toggle, how many
 // bytes there are so far, the first two as a number and the checksum of the others; the count is 0 between transfers.
-#[derive(Drop)]
+#[derive(Clone, Copy)]
 pub struct Kept {
     pub id: u32,
     pub since: u64,
@@ -24,7 +26,7 @@ pub struct Kept {
 }
 
 // What is read of a frame, but for its payload.
-#[derive(Drop)]
+#[derive(Clone, Copy)]
 pub struct Seen {
     pub id: u32,
     pub time: u64,

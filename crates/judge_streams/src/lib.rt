@@ -1,4 +1,6 @@
 // The streams of a capture that is judged (RULES 19.8): a table in words that the caller lends, and one frame more.
+#![tactic(auto)]
+
 ghost use Rattle.std.specs.Prelude.{◌≡◌, false, ◌≤◌, ◌<◌, length};
 ghost use Rattle.std.proofs.Math.Option.{none};
 ghost use Rattle.judge_rules.specs.Limits.{streams_max};

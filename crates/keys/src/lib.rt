@@ -1,4 +1,6 @@
 // Tables of keys of 32 bits, 0 for an empty place: loaded once from lent bytes, marked and counted on a walk that finds two alike, and the lowest place of one.
+#![tactic(auto)]
+
 ghost use Rattle.std.specs.Prelude.{◌||◌, ◌≡◌, ◌+◌, ◌*◌, ◌≤◌, ◌<◌, eqb, length, get_or, set};
 ghost use Rattle.bits.specs.Tabulate.{tabulate};
 ghost use Rattle.keys.specs.inside.Keys.{word_at, lowest, marks_max, mark_at};

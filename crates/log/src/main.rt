@@ -1,4 +1,6 @@
 // The log program (RULES 12): standard input to standard output, a block at a time. Reading and writing are here, all else is in `log_feed`.
+#![tactic(auto)]
+
 ghost use Rattle.std.specs.Prelude.{◌≡◌, true, ◌≤◌, length};
 ghost use Rattle.state.specs.Layout.{size};
 ghost use Rattle.state.specs.Sound.{sound_state};

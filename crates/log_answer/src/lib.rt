@@ -1,4 +1,6 @@
 // The text of an answer in a log, after the time (RULES 12.5).
+#![tactic(auto)]
+
 ghost use Rattle.std.specs.Prelude.{◌≡◌, [], ◌∷◌, ◌+◌, ◌*◌, ◌≤◌, ◌<◌, length};
 ghost use Rattle.log_answer.specs.Answer.{numbered as numbered_text, letter_of, payload_text, transfer_text, answer_text};
 ghost use Rattle.digits.specs.inside.Text.{Puts};

@@ -1,4 +1,6 @@
 // The log program (RULES 12) but for reading and writing: blocks of input in, text out.
+#![tactic(auto)]
+
 ghost use Rattle.std.specs.Prelude.{◌≡◌, true, ◌+◌, ◌*◌, ◌-◌, ◌≤◌, length, take};
 ghost use Rattle.bits.specs.Part.{span};
 ghost use Rattle.state.specs.Layout.{size};

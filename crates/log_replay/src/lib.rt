@@ -1,4 +1,6 @@
 // The log program's work on one line (RULES 12.8): reading it, receiving its frame, writing the answer, counting.
+#![tactic(auto)]
+
 ghost use Rattle.std.specs.Prelude.{◌≡◌, true, [], ◌+◌, ◌*◌, ◌≤◌, ◌<◌, length};
 ghost use Rattle.std.proofs.Math.Option.{none};
 ghost use Rattle.log_line.specs.Reading.{said, line_in};

@@ -1,4 +1,6 @@
 // What the log program's receiver subscribes to (RULES 12.1).
+#![tactic(auto)]
+
 ghost use Rattle.std.specs.Prelude.{◌≡◌, ◌+◌, ◌*◌, ◌≤◌, length};
 ghost use Rattle.bits.specs.Part.{splice};
 ghost use Rattle.log_subscriptions.specs.Subscriptions.{record13, subscriptions as subscriptions_of};

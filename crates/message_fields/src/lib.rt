@@ -1,5 +1,7 @@
 // Messages as rows of numbers of 64 bits, in which C lends and gets them (RULES 13.5). A file for each type: `decode` reads a payload into a row,
 // `encode` writes the message of a row and of lists of bytes.
+#![tactic(auto)]
+
 pub mod allocation;
 pub mod battery_info;
 pub mod execute_opcode_request;

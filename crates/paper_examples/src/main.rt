@@ -1,4 +1,6 @@
 // Runs the worked examples of RULES 15 through the proved functions; the stored output is the comparison.
+#![tactic(auto)]
+
 mod allocation;
 
 use bits::field;

@@ -1,4 +1,6 @@
 // Correcting the checksum of a transfer for a byte that is rewritten in passing (RULES 6.7).
+#![tactic(auto)]
+
 pub mod laws;
 
 ghost use Rattle.std.specs.Prelude.{◌≡◌, ◌∷◌, ◌≤◌, ◌<◌, replicate};
@@ -9,7 +11,7 @@ ghost use Rattle.patch.specs.Patch.{patches};
 ghost use Rattle.patch.specs.inside.Powers.{IsPowers, product_of};
 
 // `TooLong`: with so many bytes after it the byte is in no payload of at most 512.
-#[derive(Drop)]
+#[derive(Clone, Copy)]
 pub enum Patched {
     Corrected(u16),
     TooLong,

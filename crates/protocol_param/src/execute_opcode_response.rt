@@ -7,7 +7,7 @@ ghost use Rattle.protocol_param.specs.ExecuteOpcode.{opcode_response, response_v
 use shape::answer::Written;
 use shape::{items, last, number};
 
-#[derive(Drop)]
+#[derive(Clone, Copy)]
 pub struct Response {
     pub argument: i64,
     pub ok: i64,

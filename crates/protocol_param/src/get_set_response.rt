@@ -14,7 +14,7 @@ use bits::{field, width};
 use shape::answer::{Place, Written};
 use shape::part;
 
-#[derive(Drop)]
+#[derive(Clone, Copy)]
 pub struct Response {
     pub value: Value,
     // of a value that is no text, empty

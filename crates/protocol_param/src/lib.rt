@@ -1,4 +1,6 @@
 // uavcan.protocol.param: GetSet and ExecuteOpcode.
+#![tactic(auto)]
+
 pub mod execute_opcode_request;
 pub mod execute_opcode_response;
 pub mod get_set_request;

@@ -10,7 +10,7 @@ use bits::{field, width};
 use shape::{number, part};
 
 // A number is in the value itself. A text is beside it: a slice for a writer, a place from a reader.
-#[derive(Drop)]
+#[derive(Clone, Copy)]
 pub enum Value {
     Empty,
     Integer(i64),

@@ -1,4 +1,6 @@
 // The receiver (RULES 4, 5): one frame on a lent state.
+#![tactic(auto)]
+
 mod place;
 
 ghost use Rattle.std.specs.Prelude.{◌≡◌, true};

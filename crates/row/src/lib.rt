@@ -1,4 +1,6 @@
 // Rows of numbers of 64 bits: the form in which C lends and gets the fields of a message (RULES 13.5).
+#![tactic(auto)]
+
 ghost use Rattle.std.specs.Prelude.{◌≡◌, ◌++◌, ◌^◌, ◌≤◌, ◌<◌, length, drop};
 ghost use Rattle.shape.specs.Answer.{got, answer_of};
 ghost use Rattle.shape.specs.Cast.{low_bits};

@@ -1,4 +1,6 @@
 // The rules (RULES 2 to 4, 7, 8 and 14) as definitions, in specs/. The functions here have no body: each one's contract is a theorem about them.
+#![tactic(auto)]
+
 pub mod limits;
 
 ghost use Rattle.rules.specs.BlockBounds.{BlockBounds};

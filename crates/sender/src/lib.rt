@@ -1,4 +1,6 @@
 // The sender (RULES 7): a payload into records of frames, over a lent transfer-ID map.
+#![tactic(auto)]
+
 mod check;
 mod frames;
 pub mod laws;
@@ -16,7 +18,7 @@ use answers::{Dispatch, Sent};
 use rules::limits::{FRAME_RECORD, PAYLOAD};
 
 // What is to be sent, but for its payload. The transfer ID is for a response and the discriminator for an anonymous message; elsewhere they are ignored.
-#[derive(Drop)]
+#[derive(Clone, Copy)]
 pub struct Outgoing {
     pub own: u32,
     pub transfer_type: u32,

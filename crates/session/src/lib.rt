@@ -1,4 +1,6 @@
 // A session by value but for its bytes, with its methods, and the tests and answers of one frame of its stream (RULES 4.3 to 4.8).
+#![tactic(auto)]
+
 ghost use Rattle.std.specs.Prelude.{◌≡◌, true, false, ◌&&◌, [], ◌+◌, ◌-◌, ◌≤◌, ◌<◌, ltb, eqb, length, take};
 ghost use Rattle.std.proofs.Math.Option.{some};
 ghost use Rattle.bits.specs.Part.{span};
@@ -14,7 +16,7 @@ use frame::head::Head;
 use rules::limits::{OLD_AGE, SWITCH_DELAY};
 
 // A session by value: all but the bytes in hand, of which it has the number.
-#[derive(Drop)]
+#[derive(Clone, Copy)]
 pub struct Session {
     pub expected: u8,
     pub toggle: bool,
@@ -24,7 +26,7 @@ pub struct Session {
 }
 
 // What the rules read of a frame, but for its payload: its head, the signature of its type, when it came and by which interface.
-#[derive(Drop)]
+#[derive(Clone, Copy)]
 pub struct Incoming {
     pub head: Head,
     pub signature: u64,

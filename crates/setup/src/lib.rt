@@ -1,4 +1,6 @@
 // Setting a receiver up in a lent state (RULES 3.3 to 3.5).
+#![tactic(auto)]
+
 pub mod laws;
 
 ghost use Rattle.std.specs.Prelude.{◌≡◌, ◌++◌, ◌+◌, ◌*◌, ◌-◌, ◌/◌, ◌%◌, ◌≤◌, ◌<◌, length, drop, replicate};

@@ -8,7 +8,7 @@ pub enum Written {
 }
 
 // Where a list is in the payload that was read (RULES 9.9): its first byte and its length. For an empty list, where it would start.
-#[derive(Drop)]
+#[derive(Clone, Copy)]
 pub struct Place {
     pub at: usize,
     pub len: usize,

@@ -1,6 +1,8 @@
 // The program signature: type definitions on standard input, the signature of each on standard output, or a refusal on standard error. The
 // input is a byte that is 1 if forms are wanted, a byte that says how many definitions there are, at most nine, and then the lengths and the
 // source of RULES 17.12. ../../tecelume puts it together, and says more of a refusal.
+#![tactic(auto)]
+
 use bits::le;
 use dsdl_signature::answer::Answer;
 

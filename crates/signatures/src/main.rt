@@ -1,5 +1,7 @@
 // Works out the signatures of the message types from texts of their definitions (RULES 17), and prints each beside the number of the
 // public DroneCAN set.
+#![tactic(auto)]
+
 use bits::le;
 
 // How many definitions there are, one after the other in a source; where the next one goes; the lengths of their names and texts (RULES 17.12).

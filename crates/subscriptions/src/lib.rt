@@ -1,4 +1,6 @@
 // The subscriptions in a receiver's state (RULES 3.4, 3.6).
+#![tactic(auto)]
+
 ghost use Rattle.std.specs.Prelude.{◌≡◌, ◌≤◌, ◌<◌, length};
 ghost use Rattle.rules.specs.Limits.{subscriptions_max};
 ghost use Rattle.rules.specs.Setup.{all_fit, subscribed};

@@ -1,4 +1,6 @@
 // The C interface: extern "C" entry points around the proved calls. include/tecelume.h documents them.
+#![tactic(auto)]
+
 mod messages;
 
 ghost use Rattle.std.specs.Prelude.{◌≡◌, ◌%◌};

@@ -1,4 +1,6 @@
 // The transport in one place: the public calls of its crates, and their types. It decides nothing and adds nothing.
+#![tactic(auto)]
+
 pub use answers::{Answer, Outcome, Sent, Transfer};
 pub use batch::{Progress, receive_many};
 pub use id_map::{setup as map_setup, size as map_size};

@@ -1,4 +1,6 @@
 // The standard types (RULES 10.1): kind, data type ID and signature. What is proved and uses a signature takes it from here.
+#![tactic(auto)]
+
 ghost use Rattle.std.specs.Prelude.{◌≡◌};
 ghost use Rattle.types.specs.Types.{signature_of};
 

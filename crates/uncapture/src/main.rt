@@ -1,6 +1,8 @@
 // The program `uncapture` (RULES 18.7): a capture on standard input, which must be a file, its log on standard output, a block at a time. Reading and
 // writing are here; trailer, records, checksum and lines are those of `capture_file` and `capture_convert`. A refusal is a line on standard error; what
 // was written is then worth nothing, and ../../tecelume throws it away.
+#![tactic(auto)]
+
 ghost use Rattle.std.specs.Prelude.{◌≡◌, ◌<◌, ◌≤◌, length};
 
 use capture_convert::lines;
@@ -12,7 +14,7 @@ const OUT: usize = 48128;
 
 // Records: how many are left and how many were read; the checksum of these; the first that no line can carry, counted from 1, or 0; whether
 // reading or writing failed.
-#[derive(Drop)]
+#[derive(Clone, Copy)]
 struct Rest {
     left: usize,
     done: u64,

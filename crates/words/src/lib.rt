@@ -1,4 +1,6 @@
 // The result words of the C interface (RULES 13.3), but for that of a reception, which is in `answers`.
+#![tactic(auto)]
+
 pub mod laws;
 
 ghost use Rattle.std.specs.Prelude.{◌≡◌, ◌^◌, ◌≤◌, ◌<◌};

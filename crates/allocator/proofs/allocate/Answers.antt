@@ -1,0 +1,124 @@
+-- `allocate` meets its contract: the refusals in order, then the message.
+use mathlib.Core.Path.{◌≡◌, sym, ap, ◌∙◌}
+use mathlib.Core.Bool.{true, false}
+use mathlib.Core.List.{List}
+use Prim.Native.Nat.{ℕ, ◌≤◌, ◌<◌}
+use native.Mathlib.Omega.{arith}
+use borrow.Author.Tests.{not-true, not-false, eq-eqb, ne_eqb, lt-ltb, le-ltb}
+use Rattle.bits.proofs.Octets.{octets-all}
+use Rattle.shape.specs.Answer.{Answer, refused, got}
+use Rattle.shape.specs.Shape.{Values, decoded}
+use Rattle.protocol_dynamic_node_id.specs.Allocation.{allocation, unique_id_in}
+use Rattle.allocator_table.specs.Layout.{sound_state}
+use Rattle.allocator.specs.Allocate.{returned, performs, Fields, fields_of, decide, on_message, allocated}
+use Rattle.allocator.specs.Stage.{joined}
+use Rattle.allocator.specs.declared.Request.{Request}
+use Rattle.allocator.specs.declared.answer.Answer.TheVariants.{Refused, Faulty}
+use Rattle.allocator.proofs.Messages.{casts, cast_is, read-refused, node-held, first-held, read-got}
+use borrow.Author.Rules.{rules}
+use Rattle.allocator.proofs.allocate.Goals as goal
+
+module _ (m : List ℕ) (q : Request) (p out : List ℕ) where
+  faulty : sound_state m ≡ false → returned Faulty m out ≡ allocated m q p out
+  unfolding allocated
+  faulty s = rw s
+
+  module _ (s : sound_state m ≡ true) where
+    own-none : q.reserved.own ≡ 0 → returned (Refused 13) m out ≡ allocated m q p out
+    unfolding allocated
+    own-none z = rw (s, eq-eqb q.reserved.own 0 z)
+
+    module _ (z : q.reserved.own ≡ 0 → ⊥) where
+      own-large : 127 < q.reserved.own → returned (Refused 13) m out ≡ allocated m q p out
+      unfolding allocated
+      own-large l = rw (s, ne_eqb q.reserved.own 0 z, lt-ltb 127 q.reserved.own l)
+
+      by-message : q.reserved.own ≤ 127 → on_message (decoded allocation p) m q out ≡ allocated m q p out
+      unfolding allocated
+      by-message l = rw (s, ne_eqb q.reserved.own 0 z, le-ltb 127 q.reserved.own l)
+
+-- the two cases of a message
+unread : (n : ℕ) (x : Answer (Values allocation)) (m : List ℕ) (q : Request) (out : List ℕ) → x ≡ refused n → returned (Refused n) m out ≡ on_message x m q out
+unfolding on_message
+unread n x m q out e = rw e
+
+read : (v : Values allocation) (x : Answer (Values allocation)) (m : List ℕ) (q : Request) (out : List ℕ) → x ≡ got v
+    → performs (decide m q (fields_of v)) m q.time (joined m q.time v.1.1) out ≡ on_message x m q out
+unfolding on_message
+read v x m q out e = rw e
+
+fields : {n n' f f' : ℕ} {u u' : List ℕ} → n ≡ n' → f ≡ f' → u ≡ u' → ◌≡◌ {A = Fields} (n, (f, u)) (n', (f', u'))
+fields a b c = cc
+
+pub returns-then-not-is_sound : goal.returns-then-not-is_sound
+returns-then-not-is_sound c = let k = c in let a = k.args in faulty a.state.now a.q a.payload.now a.out.now (sym k.is_sound.ensures ∙ not-true _ c.if-not-is_sound.true)
+
+pub returns-then-reserved-eq0 : goal.returns-then-reserved-eq0
+returns-then-reserved-eq0 c =
+    let f = c in
+    let k = f in
+    let a = k.args in
+    own-none a.state.now a.q a.payload.now a.out.now (sym k.is_sound.ensures ∙ not-false _ f.if-not-is_sound.false) c.if-reserved-eq0.true
+
+pub returns-then-reserved-gt127 : goal.returns-then-reserved-gt127
+returns-then-reserved-gt127 c =
+    let z = c in
+    let f = z in
+    let k = f in
+    let a = k.args in
+    own-large a.state.now a.q a.payload.now a.out.now (sym k.is_sound.ensures ∙ not-false _ f.if-not-is_sound.false) z.if-reserved-eq0.false c.if-reserved-gt127.true
+
+pub overflow_cast-a : goal.overflow_cast-a
+overflow_cast-a c =
+    let r = c in
+    let d = r in
+    let s = d in
+    let p = s.args.payload.now in
+    let x = r.in-Got.a in
+    casts x.node_id (node-held p d.decode-read.result d.decode-read.ensures (octets-all p (λ i. omega (arith, s.shared_slice_known-1.given i))) x r.in-Got.is)
+
+pub overflow_cast-a-in-Got : goal.overflow_cast-a-in-Got
+overflow_cast-a-in-Got c =
+    let r = c in
+    let d = r in
+    let s = d in
+    let p = s.args.payload.now in
+    let x = r.in-Got.a in
+    casts x.first_part_of_unique_id (first-held p d.decode-read.result d.decode-read.ensures (octets-all p (λ i. omega (arith, s.shared_slice_known-1.given i))) x r.in-Got.is)
+
+pub message-requires : goal.message-requires
+message-requires c = let f = c in let k = f in sym k.is_sound.ensures ∙ not-false _ f.if-not-is_sound.false
+
+pub returns-in-Refused : goal.returns-in-Refused
+returns-in-Refused c =
+    let d = c in
+    let l = d in
+    let z = l in
+    let f = z in
+    let k = f in
+    let a = k.args in
+    unread c.in-Refused.n (decoded allocation a.payload.now) a.state.now a.q a.out.now
+    (read-refused a.payload.now d.decode-read.result d.decode-read.ensures c.in-Refused.n c.in-Refused.is)
+    ∙ by-message a.state.now a.q a.payload.now a.out.now (sym k.is_sound.ensures ∙ not-false _ f.if-not-is_sound.false) z.if-reserved-eq0.false (omega arith)
+
+pub returns-in-Got : goal.returns-in-Got
+returns-in-Got c =
+    let w = c in
+    let y = w in
+    let r = y in
+    let d = r in
+    let l = d in
+    let z = d in
+    let f = z in
+    let k = f in
+    let s = k in
+    let a = s.args in
+    let p = a.payload.now in
+    let x = r.in-Got.a in
+    let o = octets-all p (λ i. omega (arith, s.shared_slice_known-1.given i)) in
+    let node = cast_is x.node_id (node-held p d.decode-read.result d.decode-read.ensures o x r.in-Got.is) in
+    let first = cast_is x.first_part_of_unique_id (first-held p d.decode-read.result d.decode-read.ensures o x r.in-Got.is) in
+    w.message.ensures
+    ∙ ap (λ (v : Fields). performs (decide a.state.now a.q v) a.state.now a.q.time (joined a.state.now a.q.time v.1.1) a.out.now) (fields node first y.unique_id.ensures)
+    ∙ read (x.node_id, (x.first_part_of_unique_id, unique_id_in p)) (decoded allocation p) a.state.now a.q a.out.now (read-got p d.decode-read.result d.decode-read.ensures o x r.in-Got.is)
+    ∙ by-message a.state.now a.q p a.out.now (sym k.is_sound.ensures ∙ not-false _ f.if-not-is_sound.false) z.if-reserved-eq0.false (omega arith)

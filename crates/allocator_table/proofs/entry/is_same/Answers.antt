@@ -1,0 +1,13 @@
+-- `entry::is_same` meets its contract, case by case.
+use native.Mathlib.Omega.{arith}
+use Rattle.allocator_table.proofs.Numbers.{same_low, differ-high}
+use Rattle.allocator_table.proofs.entry.is_same.Goals as goal
+
+pub returns-then-a-b : goal.returns-then-a-b
+returns-then-a-b c = same_low _ _ _ _ c.if-a-b.true
+
+pub returns : goal.returns
+returns c =
+    let t = c in
+    let a = t.args in
+    differ-high a.a.low a.a.high a.b.low a.b.high (omega arith) (omega arith) t.if-a-b.false

@@ -1,0 +1,13 @@
+-- `entry::read` meets its contract.
+use mathlib.Core.Path.{ap₂, ◌∙◌}
+use Prim.Native.Nat.{ℕ, ◌+◌, ◌*◌, ◌^◌}
+use native.Mathlib.Omega.{arith}
+use Rattle.allocator_table.proofs.Numbers.{halves}
+use borrow.Author.Rules.{rules}
+use Rattle.allocator_table.proofs.entry.read.Goals as goal
+
+pub returns : goal.returns
+returns c =
+    let k = c in
+    let a = k.args in
+    ap₂ (λ (x y : ℕ). x + 2 ^ 64 * y) k.get_at.ensures c.get_at-2.ensures ∙ halves a.s.now a.at (omega arith)

@@ -1,0 +1,55 @@
+-- `find::is_held` meets its contract: no entry passed has the node ID.
+use mathlib.Core.Path.{◌≡◌, refl, sym, ap, ◌∙◌}
+use Prim.Native.Nat.{◌-◌, ◌≤◌}
+use native.Mathlib.Numerals.{add-one}
+use native.Mathlib.Omega.{arith}
+use borrow.Author.Tests.{eq-eqb, ne_eqb}
+use Rattle.allocator_table.specs.Table.{holds}
+use Rattle.allocator_table.proofs.Walk.{rest, by_count, held_none, held-hit, held-miss}
+use Rattle.allocator_table.proofs.Soundness.{long-enough, entries-few}
+use Rattle.allocator_table.proofs.find.is_held.Goals as goal
+
+pub count-n-requires : goal.count-n-requires
+count-n-requires c = long-enough _ c.requires
+
+pub loop-i-init : goal.loop-i-init
+loop-i-init c = (omega arith, refl)
+
+pub node-requires : goal.node-requires
+node-requires c =
+    let k = c in
+    let p = k in
+    let l = long-enough p.args.state.now p.requires in
+    omega (arith, k.count-n.ensures, entries-few p.args.state.now p.requires)
+
+pub returns-then-node : goal.returns-then-node
+returns-then-node c =
+    let l = c in
+    let k = l in
+    let a = k.args in
+    let x = a.node in
+    let e = eq-eqb _ x (sym c.node.ensures ∙ c.if-node.true) in
+    sym (held-hit a.state.now l.loop-i.i k.count-n.result (omega arith) x e) ∙ l.loop-i.invariant.1 ∙ ap (holds x) (by_count a.state.now k.count-n.result k.count-n.ensures)
+
+pub overflow_add-i : goal.overflow_add-i
+overflow_add-i c = omega arith
+
+pub loop-i-smaller : goal.loop-i-smaller
+loop-i-smaller c = omega arith
+
+pub loop-i-preserved : goal.loop-i-preserved
+loop-i-preserved c =
+    let l = c in
+    let k = l in
+    let a = k.args in
+    let x = a.node in
+    let e = ne_eqb _ x (λ z. c.if-node.false (c.node.ensures ∙ z)) in
+    (omega arith, rw add-one (sym (held-miss a.state.now l.loop-i.i k.count-n.result (omega arith) x e) ∙ l.loop-i.invariant.1))
+
+pub returns : goal.returns
+returns c =
+    let l = c in
+    let k = l in
+    let a = k.args in
+    let x = a.node in
+    sym (held_none a.state.now l.loop-i.i k.count-n.result x (omega arith)) ∙ l.loop-i.invariant.1 ∙ ap (holds x) (by_count a.state.now k.count-n.result k.count-n.ensures)

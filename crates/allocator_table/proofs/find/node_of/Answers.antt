@@ -1,0 +1,66 @@
+-- `find::node_of` meets its contract: no entry passed has the unique ID.
+use mathlib.Core.Path.{◌≡◌, refl, sym, ap, ◌∙◌}
+use Prim.Native.Nat.{ℕ, ◌-◌, ◌≤◌}
+use native.Mathlib.Numerals.{add-one}
+use native.Mathlib.Omega.{arith}
+use lib.Dec.{eqb}
+use Rattle.allocator_table.specs.Table.{node_of}
+use Rattle.allocator_table.specs.inside.Code.{number_of, or_zero}
+use Rattle.allocator_table.proofs.Walk.{rest, by_count, node-none, node-hit, node-miss}
+use Rattle.allocator_table.proofs.Soundness.{long-enough, entries-few}
+use borrow.Author.Rules.{rules}
+use Rattle.allocator_table.proofs.find.node_of.Goals as goal
+
+pub count-n-requires : goal.count-n-requires
+count-n-requires c = long-enough _ c.requires
+
+pub loop-i-init : goal.loop-i-init
+loop-i-init c = (omega arith, refl)
+
+pub unique_id-requires : goal.unique_id-requires
+unique_id-requires c =
+    let k = c in
+    let p = k in
+    let l = long-enough p.args.state.now p.requires in
+    omega (arith, k.count-n.ensures, entries-few p.args.state.now p.requires)
+
+pub node-requires : goal.node-requires
+node-requires c =
+    let k = c in
+    let p = k in
+    let l = long-enough p.args.state.now p.requires in
+    omega (arith, k.count-n.ensures, entries-few p.args.state.now p.requires)
+
+pub returns-then-is_same : goal.returns-then-is_same
+returns-then-is_same c =
+    let s = c in
+    let l = s in
+    let k = l in
+    let a = k.args in
+    let u = number_of a.u in
+    let e = ap (λ (x : ℕ). eqb x u) (sym s.unique_id.ensures) ∙ sym s.is_same.ensures ∙ c.if-is_same.true in
+    c.node.ensures ∙ ap or_zero (sym (node-hit a.state.now l.loop-i.i k.count-n.result (omega arith) u e) ∙ l.loop-i.invariant.1 ∙ ap (node_of u) (by_count a.state.now k.count-n.result k.count-n.ensures))
+
+pub overflow_add-i : goal.overflow_add-i
+overflow_add-i c = omega arith
+
+pub loop-i-smaller : goal.loop-i-smaller
+loop-i-smaller c = omega arith
+
+pub loop-i-preserved : goal.loop-i-preserved
+loop-i-preserved c =
+    let s = c in
+    let l = s in
+    let k = l in
+    let a = k.args in
+    let u = number_of a.u in
+    let e = ap (λ (x : ℕ). eqb x u) (sym s.unique_id.ensures) ∙ sym s.is_same.ensures ∙ c.if-is_same.false in
+    (omega arith, rw add-one (sym (node-miss a.state.now l.loop-i.i k.count-n.result (omega arith) u e) ∙ l.loop-i.invariant.1))
+
+pub returns : goal.returns
+returns c =
+    let l = c in
+    let k = l in
+    let a = k.args in
+    let u = number_of a.u in
+    ap or_zero (sym (node-none a.state.now l.loop-i.i k.count-n.result u (omega arith)) ∙ l.loop-i.invariant.1 ∙ ap (node_of u) (by_count a.state.now k.count-n.result k.count-n.ensures))

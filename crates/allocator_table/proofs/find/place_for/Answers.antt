@@ -1,0 +1,62 @@
+-- `find::place_for` meets its contract: every entry passed has a smaller unique ID.
+use mathlib.Core.Path.{◌≡◌, sym, ap, ◌∙◌}
+use Prim.Native.Nat.{ℕ, ◌+◌, ◌-◌, ◌≤◌}
+use native.Mathlib.Numerals.{add-one}
+use native.Mathlib.Omega.{arith}
+use lib.Dec.{ltb}
+use Rattle.allocator_table.specs.Table.{place_for}
+use Rattle.allocator_table.specs.inside.Code.{number_of}
+use borrow.Author.Tests.{not-true, not-false}
+use Rattle.allocator_table.proofs.Walk.{rest, by_count, place_none, place-hit, place-miss}
+use Rattle.allocator_table.proofs.Soundness.{long-enough, entries-few}
+use borrow.Author.Rules.{rules}
+use Rattle.allocator_table.proofs.find.place_for.Goals as goal
+
+pub count-n-requires : goal.count-n-requires
+count-n-requires c = long-enough _ c.requires
+
+pub loop-i-init : goal.loop-i-init
+loop-i-init c = (omega arith, omega arith)
+
+pub unique_id-requires : goal.unique_id-requires
+unique_id-requires c =
+    let k = c in
+    let p = k in
+    let l = long-enough p.args.state.now p.requires in
+    omega (arith, k.count-n.ensures, entries-few p.args.state.now p.requires)
+
+pub returns-then-not-is_less : goal.returns-then-not-is_less
+returns-then-not-is_less c =
+    let s = c in
+    let l = s in
+    let k = l in
+    let a = k.args in
+    let u = number_of a.u in
+    let e = ap (λ (x : ℕ). ltb x u) (sym s.unique_id.ensures) ∙ sym s.is_less.ensures ∙ not-true _ c.if-not-is_less.true in
+    let z = place-hit a.state.now l.loop-i.i k.count-n.result (omega arith) u e in
+    omega (arith, l.loop-i.invariant.1, ap (place_for u) (by_count a.state.now k.count-n.result k.count-n.ensures))
+
+pub overflow_add-i : goal.overflow_add-i
+overflow_add-i c = omega arith
+
+pub loop-i-smaller : goal.loop-i-smaller
+loop-i-smaller c = omega arith
+
+pub loop-i-preserved : goal.loop-i-preserved
+loop-i-preserved c =
+    let s = c in
+    let l = s in
+    let k = l in
+    let a = k.args in
+    let u = number_of a.u in
+    let e = ap (λ (x : ℕ). ltb x u) (sym s.unique_id.ensures) ∙ sym s.is_less.ensures ∙ not-false _ c.if-not-is_less.false in
+    (omega arith, rw add-one (omega (arith, place-miss a.state.now l.loop-i.i k.count-n.result (omega arith) u e, l.loop-i.invariant.1)))
+
+pub returns : goal.returns
+returns c =
+    let l = c in
+    let k = l in
+    let a = k.args in
+    let u = number_of a.u in
+    let z = place_none a.state.now l.loop-i.i k.count-n.result u (omega arith) in
+    omega (arith, l.loop-i.invariant.1, ap (place_for u) (by_count a.state.now k.count-n.result k.count-n.ensures))

@@ -1,0 +1,42 @@
+-- `store::entry` meets its contract.
+use mathlib.Core.Path.{◌≡◌, ap, ◌∙◌}
+use mathlib.Core.List.{List}
+use Prim.Native.Nat.{ℕ}
+use native.Mathlib.Omega.{arith}
+use lib.ListN.{length}
+use lib.Seq.{take_all}
+use Rattle.bits.specs.Little.{le}
+use Rattle.bits.specs.Part.{span}
+use Rattle.allocator_table.specs.Layout.{table_of, with_entry_at, with_entry}
+use Rattle.allocator_table.specs.Limits.{unique_id_max}
+use Rattle.allocator_table.specs.Table.{place_for}
+use Rattle.allocator_table.specs.inside.Code.{number_of}
+use Rattle.allocator_table.proofs.Soundness.{long-enough}
+use Rattle.allocator_table.proofs.Tables.{place_in}
+use borrow.Author.Rules.{rules}
+use Rattle.allocator_table.proofs.store.entry.Goals as goal
+
+-- where the unique ID belongs
+placed : (m u m' : List ℕ) (p x n : ℕ) → p ≡ place_for x (table_of m) → x ≡ le (span u 0 unique_id_max) → length u ≡ unique_id_max → m' ≡ with_entry_at m p u n → m' ≡ with_entry m u n
+unfolding with_entry
+placed m u m' p x n e f l w =
+    w ∙ ap (λ (k : ℕ). with_entry_at m k u n) (e ∙ ap (λ (k : ℕ). place_for k (table_of m)) (f ∙ ap le (take_all unique_id_max u (omega arith))))
+
+pub count-n-requires : goal.count-n-requires
+count-n-requires c = long-enough _ c.requires.0.0
+
+pub entry_at-requires : goal.entry_at-requires
+entry_at-requires c =
+    let f = c in
+    let k = f in
+    let s = k in
+    let l = long-enough s.args.state.now s.requires.0.0 in
+    let q = place_in s.args.state.now (number_of f.read.result) in
+    ((l, (omega (arith, q, f.place_for-p.ensures, k.count-n.ensures), omega (arith, k.count-n.ensures))), (s.requires.1, k.count-n.ensures))
+
+pub returns : goal.returns
+returns c =
+    let w = c in
+    let f = w in
+    let s = f in
+    placed s.args.state.now s.args.u.now w.entry_at.new.state f.place_for-p.result _ s.args.node f.place_for-p.ensures f.read.ensures s.requires.1 w.entry_at.ensures

@@ -1,0 +1,66 @@
+-- `receive_one` meets its contract: the frame of the record is received, and the state has no fault after it.
+use mathlib.Core.Path.{◌≡◌, sym, ap, subst, ◌∙◌}
+use mathlib.Core.Bool.{true}
+use native.Mathlib.Omega.{arith}
+use Prim.Native.Nat.{◌+◌, ◌*◌}
+use Rattle.answers.specs.Word.{word_of, Fits}
+use Rattle.batch.proofs.Fits.{received-fits}
+use Rattle.batch.proofs.One.{tested, arrival-read, arrival-typed}
+use Rattle.batch.specs.Layout.{arrival_at}
+use Rattle.bits.proofs.Octets.{octets-all}
+use Rattle.receiver.specs.Receive.{Result, returned, arriving, lent, received}
+use Rattle.rules.specs.Frame.{Arrival}
+use Rattle.rules.specs.Reception.{step}
+use Rattle.state.specs.Layout.{setup_of, places_of}
+use Rattle.state.specs.Sound.{sound_state}
+use borrow.Author.Rules.{rules}
+use Rattle.batch.proofs.receive_one.Goals as goal
+
+data-length-requires c κs = search rules
+
+-- what is received is the frame of the record
+module _ (c : goal.After-receive_sound) where
+  abbrev s : goal.Start
+  s = c
+
+  gives : returned c.receive_sound.result c.receive_sound.new.state c.receive_sound.new.out.1.1.1.1.0
+      ≡ received s.args.state.now (arrival_at s.args.records.now s.args.i) s.args.out.now
+  gives =
+      let m = s.args.state.now in
+      let r = s.args.records.now in
+      let o = s.args.out.now in
+      c.receive_sound.ensures
+      ∙ ap (λ (f : Arrival). lent m o (step (setup_of m) (places_of m) (arriving f o)))
+      (arrival-read r s.args.i c.get_u32.result c.data_length.result c.get_u64.result
+      c.get_u32.ensures c.data_length.ensures.0 c.get_u64.ensures)
+      ∙ sym (tested m (arrival_at r s.args.i) o s.pre.0)
+
+  sound-after : sound_state c.receive_sound.new.state ≡ true
+  sound-after =
+      let r = s.args.records.now in
+      ap (λ (x : Result). sound_state x.state) gives
+      ∙ (c.state_lasts.ensures s.args.state.now (arrival_at r s.args.i) s.args.out.now s.pre.0
+      (octets-all s.args.state.now (λ k. omega (arith, c.slice_known-1.given k)))
+      (arrival-typed r s.args.i (octets-all r (λ k. omega (arith, c.shared_slice_known-1.given k))) s.pre.1)).0
+
+pub data_length-requires : goal.data_length-requires
+
+
+pub overflow_cast-records : goal.overflow_cast-records
+overflow_cast-records c = omega (arith, c.shared_slice_known-3-1.given (c.args.i * 24 + 12))
+
+pub of_answer-requires : goal.of_answer-requires
+of_answer-requires c =
+    let r = c in
+    let a = (s r).args in
+    subst (λ (x : Result). Fits x.answer) (sym (gives r)) (received-fits a.state.now (arrival_at a.records.now a.i) a.out.now)
+
+pub returns : goal.returns
+returns c =
+    let r = c in
+    record {
+      word = c.of_answer.ensures ∙ ap (λ (x : Result). word_of x.answer) (gives r);
+      state = ap (λ (x : Result). x.state) (gives r);
+      out = ap (λ (x : Result). x.out) (gives r);
+      sound = sound-after r;
+    }

@@ -1,0 +1,15 @@
+use Rattle.bits.proofs.Bytes.{length-store, store-store}
+use Rattle.bits.proofs.Digits.{length_digits}
+use Rattle.bits.specs.Order.{digits, octets, to_bits, store}
+use lib.ListN.{length}
+use Prim.Native.Nat.{ℕ, suc, ◌+◌, ◌-◌, ◌*◌, ◌/◌, ◌≤◌, ◌<◌, ◌%◌}
+use mathlib.Core.List.{List}
+use mathlib.Core.Path.{◌≡◌, refl, sym, ap, ◌∙◌}
+use native.Mathlib.Omega.{arith}
+use Rattle.bits.proofs.field.write.Given as goal
+
+abbrev pub invariant-loop-i : goal.invariant-loop-i
+invariant-loop-i l = (l.i ≤ l.q) × ((length l.s ≡ length l.initial.s) × (store l.s (l.at + l.i * 8) (octets (l.q - l.i) (l.w % 8) l.x) ≡ store l.initial.s l.at (octets l.q (l.w % 8) l.v)))
+
+abbrev pub decreases-loop-i : goal.decreases-loop-i
+decreases-loop-i l = l.q - l.i

@@ -1,0 +1,15 @@
+-- `field::write_bytes` meets its contract: bytes in their place are their bits in theirs.
+use mathlib.Core.Path.{◌∙◌}
+use native.Mathlib.Omega.{arith}
+use borrow.Author.Rules.{rules}
+use Rattle.bits.proofs.Octets.{octets-all}
+use Rattle.bits.proofs.Window.{splice-store}
+use Rattle.bits.proofs.field.write_bytes.Goals as goal
+
+pub returns : goal.returns
+returns c =
+    let o = c in
+    let k = o in
+    let a = k.args in
+    o.copy_at.ensures ∙ splice-store a.s.now a.at a.src.now (octets-all a.s.now (λ i. omega (arith, k.slice_known-1.given i)))
+    (octets-all a.src.now (λ i. omega (arith, k.shared_slice_known-1.given i))) (omega arith)

@@ -1,0 +1,61 @@
+-- `le::put` meets its contract. The invariant: what was written, with the bytes that x still has to give, is all the bytes of v.
+use mathlib.Core.Path.{◌≡◌, refl, sym, ap, ◌∙◌}
+use mathlib.Core.List.{List, [], ◌++◌, append-nil}
+use Prim.Native.Nat.{ℕ, suc, ◌-◌, ◌/◌, ◌%◌, ◌≤◌, ◌<◌}
+use native.Mathlib.Numerals.{add-one}
+use native.Mathlib.Nat.{sub-zero}
+use native.Mathlib.Omega.{arith}
+use lib.ListN.{length, take, set, length-set}
+use lib.Seq.{take-suc-set, take_all, append_snoc}
+use Rattle.bits.specs.Little.{le_bytes}
+use Rattle.bits.proofs.le.put.Goals as goal
+
+-- a turn
+turn : (p : List ℕ) (n i x : ℕ) → i < n → length p ≡ n → take (suc i) (set p i (x % 256)) ++ le_bytes (n - suc i) (x / 256) ≡ take i p ++ le_bytes (n - i) x
+unfolding le_bytes
+turn p n i x h e =
+    let l : i < length p = omega arith in
+    let k : n - i ≡ suc (n - suc i) = omega arith in
+    rw (take-suc-set p i, k, append_snoc)
+
+-- after the last turn
+last : (p : List ℕ) (n i x v : ℕ) → n ≤ i → length p ≡ n → take i p ++ le_bytes (n - i) x ≡ le_bytes n v → p ≡ le_bytes n v
+unfolding le_bytes
+last p n i x v h e inv =
+    let z : n - i ≡ 0 = omega arith in
+    let l : length p ≤ i = omega arith in
+    let inv' : take i p ++ [] ≡ le_bytes n v = rw z at inv in
+    sym (append-nil p) ∙ ap (λ (q : List ℕ). q ++ []) (sym (take_all i p l)) ∙ inv'
+
+pub loop-i-init : goal.loop-i-init
+loop-i-init c = (omega arith, (refl, rw sub-zero))
+
+pub overflow_cast-s : goal.overflow_cast-s
+overflow_cast-s c = omega arith
+
+pub bounds-s-i : goal.bounds-s-i
+bounds-s-i c = omega arith
+
+pub overflow_add-i : goal.overflow_add-i
+overflow_add-i c = omega arith
+
+pub loop-i-smaller : goal.loop-i-smaller
+loop-i-smaller c = omega arith
+
+pub loop-i-preserved : goal.loop-i-preserved
+loop-i-preserved c =
+    let l = c in (
+      omega arith,
+      (
+        simp length-set l.loop-i.invariant.1.0,
+        rw add-one (turn l.loop-i.s (length l.args.s.now) l.loop-i.i l.loop-i.x (omega arith) l.loop-i.invariant.1.0 ∙ l.loop-i.invariant.1.1),
+      ),
+    )
+
+pub shape_of-s : goal.shape_of-s
+shape_of-s c = c.loop-i.invariant.1.0
+
+pub returns : goal.returns
+returns c =
+    let l = c in
+    last l.loop-i.s (length l.args.s.now) l.loop-i.i l.loop-i.x l.args.v (omega arith) l.loop-i.invariant.1.0 l.loop-i.invariant.1.1

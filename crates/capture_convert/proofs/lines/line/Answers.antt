@@ -1,0 +1,46 @@
+-- `lines::line` meets its contract.
+use mathlib.Core.Path.{ap, subst}
+use Prim.Native.Nat.{◌/◌}
+use native.Mathlib.Omega.{arith}
+use borrow.Author.Rules.{rules}
+use lib.ListN.{length}
+use Rattle.digits.specs.Digits.{count_of}
+use Rattle.digits.specs.inside.Text.{Puts}
+use Rattle.rules.specs.Frame.{Frame}
+use Rattle.log_line.specs.Line.{line_of}
+use Rattle.log_line.proofs.Lines.{line-length}
+use Rattle.capture_record.specs.Record.{frame_of}
+use Rattle.capture_record.proofs.Records.{carriable-fit}
+use Rattle.capture_convert.proofs.Walking.{frame_is}
+use Rattle.capture_convert.proofs.lines.line.Goals as goal
+
+pub overflow_add-to : goal.overflow_add-to
+overflow_add-to c =
+    let r = c in
+    let s = r in
+    omega (arith, r.read-s.ensures.len, (carriable-fit s.args.r.now s.requires.1.0).few)
+
+pub slice_bounds-put-end : goal.slice_bounds-put-end
+slice_bounds-put-end c =
+    let r = c in
+    let s = r in
+    omega (arith, r.read-s.ensures.len, (carriable-fit s.args.r.now s.requires.1.0).few)
+
+pub put-requires : goal.put-requires
+put-requires c =
+    let r = c in
+    let s = r in
+    let x = s.args.r.now in
+    let n = r.read-s.result.len in
+    let e = frame_is x r.read-s.result.time r.read-s.result.id n r.read-s.ensures.time r.read-s.ensures.id r.read-s.ensures.len in
+    omega (arith, s.requires.1.1, line-length (frame_of x), ap (λ (f : Frame). length f.bytes) e, ap (λ (f : Frame). count_of (f.time / 1000000)) e)
+
+pub returns : goal.returns
+returns c =
+    let q = c in
+    let r = q in
+    let s = r in
+    let a = s.args in
+    let e = frame_is a.r.now r.read-s.result.time r.read-s.result.id r.read-s.result.len r.read-s.ensures.time r.read-s.ensures.id
+    r.read-s.ensures.len in
+    subst (λ (f : Frame). Puts a.out.now q.put.new.out a.p q.put.result (line_of f)) e q.put.ensures

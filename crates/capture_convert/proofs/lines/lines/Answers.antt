@@ -1,0 +1,69 @@
+-- `lines::lines` meets its contract.
+use mathlib.Core.Path.{◌∙◌}
+use Prim.Native.Nat.{◌+◌, ◌*◌, ◌-◌, ◌/◌}
+use native.Mathlib.Omega.{arith}
+use lib.ListN.{length}
+use Rattle.bits.proofs.Splice.{length-span}
+use Rattle.capture_convert.proofs.Walking.{Lining, begin-lining, carriable-next, line-fits, next-lining, lined}
+use Rattle.capture_convert.proofs.lines.lines.Goals as goal
+
+pub loop-count-init : goal.loop-count-init
+loop-count-init c =
+    let a = c.args in
+    begin-lining a.records.now a.out.now (length a.records.now / 21)
+
+pub overflow_mul-at : goal.overflow_mul-at
+overflow_mul-at c = omega arith
+
+pub overflow_add-at : goal.overflow_add-at
+overflow_add-at c = omega arith
+
+pub slice_bounds-line-count : goal.slice_bounds-line-count
+slice_bounds-line-count c = omega arith
+
+pub slice_bounds-line-start : goal.slice_bounds-line-start
+slice_bounds-line-start c = omega arith
+
+pub slice_bounds-line-end : goal.slice_bounds-line-end
+slice_bounds-line-end c = omega arith
+
+pub line-p-requires : goal.line-p-requires
+line-p-requires c =
+    let t = c in
+    let l = t in
+    let s = l in
+    let b = s.args.records.now in
+    let o = s.args.out.now in (
+      length-span b (l.loop-count.count * 21) (l.loop-count.count * 21 + 21 - l.loop-count.count * 21) (omega arith) ∙ omega arith,
+      (
+        carriable-next b o l.loop-count.out (length b / 21) l.loop-count.count l.loop-count.p l.loop-count.invariant s.requires.frames s.requires.carried s.requires.room
+            t.loop-count-test.true,
+        line-fits b o l.loop-count.out (length b / 21) l.loop-count.count l.loop-count.p l.loop-count.invariant s.requires.frames s.requires.carried s.requires.room
+            t.loop-count-test.true,
+      ),
+    )
+
+pub overflow_add-count : goal.overflow_add-count
+overflow_add-count c = omega arith
+
+pub loop-count-smaller : goal.loop-count-smaller
+loop-count-smaller c = omega arith
+
+pub loop-count-preserved : goal.loop-count-preserved
+loop-count-preserved c =
+    let w = c in
+    let t = w in
+    let l = t in
+    let s = l in
+    let b = s.args.records.now in
+    next-lining b s.args.out.now l.loop-count.out (length b / 21) l.loop-count.count l.loop-count.p l.loop-count.invariant s.requires.frames s.requires.carried
+    s.requires.room t.loop-count-test.true w.line-p.new.1.0 w.line-p.result w.line-p.ensures w.line-p.auto.1.0
+
+pub shape_of-out : goal.shape_of-out
+shape_of-out c = c.loop-count.invariant.long
+
+pub returns : goal.returns
+returns c =
+    let l = c in
+    let s = l in
+    lined s.args.records.now s.args.out.now l.loop-count.out l.loop-count.count l.loop-count.p l.loop-count.invariant c.loop-count-test.false s.requires

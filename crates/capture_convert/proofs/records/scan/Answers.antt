@@ -1,0 +1,70 @@
+-- `records::scan` meets its contract.
+use mathlib.Core.Path.{refl}
+use Prim.Native.Nat.{◌-◌}
+use native.Mathlib.Omega.{arith}
+use borrow.Author.Rules.{rules}
+use borrow.Author.Tests.{not-true, not-false}
+use lib.ListN.{length}
+use Rattle.capture_convert.specs.inside.Walks.{broken}
+use Rattle.capture_convert.proofs.Logs.{broken-frames}
+use Rattle.capture_convert.proofs.Walking.{well, ill, Walk, begin, stop, next, finish}
+use Rattle.capture_convert.proofs.records.scan.Goals as goal
+
+pub loop-end-init : goal.loop-end-init
+loop-end-init c =
+    let a = c.args in
+    begin a.log.now c.find-end.result c.find-end.ensures.0 c.find-end.ensures.1
+
+pub overflow_add-end : goal.overflow_add-end
+overflow_add-end c = omega arith
+
+pub slice_bounds-read-count : goal.slice_bounds-read-count
+slice_bounds-read-count c = let g = c.loop-end.invariant in omega (arith, g.feed)
+
+pub slice_bounds-read-start : goal.slice_bounds-read-start
+slice_bounds-read-start c = let g = c.loop-end.invariant in omega (arith, g.feed)
+
+pub slice_bounds-read-end : goal.slice_bounds-read-end
+slice_bounds-read-end c = omega arith
+
+pub returns-then-not-l : goal.returns-then-not-l
+returns-then-not-l c =
+    let r = c in
+    let t = r in
+    let l = t in
+    let p = l.args.log.now in
+    broken (broken-frames p (stop p l.loop-end.count l.loop-end.from l.loop-end.end l.loop-end.invariant t.loop-end-test.true
+    (ill _ r.read-l.result r.read-l.ensures (not-true r.read-l.result.ok c.if-not-l.true)))) refl
+
+pub overflow_add-count : goal.overflow_add-count
+overflow_add-count c =
+    let g = c.loop-end.invariant in
+    omega (arith, g.slow, g.start)
+
+pub overflow_add-from : goal.overflow_add-from
+overflow_add-from c = omega arith
+
+pub find-end-requires-in-loop-end : goal.find-end-requires-in-loop-end
+find-end-requires-in-loop-end c = omega arith
+
+pub loop-end-smaller : goal.loop-end-smaller
+loop-end-smaller c =
+    let g = c.loop-end.invariant in
+    omega (arith, g.feed)
+
+pub loop-end-preserved : goal.loop-end-preserved
+loop-end-preserved c =
+    let e = c in
+    let r = e in
+    let t = r in
+    let l = t in
+    let p = l.args.log.now in
+    let w = well _ r.read-l.result r.read-l.ensures (not-false r.read-l.result.ok e.if-not-l.false) in
+    next p l.loop-end.count l.loop-end.from l.loop-end.end l.loop-end.invariant t.loop-end-test.true w.frame w.said w.carried c.find-end-in-loop-end.result
+    c.find-end-in-loop-end.ensures.0 c.find-end-in-loop-end.ensures.1
+
+pub returns : goal.returns
+returns c =
+    let l = c in
+    let p = l.args.log.now in
+    finish p l.loop-end.count l.loop-end.from l.loop-end.end l.loop-end.invariant c.loop-end-test.false _ refl refl

@@ -1,0 +1,19 @@
+-- `crc16::step` meets its contract: the law of a part by a table, at 8 bits.
+use Prim.Native.Nat.{ℕ, ◌/◌, ◌<◌}
+use native.Mathlib.Omega.{arith}
+use borrow.Author.Rules.{rules}
+use lib.Bits.{bit_xor, xor_lt}
+use Rattle.checksum.proofs.Tables.{byte_step}
+use Rattle.checksum.proofs.crc16.step.Goals as goal
+
+-- the byte at the top of the register
+small : (c b : ℕ) → c < 65536 → b < 256 → bit_xor (c / 256) b < 256
+small c b hc hb = xor_lt 8 (c / 256) b (omega arith) hb
+
+pub overflow_cast-x-2 : goal.overflow_cast-x-2
+overflow_cast-x-2 c = let s = small c.args.c c.args.b (search rules) (search rules) in omega arith
+
+pub returns : goal.returns
+returns c =
+    let a = c.args in
+    byte_step a.c a.b _ (search rules) c.two.ensures

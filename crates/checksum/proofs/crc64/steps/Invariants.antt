@@ -1,0 +1,15 @@
+use mathlib.Core.Path.{◌≡◌, refl, sym, ◌∙◌}
+use Prim.Native.Nat.{◌-◌, ◌≤◌}
+use native.Mathlib.Omega.{arith}
+use borrow.Author.Rules.{rules}
+use lib.ListN.{length, drop}
+use Rattle.checksum.specs.Crc.{crc_over}
+use Rattle.checksum.specs.Signature.{we}
+use Rattle.checksum.proofs.Linear.{over-turn, over_done}
+use Rattle.checksum.proofs.crc64.steps.Given as goal
+
+abbrev pub invariant-loop-i : goal.invariant-loop-i
+invariant-loop-i l = (l.i ≤ length l.s) × (crc_over we l.r (drop l.i l.s) ≡ crc_over we l.c l.s)
+
+abbrev pub decreases-loop-i : goal.decreases-loop-i
+decreases-loop-i l = length l.s - l.i

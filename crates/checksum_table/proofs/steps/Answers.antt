@@ -1,0 +1,33 @@
+-- `steps` meets its contract: the bytes still to come, from the register so far, give what all of them give from the start.
+use mathlib.Core.Path.{◌≡◌, refl, sym, ◌∙◌}
+use Prim.Native.Nat.{◌-◌, ◌≤◌}
+use native.Mathlib.Omega.{arith}
+use borrow.Author.Rules.{rules}
+use lib.ListN.{length, drop}
+use Rattle.checksum.specs.Crc.{crc_over}
+use Rattle.checksum.specs.Crc16.{ccitt}
+use Rattle.checksum.proofs.Linear.{over-turn, over_done}
+use Rattle.checksum_table.proofs.steps.Goals as goal
+
+pub loop-i-init : goal.loop-i-init
+loop-i-init c = (omega arith, refl)
+
+pub bounds-s-i : goal.bounds-s-i
+bounds-s-i c = omega arith
+
+pub overflow_add-i : goal.overflow_add-i
+overflow_add-i c = omega arith
+
+pub loop-i-smaller : goal.loop-i-smaller
+loop-i-smaller c = omega arith
+
+pub loop-i-preserved : goal.loop-i-preserved
+loop-i-preserved c =
+    let l = c in
+    let a = l.args in
+    (omega arith, over-turn ccitt l.loop-i.r c.step-r.result l.loop-i.i a.s.now (omega arith) c.step-r.ensures ∙ l.loop-i.invariant.1)
+
+pub returns : goal.returns
+returns c =
+    let l = c in
+    sym (over_done ccitt l.loop-i.r l.loop-i.i l.args.s.now (omega arith)) ∙ l.loop-i.invariant.1

@@ -1,0 +1,10 @@
+-- `signed::number` is safe and ends.
+use native.Mathlib.Omega.{arith}
+use Rattle.shape.proofs.SignedFacts.{size_of}
+use borrow.Author.Rules.{rules}
+use Rattle.codec_text.proofs.signed.number.Goals as goal
+
+pub overflow_add-size : goal.overflow_add-size
+overflow_add-size c =
+    let s = c in
+    omega (arith, size_of s.args.v s.ranges.v c.size.result c.size.ensures, s.ranges.v.sfits)

@@ -1,0 +1,15 @@
+use Rattle.digits.proofs.Puts.{digit-turn, digits-done}
+use Rattle.digits.proofs.Digits.{glyph-low}
+use Rattle.digits.specs.Digits.{digits}
+use Rattle.bits.specs.Part.{splice}
+use lib.ListN.{length, length-set}
+use native.Mathlib.Omega.{arith}
+use Prim.Native.Nat.{◌%◌, ◌≤◌}
+use mathlib.Core.Path.{◌≡◌, refl, sym, ◌∙◌}
+use Rattle.digits.proofs.put_digits.Given as goal
+
+abbrev pub invariant-loop-i : goal.invariant-loop-i
+invariant-loop-i l = (l.i ≤ l.w) × ((length l.out ≡ length l.initial.out) × (splice l.out l.at (digits 10 l.i l.x) ≡ splice l.initial.out l.at (digits 10 l.w l.v)))
+
+abbrev pub decreases-loop-i : goal.decreases-loop-i
+decreases-loop-i l = l.i

@@ -1,0 +1,75 @@
+-- `put_words` meets its contract.
+use Rattle.digits.proofs.Puts.{splice-nil, puts-next, words_snoc}
+use Rattle.digits.specs.Digits.{words}
+use Rattle.digits.specs.inside.Text.{Puts}
+use lib.Seq.{take-suc, take_all}
+use lib.ListN.{length, take, get_or}
+use native.Mathlib.Omega.{arith}
+use native.Mathlib.Numerals.{add-one}
+use native.Mathlib.Nat.{add-zero}
+use Prim.Native.Nat.{ℕ, suc, ◌+◌, ◌*◌, ◌-◌, ◌≤◌, ◌<◌}
+use mathlib.Core.List.{List, [], ◌∷◌, ◌++◌}
+use mathlib.Core.Path.{◌≡◌, refl, sym, ap, ◌∙◌}
+use Rattle.digits.proofs.put_words.Goals as goal
+
+-- a turn: one word after the others
+turn : (a b d vs : List ℕ) (at i p q : ℕ) → i < length vs → p + 21 ≤ length a → Puts a b at p (words (take i vs))
+    → Puts b d p q (words (get_or vs i 0 ∷ [])) → Puts a d at q (words (take (suc i) vs))
+turn a b d vs at i p q h l f g =
+    let e : words (take (suc i) vs) ≡ words (take i vs) ++ words (get_or vs i 0 ∷ []) = ap words (take-suc vs i 0 h)
+    ∙ words_snoc (take i vs) (get_or vs i 0) in
+    rw e (puts-next a b d at p q (words (take i vs)) (words (get_or vs i 0 ∷ [])) f g (omega (arith, f.end)))
+
+pub loop-i-init : goal.loop-i-init
+unfolding words
+loop-i-init c =
+    let a = c.args in
+    (omega arith, (refl, (omega arith, record { out = sym (splice-nil a.out.now a.at); end = sym (add-zero a.at) })))
+
+pub offset_bounds-vs-i : goal.offset_bounds-vs-i
+offset_bounds-vs-i c = omega arith
+
+pub bounds-vs-i : goal.bounds-vs-i
+bounds-vs-i c = omega arith
+
+pub word-p-requires : goal.word-p-requires
+word-p-requires c =
+    let l = c in
+    omega (arith, l.requires, l.loop-i.invariant)
+
+pub overflow_add-i : goal.overflow_add-i
+overflow_add-i c = omega arith
+
+pub loop-i-smaller : goal.loop-i-smaller
+loop-i-smaller c = omega arith
+
+pub loop-i-preserved : goal.loop-i-preserved
+loop-i-preserved c =
+    let w = c in
+    let l = w in
+    let s = l in
+    let a = s.args in
+    let i = l.loop-i.i in
+    let v = l.loop-i.invariant.1 in (
+      omega arith,
+      (
+        omega (arith, w.word-p.auto.0, v.0),
+        (
+          omega (arith, w.word-p.ensures.1, v.1.0),
+          rw (add-one i) (turn a.out.now l.loop-i.out w.word-p.new.out a.vs.now a.at i l.loop-i.p w.word-p.result
+              (omega arith)
+              (omega (arith, s.requires, v.1.0)) v.1.1 w.word-p.ensures.0),
+        ),
+      ),
+    )
+
+pub shape_of-out : goal.shape_of-out
+shape_of-out c = c.loop-i.invariant.1.0
+
+pub returns : goal.returns
+returns c =
+    let l = c in
+    let a = l.args in
+    let v = l.loop-i.invariant.1.1 in
+    let e : take l.loop-i.i a.vs.now ≡ a.vs.now = take_all l.loop-i.i a.vs.now (omega arith) in
+    (rw e at v.1, omega (arith, v.0))

@@ -1,0 +1,18 @@
+use Rattle.digits.proofs.Puts.{splice-nil, puts-next, words_snoc}
+use Rattle.digits.specs.Digits.{words}
+use Rattle.digits.specs.inside.Text.{Puts}
+use lib.Seq.{take-suc, take_all}
+use lib.ListN.{length, take, get_or}
+use native.Mathlib.Omega.{arith}
+use native.Mathlib.Numerals.{add-one}
+use native.Mathlib.Nat.{add-zero}
+use Prim.Native.Nat.{ℕ, suc, ◌+◌, ◌*◌, ◌-◌, ◌≤◌, ◌<◌}
+use mathlib.Core.List.{List, [], ◌∷◌, ◌++◌}
+use mathlib.Core.Path.{◌≡◌, refl, sym, ap, ◌∙◌}
+use Rattle.digits.proofs.put_words.Given as goal
+
+abbrev pub invariant-loop-i : goal.invariant-loop-i
+invariant-loop-i l = (l.i ≤ length l.vs) × ((length l.out ≡ length l.initial.out) × ((l.p ≤ l.at + l.i * 21) × Puts l.initial.out l.out l.at l.p (words (take l.i l.vs))))
+
+abbrev pub decreases-loop-i : goal.decreases-loop-i
+decreases-loop-i l = length l.vs - l.i

@@ -1,0 +1,52 @@
+-- `names::is_among` meets its contract.
+use Rattle.dsdl.proofs.NamePlaces.{among_first, among_next, among_none}
+use Rattle.dsdl_text.proofs.Choices.{by}
+use Rattle.dsdl.specs.Definition.{is_among}
+use Rattle.dsdl.specs.inside.Names.{names_at}
+use native.Mathlib.Omega.{arith}
+use Prim.Native.Nat.{ℕ, suc, ◌-◌, ◌≤◌}
+use mathlib.Core.Path.{◌≡◌, refl, sym, ap, ◌∙◌}
+use borrow.Author.Rules.{rules}
+use Rattle.dsdl.proofs.names.is_among.Goals as goal
+
+pub loop-i-init : goal.loop-i-init
+loop-i-init c = (omega arith, refl)
+
+pub overflow_sub-i : goal.overflow_sub-i
+overflow_sub-i c = omega arith
+
+pub offset_bounds-seen-i : goal.offset_bounds-seen-i
+offset_bounds-seen-i c = omega arith
+
+pub bounds-seen-i : goal.bounds-seen-i
+bounds-seen-i c = omega arith
+
+pub returns-then-is_at : goal.returns-then-is_at
+returns-then-is_at c =
+    let k = c in
+    let l = k in
+    let a = l.args in
+    let e : suc (l.loop-i.i - 1) ≡ l.loop-i.i = omega arith in
+    sym (sym l.loop-i.invariant.1 ∙ (ap (λ (j : ℕ). is_among a.x.now (names_at a.t.now a.seen.now j)) (sym e)
+    ∙ among_first a.t.now a.seen.now (l.loop-i.i - 1) a.x.now (by k.is_at.ensures c.if-is_at.true)))
+
+pub loop-i-smaller : goal.loop-i-smaller
+loop-i-smaller c = omega arith
+
+pub loop-i-preserved : goal.loop-i-preserved
+loop-i-preserved c =
+    let k = c in
+    let l = k in
+    let a = l.args in
+    let e : suc (l.loop-i.i - 1) ≡ l.loop-i.i = omega arith in (
+      omega arith,
+      sym (among_next a.t.now a.seen.now (l.loop-i.i - 1) a.x.now (by k.is_at.ensures c.if-is_at.false))
+          ∙ (ap (λ (j : ℕ). is_among a.x.now (names_at a.t.now a.seen.now j)) e ∙ l.loop-i.invariant.1),
+    )
+
+pub returns : goal.returns
+returns c =
+    let l = c in
+    let a = l.args in
+    let z : l.loop-i.i ≡ 0 = omega arith in
+    sym (sym l.loop-i.invariant.1 ∙ (ap (λ (j : ℕ). is_among a.x.now (names_at a.t.now a.seen.now j)) z ∙ among_none a.t.now a.seen.now a.x.now))

@@ -1,0 +1,15 @@
+use Rattle.dsdl.proofs.NamePlaces.{among_first, among_next, among_none}
+use Rattle.dsdl_text.proofs.Choices.{by}
+use Rattle.dsdl.specs.Definition.{is_among}
+use Rattle.dsdl.specs.inside.Names.{names_at}
+use native.Mathlib.Omega.{arith}
+use Prim.Native.Nat.{ℕ, suc, ◌-◌, ◌≤◌}
+use mathlib.Core.Path.{◌≡◌, refl, sym, ap, ◌∙◌}
+use borrow.Author.Rules.{rules}
+use Rattle.dsdl.proofs.names.is_among.Given as goal
+
+abbrev pub invariant-loop-i : goal.invariant-loop-i
+invariant-loop-i l = (l.i ≤ l.n) × (is_among l.x (names_at l.t l.seen l.i) ≡ is_among l.x (names_at l.t l.seen l.n))
+
+abbrev pub decreases-loop-i : goal.decreases-loop-i
+decreases-loop-i l = l.i

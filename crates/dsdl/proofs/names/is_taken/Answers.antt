@@ -1,0 +1,12 @@
+-- `names::is_taken` meets its contract.
+use Prim.Native.Nat.{ℕ}
+use lib.ListN.{get_or}
+use mathlib.Core.Path.{sym, ap, ◌∙◌}
+use borrow.Author.Rules.{rules}
+use Rattle.dsdl.proofs.names.is_taken.Goals as goal
+
+pub returns-then-marks-m-eq0 : goal.returns-then-marks-m-eq0
+returns-then-marks-m-eq0 c =
+    let s = c in
+    let a = s.args in
+    sym (s.requires.0.free a.x.now (ap (λ (j : ℕ). get_or a.marks.now j 0) (sym s.requires.1.1.0) ∙ c.if-marks-m-eq0.true))

@@ -1,0 +1,41 @@
+-- `names::mark_at` meets its contract.
+use mathlib.Core.Path.{◌≡◌, refl, sym, ◌∙◌}
+use Prim.Native.Nat.{◌-◌, ◌≤◌, ◌<◌}
+use native.Mathlib.Numerals.{add-one}
+use native.Mathlib.Omega.{arith}
+use lib.ListN.{length, drop}
+use Rattle.dsdl.specs.inside.Names.{names_max, mark_from, mark_of}
+use Rattle.dsdl.proofs.NamePlaces.{mark_on, mark-done}
+use Rattle.dsdl.proofs.names.mark_at.Goals as goal
+
+pub loop-i-init : goal.loop-i-init
+loop-i-init c = (omega arith, (omega arith, refl))
+
+pub overflow_mul-mark : goal.overflow_mul-mark
+overflow_mul-mark c = omega arith
+
+pub bounds-x-i : goal.bounds-x-i
+bounds-x-i c = omega arith
+
+pub overflow_cast-mark : goal.overflow_cast-mark
+overflow_cast-mark c = omega (arith, c.shared_slice_known-1.given c.loop-i.i)
+
+pub overflow_add-mark : goal.overflow_add-mark
+overflow_add-mark c = omega (arith, c.shared_slice_known-1.given c.loop-i.i)
+
+pub overflow_add-i : goal.overflow_add-i
+overflow_add-i c = omega arith
+
+pub loop-i-smaller : goal.loop-i-smaller
+loop-i-smaller c = omega arith
+
+pub loop-i-preserved : goal.loop-i-preserved
+loop-i-preserved c =
+    let l = c in
+    let x = l.args.x.now in
+    (omega arith, (omega arith, rw add-one (sym (mark_on x l.loop-i.mark l.loop-i.i (omega arith)) ∙ l.loop-i.invariant.1.1)))
+
+pub returns : goal.returns
+returns c =
+    let l = c in
+    (sym (mark-done l.args.x.now l.loop-i.mark l.loop-i.i (omega arith)) ∙ l.loop-i.invariant.1.1, l.loop-i.invariant.1.0)

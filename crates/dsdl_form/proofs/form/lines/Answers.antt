@@ -1,0 +1,106 @@
+-- `form::lines` meets its contract.
+use mathlib.Core.Path.{◌≡◌, sym, ap, ◌∙◌}
+use mathlib.Core.List.{[], append-nil}
+use Prim.Native.Nat.{◌-◌, ◌≤◌}
+use native.Mathlib.Omega.{arith}
+use lib.ListN.{length}
+use Rattle.bits.specs.Part.{span}
+use Rattle.dsdl_text.specs.inside.Lines.{end_of, after_end}
+use Rattle.dsdl_line.specs.Line.{line_of}
+use Rattle.dsdl.specs.Definition.{lines_of}
+use Rattle.dsdl.specs.Form.{line_form, lines_form}
+use Rattle.dsdl_form.proofs.Placements.{Left, all_left, less-left, none_left, left-fits, left_as}
+use Rattle.dsdl_form.proofs.Sizes.{part_length}
+use Rattle.dsdl_form.proofs.Forms.{onward, one_line, final-line}
+use Rattle.dsdl_form.proofs.form.lines.Goals as goal
+
+pub end-end-requires : goal.end-end-requires
+end-end-requires c = omega arith
+
+pub loop-end-init : goal.loop-end-init
+loop-end-init c = let b = c in
+    let e = c.end-end.ensures in
+    (e.0, (e.1.0, (e.1.1, all_left b.args.out.now b.args.at (lines_form b.args.space.now (lines_of b.args.text.now)))))
+
+pub slice_bounds-added-count : goal.slice_bounds-added-count
+slice_bounds-added-count c = omega arith
+
+pub slice_bounds-added-start : goal.slice_bounds-added-start
+slice_bounds-added-start c = omega arith
+
+pub slice_bounds-added-end : goal.slice_bounds-added-end
+slice_bounds-added-end c = omega arith
+
+pub added-p-requires : goal.added-p-requires
+added-p-requires c = let l = c in
+    let b = l in
+    let s = b.args.space.now in
+    let t = b.args.text.now in
+    let i = l.loop-end.invariant in
+    let x = line_form s (line_of (span t l.loop-end.from (l.loop-end.end - l.loop-end.from))) in
+    let r = onward s t (after_end t l.loop-end.end) in (
+      part_length t (l.loop-end.end - l.loop-end.from) l.loop-end.from b.requires.0,
+      left-fits x r (left_as (one_line s t l.loop-end.from l.loop-end.end i.0 c.loop-end-test.true) i.1.1.1) b.requires.1,
+    )
+
+pub next-from-requires : goal.next-from-requires
+next-from-requires c = c.loop-end-test.true
+
+pub end-end-requires-in-loop-end : goal.end-end-requires-in-loop-end
+end-end-requires-in-loop-end c = c.next-from.ensures.1.1
+
+pub loop-end-smaller : goal.loop-end-smaller
+loop-end-smaller c =
+    let x = c in
+    let l = c in
+    omega (arith, x.next-from.ensures.1.0, x.next-from.ensures.1.1, l.loop-end.invariant.1.0)
+
+pub loop-end-preserved : goal.loop-end-preserved
+loop-end-preserved c =
+    let loop-test = c.loop-end-test in
+    let added = c.added-p in
+    let next = c.next-from in
+    let l = c in
+    let b = l in
+    let s = b.args.space.now in
+    let t = b.args.text.now in
+    let i = l.loop-end.invariant in
+    let x = line_form s (line_of (span t l.loop-end.from (l.loop-end.end - l.loop-end.from))) in
+    let r = onward s t (after_end t l.loop-end.end) in
+    let e = c.end-end-in-loop-end.ensures in
+    let f = less-left x r (left_as (one_line s t l.loop-end.from l.loop-end.end i.0 loop-test.true) i.1.1.1) added.ensures in
+    (e.0, (e.1.0, (e.1.1, left_as (ap (onward s t) (sym next.ensures.0)) f)))
+
+pub slice_bounds-added-count-2 : goal.slice_bounds-added-count-2
+slice_bounds-added-count-2 c = omega arith
+
+pub slice_bounds-added-start-2 : goal.slice_bounds-added-start-2
+slice_bounds-added-start-2 c = omega arith
+
+pub slice_bounds-added-end-2 : goal.slice_bounds-added-end-2
+slice_bounds-added-end-2 c = omega arith
+
+pub added-requires : goal.added-requires
+added-requires c = let l = c in
+    let b = l in
+    let s = b.args.space.now in
+    let t = b.args.text.now in
+    let i = l.loop-end.invariant in
+    let x = line_form s (line_of (span t l.loop-end.from (l.loop-end.end - l.loop-end.from))) in
+    let f = left_as (final-line s t l.loop-end.from l.loop-end.end i.0 c.loop-end-test.false) i.1.1.1 in
+    (part_length t (l.loop-end.end - l.loop-end.from) l.loop-end.from b.requires.0, left-fits x [] (left_as (sym (append-nil x)) f) b.requires.1)
+
+pub shape_of-out : goal.shape_of-out
+shape_of-out c = c.added.auto.0 ∙ c.loop-end.invariant.1.1.1.same
+
+pub returns : goal.returns
+returns c =
+    let loop-test = c.loop-end-test in
+    let added2 = c.added in
+    let l = c in
+    let b = l in
+    let s = b.args.space.now in
+    let t = b.args.text.now in
+    let i = l.loop-end.invariant in
+    let x = line_form s (line_of (span t l.loop-end.from (l.loop-end.end - l.loop-end.from))) in
+    none_left x (left_as (final-line s t l.loop-end.from l.loop-end.end i.0 loop-test.false) i.1.1.1) added2.ensures

@@ -1,0 +1,35 @@
+-- `form::place` meets its contract.
+use mathlib.Core.Path.{sym, ap}
+use mathlib.Core.List.{List}
+use Prim.Native.Nat.{ℕ}
+use Rattle.dsdl_text.specs.Names.{space_of}
+use Rattle.dsdl.specs.Definition.{lines_of}
+use Rattle.dsdl.specs.Form.{lines_form}
+use Rattle.dsdl_form.proofs.Placements.{next, front, behind, as-text, fits-as}
+use Rattle.dsdl_form.proofs.Forms.{space-is}
+use borrow.Author.Rules.{rules}
+use Rattle.dsdl_form.proofs.form.place.Goals as goal
+
+pub text-p-requires : goal.text-p-requires
+text-p-requires c =
+    let b = c in
+    let n = b.args.name.now in front b.args.at n (lines_form (space_of n) (lines_of b.args.text.now)) b.requires.1
+
+pub lines-requires : goal.lines-requires
+lines-requires c =
+    let text = c.text-p in
+    let space = c.space-n in
+    let b = c in
+    let n = b.args.name.now in
+    let f : List ℕ → List ℕ = λ (x : List ℕ). lines_form x (lines_of b.args.text.now) in
+    (b.requires.0, fits-as text.result (ap f (sym (space-is n space.result space.ensures.0))) (behind n (f (space_of n)) text.ensures b.requires.1))
+
+pub returns : goal.returns
+returns c =
+    let text = c.text-p in
+    let space = c.space-n in
+    let lines = c.lines in
+    let b = c in
+    let n = b.args.name.now in
+    let f : List ℕ → List ℕ = λ (x : List ℕ). lines_form x (lines_of b.args.text.now) in
+    next n (f (space_of n)) text.ensures (as-text (ap f (space-is n space.result space.ensures.0)) lines.ensures)

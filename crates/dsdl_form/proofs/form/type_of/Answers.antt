@@ -1,0 +1,49 @@
+-- `form::type_of` meets its contract.
+use mathlib.Core.Path.{sym, ap, ◌∙◌}
+use Prim.Native.Nat.{◌-◌}
+use lib.ListN.{length}
+use Rattle.dsdl_type.specs.Base.{base_text, size_text}
+use Rattle.dsdl_type.specs.Size.{size_fits, size_form}
+use Rattle.dsdl_form.specs.inside.Parts.{base_form}
+use Rattle.dsdl_form.proofs.Placements.{next, front, behind, as-text, fits-as}
+use Rattle.dsdl_form.proofs.Sizes.{part_length}
+use Rattle.dsdl_form.proofs.Types.{base-is, size_is}
+use borrow.Author.Rules.{rules}
+use Rattle.dsdl_form.proofs.form.type_of.Goals as goal
+
+pub sizeless-p-requires : goal.sizeless-p-requires
+sizeless-p-requires c =
+    let run = c.run-n in
+    let b = c in
+    let a = b.args in
+    let w = a.w.now in
+    let f = base_form a.space.now a.c in
+    fits-as a.at (ap f (sym (base-is w _ run.ensures.0))) (front a.at (f (base_text w)) (size_form (size_text w)) b.requires.1.1)
+
+pub write-requires : goal.write-requires
+write-requires c =
+    let run = c.run-n in
+    let sizeless = c.sizeless-p in
+    let b = c in
+    let a = b.args in
+    let w = a.w.now in
+    let n = run.result in
+    let e = run.ensures.0 in
+    let f = base_form a.space.now a.c in
+    let s = size_is w n e in
+    let h = behind (f (base_text w)) (size_form (size_text w)) (as-text (ap f (base-is w n e)) sizeless.ensures) b.requires.1.1 in
+    (part_length w (length w - n) n b.requires.0, (ap size_fits s ∙ b.requires.1.0, fits-as _ (ap size_form (sym s)) h))
+
+pub returns : goal.returns
+returns c =
+    let b = c in
+    let run = c.run-n in
+    let sizeless = c.sizeless-p in
+    let write = c.write in
+    let a = b.args in
+    let w = a.w.now in
+    let n = run.result in
+    let e = run.ensures.0 in
+    let f = base_form a.space.now a.c in
+    next (f (base_text w)) (size_form (size_text w)) (as-text (ap f (base-is w n e)) sizeless.ensures)
+    (as-text (ap size_form (size_is w n e)) write.ensures)

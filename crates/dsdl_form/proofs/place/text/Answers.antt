@@ -1,0 +1,9 @@
+-- `place::text` meets its contract.
+use Rattle.dsdl_form.proofs.Placements.{no_room}
+use borrow.Author.Rules.{rules}
+use Rattle.dsdl_form.proofs.place.text.Goals as goal
+
+pub returns-then-out-end : goal.returns-then-out-end
+returns-then-out-end c =
+    let b = c in
+    no_room b.args.out.now b.args.at b.args.s.now c.if-out-end.true

@@ -1,0 +1,55 @@
+-- `size::unsigned` meets its contract.
+use mathlib.Core.Path.{sym, ◌∙◌}
+use Prim.Native.Nat.{◌-◌, ◌≤◌}
+use native.Mathlib.Omega.{arith}
+use lib.ListN.{length}
+use Rattle.dsdl_number.proofs.Literals.{prefixed}
+use Rattle.dsdl_form.proofs.Placements.{as-text}
+use Rattle.dsdl_form.proofs.Sizes.{based, asked, as-literal, all_digits, behind-prefix, part_length}
+use borrow.Author.Rules.{rules}
+use Rattle.dsdl_form.proofs.size.unsigned.Goals as goal
+
+-- the prefix is there
+two : (c : goal.After-number-arg-2-1) → 2 ≤ length c.args.l.now
+two c =
+    let b = c in
+    let l = b.args.l.now in
+    let e = c.base-b.ensures in
+    prefixed l (λ z. c.if-b-eq10.false (e ∙ z)) (λ z. omega (arith, based l (omega (arith, b.requires.1.1.0))))
+
+pub number-requires : goal.number-requires
+number-requires c = let b = c in
+    let l = b.args.l.now in
+    let t = c.if-b-eq10.true in
+    let e = c.base-b.ensures in
+    (b.requires.0, asked l l 10 b.args.less (sym t ∙ e) (all_digits l _ e t) b.requires.1.1.0 b.args.at b.requires.1.0 b.requires.1.1.1)
+
+pub returns-then-b-eq10 : goal.returns-then-b-eq10
+returns-then-b-eq10 c = let b = c in
+    let l = b.args.l.now in
+    let t = c.if-b-eq10.true in
+    let e = c.base-b.ensures in
+    as-text (as-literal l l 10 b.args.less (sym t ∙ e) (all_digits l _ e t) b.requires.1.1.0) c.number.ensures
+
+pub slice_bounds-number-count : goal.slice_bounds-number-count
+slice_bounds-number-count c = two c
+
+pub slice_bounds-number-start : goal.slice_bounds-number-start
+slice_bounds-number-start c = two c
+
+pub number-requires-2 : goal.number-requires-2
+number-requires-2 c = let b = c in
+    let l = b.args.l.now in
+    let e = c.base-b.ensures in
+    let d = behind-prefix l _ e c.if-b-eq10.false in
+    (part_length l (length l - 2) 2 b.requires.0, asked l _ _ b.args.less e d b.requires.1.1.0 b.args.at b.requires.1.0 b.requires.1.1.1)
+
+pub returns : goal.returns
+returns c =
+    let base = c.base-b in
+    let if1 = c.if-b-eq10 in
+    let number2 = c.number-2 in
+    let b = c in
+    let l = b.args.l.now in
+    let e = base.ensures in
+    as-text (as-literal l _ _ b.args.less e (behind-prefix l _ e if1.false) b.requires.1.1.0) number2.ensures

@@ -1,0 +1,57 @@
+-- `oversized::is_again` meets its contract: what is left decides.
+use Rattle.dsdl_given.proofs.Names.{among-turn, among_none}
+use Rattle.dsdl_given.specs.inside.Places.{definition_at, names_from}
+use Rattle.dsdl_text.specs.Text.{same}
+use Rattle.dsdl.specs.Definition.{is_among}
+use native.Mathlib.Omega.{arith}
+use Prim.Native.Nat.{◌+◌, ◌-◌}
+use mathlib.Core.Bool.{true, false}
+use mathlib.Core.Path.{◌≡◌, refl, sym, ap₂, ◌∙◌}
+use borrow.Author.Rules.{rules}
+use Rattle.dsdl_given.proofs.oversized.is_again.Goals as goal
+
+-- what the test gave is what the definition asks
+is_same : (q : goal.After-same invariant-loop decreases-loop) → let l = q in let a = l.args in
+    same (definition_at a.source.now a.bounds a.i).name (definition_at a.source.now a.bounds l.loop.j).name ≡ q.same.result
+is_same q = let l = q in sym (q.same.ensures ∙ ap₂ same l.name.ensures q.name2.ensures)
+
+pub name-name-requires : goal.name-name-requires
+name-name-requires c = let s = c in s.requires.1.holds s.args.i s.requires.0
+
+pub overflow_add-j : goal.overflow_add-j
+overflow_add-j c = omega arith
+
+pub loop-j-init : goal.loop-j-init
+loop-j-init c = refl
+
+pub name-requires : goal.name-requires
+name-requires c = let l = c in let s = l in s.requires.1.holds l.loop-j.j c.loop-j-test.true
+
+pub returns-then-same : goal.returns-then-same
+returns-then-same c =
+    let q = c in
+    let l = q in
+    let a = l.args in
+    let d = definition_at a.source.now a.bounds in
+    sym (among-turn d l.loop-j.j a.n (d a.i).name true (omega arith) (is_same q ∙ c.if-same.true)) ∙ l.loop-j.invariant
+
+pub overflow_add-j-in-loop-j : goal.overflow_add-j-in-loop-j
+overflow_add-j-in-loop-j c = omega arith
+
+pub loop-j-smaller : goal.loop-j-smaller
+loop-j-smaller c = omega arith
+
+pub loop-j-preserved : goal.loop-j-preserved
+loop-j-preserved c =
+    let q = c in
+    let l = q in
+    let a = l.args in
+    let d = definition_at a.source.now a.bounds in
+    sym (among-turn d l.loop-j.j a.n (d a.i).name false (omega arith) (is_same q ∙ c.if-same.false)) ∙ l.loop-j.invariant
+
+pub returns : goal.returns
+returns c =
+    let l = c in
+    let a = l.args in
+    let d = definition_at a.source.now a.bounds in
+    sym (among_none d l.loop-j.j a.n (d a.i).name c.loop-j-test.false) ∙ l.loop-j.invariant

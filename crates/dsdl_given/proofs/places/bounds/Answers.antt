@@ -1,0 +1,52 @@
+-- `places::bounds` meets its contract.
+use Rattle.dsdl_given.proofs.Located.{one_more}
+use Rattle.dsdl_given.specs.Given.{length_at}
+use Rattle.dsdl_given.specs.inside.Places.{Bounds}
+use native.Mathlib.Omega.{arith}
+use lib.Seq.{get_or-set_same}
+use lib.ListN.{length, get_or, length-set}
+use Prim.Native.Nat.{◌+◌, ◌*◌, ◌-◌, ◌≤◌, ◌<◌}
+use mathlib.Core.Path.{◌≡◌, refl, sym, ◌∙◌}
+use borrow.Author.Rules.{rules}
+use Rattle.dsdl_given.proofs.places.bounds.Goals as goal
+
+pub loop-k-init : goal.loop-k-init
+loop-k-init c = ((omega arith, refl), (omega arith, (refl, record { first = refl; next = λ j h. absurd (omega arith) })))
+
+pub overflow_mul-n : goal.overflow_mul-n
+overflow_mul-n c = omega arith
+
+pub length-at-requires : goal.length-at-requires
+length-at-requires c = omega arith
+
+pub overflow_add-at : goal.overflow_add-at
+overflow_add-at c = omega arith
+
+pub overflow_add-k : goal.overflow_add-k
+overflow_add-k c = omega arith
+
+pub bounds-ends-k : goal.bounds-ends-k
+bounds-ends-k c = omega arith
+
+pub loop-k-smaller : goal.loop-k-smaller
+loop-k-smaller c = omega arith
+
+pub loop-k-preserved : goal.loop-k-preserved
+loop-k-preserved c =
+    let l = c in
+    let i = l.loop-k.invariant in
+    let e = l.loop-k.ends in
+    let r : l.loop-k.k + 1 < length e = omega arith in
+    let x = c.length-at.result in (
+      (omega arith, length-set e (l.loop-k.k + 1) (l.loop-k.at + x) ∙ i.0.1),
+      (
+        omega arith,
+        (
+          sym (get_or-set_same e (l.loop-k.k + 1) (l.loop-k.at + x) 0 r),
+          one_more (length_at l.args.lengths.now) e l.loop-k.at l.loop-k.k x r i.1.1.1 i.1.1.0 c.length-at.ensures.0,
+        ),
+      ),
+    )
+
+pub returns : goal.returns
+returns c = let b = c.loop-k.invariant.1.1.1 in record { first = b.first; next = λ j h. b.next j (omega arith) }

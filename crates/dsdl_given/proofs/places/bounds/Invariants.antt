@@ -1,0 +1,16 @@
+use Rattle.dsdl_given.proofs.Located.{one_more}
+use Rattle.dsdl_given.specs.Given.{length_at}
+use Rattle.dsdl_given.specs.inside.Places.{Bounds}
+use native.Mathlib.Omega.{arith}
+use lib.Seq.{get_or-set_same}
+use lib.ListN.{length, get_or, length-set}
+use Prim.Native.Nat.{◌+◌, ◌*◌, ◌-◌, ◌≤◌, ◌<◌}
+use mathlib.Core.Path.{◌≡◌, refl, sym, ◌∙◌}
+use borrow.Author.Rules.{rules}
+use Rattle.dsdl_given.proofs.places.bounds.Given as goal
+
+abbrev pub invariant-loop-k : goal.invariant-loop-k
+invariant-loop-k l = ((l.k ≤ l.n * 2) × (length l.ends ≡ 17)) × ((l.at ≤ l.k * 4294967295) × ((l.at ≡ get_or l.ends l.k 0) × Bounds (length_at l.lengths) l.ends l.k))
+
+abbrev pub decreases-loop-k : goal.decreases-loop-k
+decreases-loop-k l = l.n * 2 - l.k

@@ -1,0 +1,10 @@
+-- `shape::cast_attribute` meets its contract.
+use Rattle.dsdl_line.proofs.Attributes.{cast-read}
+use borrow.Author.Rules.{rules}
+use Rattle.dsdl_line.proofs.shape.cast_attribute.Goals as goal
+
+pub returns : goal.returns
+returns c =
+    let w = c in
+    let a = w.args in
+    cast-read a.line.now a.from a.stop w.next-w.result w.next-w.ensures.0 a.c _ c.attribute.ensures

@@ -1,0 +1,21 @@
+-- `shape::is_constant_type` meets its contract.
+use Rattle.dsdl_line.proofs.Types.{base_read, some_size, no_size}
+use Rattle.dsdl_text.proofs.Choices.{and_first, and-next}
+use Rattle.dsdl_type.specs.Base.{is_primitive}
+use mathlib.Core.Path.{ap, ◌∙◌}
+use borrow.Author.Rules.{rules}
+use Rattle.dsdl_line.proofs.shape.is_constant_type.Goals as goal
+
+pub returns-then-n-w : goal.returns-then-n-w
+returns-then-n-w c =
+    let n = c in
+    and_first _ _ (some_size n.args.w.now n.run-n.result n.run-n.ensures.0 c.if-n-w.true)
+
+pub returns : goal.returns
+returns c =
+    let b = c in
+    let f = b in
+    let n = f in
+    let w = n.args.w.now in
+    and-next _ _ _ (no_size w n.run-n.result n.run-n.ensures.0 f.if-n-w.false)
+    (c.is_primitive.ensures ∙ ap is_primitive (base_read w n.run-n.result n.run-n.ensures.0 b.read.result b.read.ensures))

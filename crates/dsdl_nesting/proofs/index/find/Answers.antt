@@ -1,0 +1,50 @@
+-- `index::find` meets its contract.
+use Rattle.dsdl_nesting.proofs.Kept.{starts, here, later, nowhere}
+use Rattle.dsdl_nesting.specs.inside.Kept.{index_of}
+use Rattle.dsdl_text.specs.Names.{full_name}
+use Rattle.dsdl_given.specs.inside.Places.{definition_at, given}
+use Rattle.bits.specs.Tabulate.{tabulate}
+use Rattle.dsdl_text.proofs.Choices.{by}
+use Rattle.dsdl_text.specs.Text.{same}
+use native.Mathlib.Omega.{arith}
+use Prim.Native.Nat.{◌+◌, ◌-◌, ◌≤◌}
+use mathlib.Core.Path.{◌≡◌, ap, ◌∙◌}
+use borrow.Author.Rules.{rules}
+use Rattle.dsdl_nesting.proofs.index.find.Goals as goal
+
+pub loop-i-init : goal.loop-i-init
+loop-i-init c = (omega arith, starts _ _ _)
+
+pub name-requires : goal.name-requires
+name-requires c = let l = c in l.requires.holds l.loop-i.i c.loop-i-test.true
+
+pub returns-then-is : goal.returns-then-is
+returns-then-is c =
+    let s = c in
+    let l = s in
+    let a = l.args in
+    let x = full_name a.space.now a.base.now in
+    let e = here (definition_at a.source.now a.bounds) x l.loop-i.i a.n (omega arith) (by (s.is.ensures ∙ ap (same x) s.name.ensures) c.if-is.true) in
+    (omega (arith, e, l.loop-i.invariant.1), omega arith)
+
+pub overflow_add-i : goal.overflow_add-i
+overflow_add-i c = omega arith
+
+pub loop-i-smaller : goal.loop-i-smaller
+loop-i-smaller c = omega arith
+
+pub loop-i-preserved : goal.loop-i-preserved
+loop-i-preserved c =
+    let s = c in
+    let l = s in
+    let a = l.args in
+    let x = full_name a.space.now a.base.now in
+    let e = later (definition_at a.source.now a.bounds) x l.loop-i.i a.n (omega arith) (by (s.is.ensures ∙ ap (same x) s.name.ensures) c.if-is.false) in
+    (omega arith, omega (arith, e, l.loop-i.invariant.1))
+
+pub returns : goal.returns
+returns c =
+    let l = c in
+    let a = l.args in
+    let e = nowhere (definition_at a.source.now a.bounds) (full_name a.space.now a.base.now) l.loop-i.i a.n (omega arith) in
+    (omega (arith, e, l.loop-i.invariant.1), omega arith)

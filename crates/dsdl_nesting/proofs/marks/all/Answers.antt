@@ -1,0 +1,37 @@
+-- `marks::all` meets its contract.
+use Rattle.dsdl_nesting.proofs.Kept.{on, off, done}
+use Rattle.bits.specs.Tabulate.{every}
+use borrow.Author.Tests.{not-true, not-false}
+use lib.ListN.{get_or}
+use native.Mathlib.Omega.{arith}
+use Prim.Native.Nat.{ℕ, ◌-◌, ◌≤◌}
+use mathlib.Core.Bool.{false}
+use mathlib.Core.Path.{◌≡◌, sym, ap, ◌∙◌}
+use Rattle.dsdl_nesting.proofs.marks.all.Goals as goal
+
+pub loop-i-init : goal.loop-i-init
+loop-i-init c = let e : c.args.n - 0 ≡ c.args.n = omega arith in (omega arith, ap (every _ 0) e)
+
+pub bounds-marks-i : goal.bounds-marks-i
+bounds-marks-i c = omega arith
+
+pub returns-then-not-marks-i : goal.returns-then-not-marks-i
+returns-then-not-marks-i c =
+    let l = c in
+    sym (sym l.loop-i.invariant.1 ∙ off _ l.loop-i.i l.args.n (omega arith) (not-true _ c.if-not-marks-i.true))
+
+pub overflow_add-i : goal.overflow_add-i
+overflow_add-i c = omega arith
+
+pub loop-i-smaller : goal.loop-i-smaller
+loop-i-smaller c = omega arith
+
+pub loop-i-preserved : goal.loop-i-preserved
+loop-i-preserved c =
+    let l = c in
+    (omega arith, sym (on _ l.loop-i.i l.args.n (omega arith) (not-false _ c.if-not-marks-i.false)) ∙ l.loop-i.invariant.1)
+
+pub returns : goal.returns
+returns c =
+    let l = c in
+    sym (sym l.loop-i.invariant.1 ∙ done _ l.loop-i.i l.args.n (omega arith))

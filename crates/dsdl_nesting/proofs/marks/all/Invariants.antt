@@ -1,0 +1,15 @@
+use Rattle.dsdl_nesting.proofs.Kept.{on, off, done}
+use Rattle.bits.specs.Tabulate.{every}
+use borrow.Author.Tests.{not-true, not-false}
+use lib.ListN.{get_or}
+use native.Mathlib.Omega.{arith}
+use Prim.Native.Nat.{ℕ, ◌-◌, ◌≤◌}
+use mathlib.Core.Bool.{false}
+use mathlib.Core.Path.{◌≡◌, sym, ap, ◌∙◌}
+use Rattle.dsdl_nesting.proofs.marks.all.Given as goal
+
+abbrev pub invariant-loop-i : goal.invariant-loop-i
+invariant-loop-i l = (l.i ≤ l.n) × (every (λ (j : ℕ). get_or l.marks j false) l.i (l.n - l.i) ≡ every (λ (j : ℕ). get_or l.marks j false) 0 l.n)
+
+abbrev pub decreases-loop-i : goal.decreases-loop-i
+decreases-loop-i l = l.n - l.i

@@ -1,0 +1,40 @@
+-- `marks::messages` meets its contract.
+use Rattle.dsdl_nesting.proofs.Kept.{none, one_more}
+use Rattle.dsdl_nesting.specs.inside.Kept.{Kept}
+use Rattle.dsdl_given.specs.Given.{is_service_of}
+use Rattle.dsdl_given.specs.inside.Places.{definition_at}
+use native.Mathlib.Omega.{arith}
+use Prim.Native.Nat.{ℕ, ◌-◌, ◌≤◌}
+use mathlib.Core.Bool.{false, not}
+use mathlib.Core.List.{List}
+use mathlib.Core.Path.{◌≡◌, ap, ◌∙◌}
+use Rattle.dsdl.specs.Definition.{lines_of, is_service}
+use borrow.Author.Rules.{rules}
+use Rattle.dsdl_nesting.proofs.marks.messages.Goals as goal
+
+pub loop-i-init : goal.loop-i-init
+loop-i-init c = (omega arith, none _ _ _ _ (omega (arith, c.requires.few)))
+
+pub text-requires : goal.text-requires
+text-requires c = let l = c in l.requires.holds l.loop-i.i c.loop-i-test.true
+
+pub bounds-r-i : goal.bounds-r-i
+bounds-r-i c = let l = c in omega (arith, l.requires.few)
+
+pub overflow_add-i : goal.overflow_add-i
+overflow_add-i c = omega arith
+
+pub loop-i-smaller : goal.loop-i-smaller
+loop-i-smaller c = omega arith
+
+pub loop-i-preserved : goal.loop-i-preserved
+loop-i-preserved c =
+    let i = c in
+    let l = i in (
+      omega arith,
+      one_more _ _ _ _ (omega (arith, l.requires.few)) l.loop-i.i l.loop-i.r _ i.loop-i-test.true l.loop-i.invariant.1
+          (ap not (c.is_service.ensures ∙ ap (λ (t : List ℕ). is_service (lines_of t)) c.text.ensures.0)),
+    )
+
+pub returns : goal.returns
+returns c = let l = c in let e : l.loop-i.i ≡ l.args.n = omega arith in rw e at l.loop-i.invariant.1

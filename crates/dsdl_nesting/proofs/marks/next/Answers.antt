@@ -1,0 +1,33 @@
+-- `marks::next` meets its contract.
+use Rattle.dsdl_nesting.proofs.Kept.{none, one_more}
+use Rattle.dsdl_nesting.specs.inside.Kept.{Kept}
+use Rattle.dsdl_nesting.specs.inside.Sets.{row_holds}
+use native.Mathlib.Omega.{arith}
+use Prim.Native.Nat.{◌-◌, ◌≤◌}
+use mathlib.Core.Bool.{true, false}
+use mathlib.Core.Path.{◌≡◌}
+use Rattle.dsdl_nesting.proofs.marks.next.Goals as goal
+
+pub loop-i-init : goal.loop-i-init
+loop-i-init c = (omega arith, none _ _ _ _ (omega (arith, c.requires)))
+
+pub row-requires : goal.row-requires
+row-requires c = omega (arith, c.requires)
+
+pub bounds-r-i : goal.bounds-r-i
+bounds-r-i c = let l = c in omega (arith, l.requires)
+
+pub overflow_add-i : goal.overflow_add-i
+overflow_add-i c = omega arith
+
+pub loop-i-smaller : goal.loop-i-smaller
+loop-i-smaller c = omega arith
+
+pub loop-i-preserved : goal.loop-i-preserved
+loop-i-preserved c =
+    let i = c in
+    let l = i in
+    (omega arith, one_more _ _ _ _ (omega (arith, l.requires)) l.loop-i.i l.loop-i.r _ i.loop-i-test.true l.loop-i.invariant.1 c.row.ensures)
+
+pub returns : goal.returns
+returns c = let l = c in let e : l.loop-i.i ≡ l.args.n = omega arith in rw e at l.loop-i.invariant.1

@@ -1,0 +1,28 @@
+-- `sets::all` meets its contract.
+use Rattle.dsdl_nesting.proofs.Rows.{no_rows, one-row}
+use Rattle.dsdl_nesting.specs.inside.Sets.{Nested}
+use native.Mathlib.Omega.{arith}
+use Prim.Native.Nat.{◌-◌, ◌≤◌}
+use mathlib.Core.Path.{◌≡◌}
+use Rattle.dsdl_nesting.proofs.sets.all.Goals as goal
+
+pub loop-i-init : goal.loop-i-init
+loop-i-init c = (omega arith, no_rows _ _ _ (omega (arith, c.requires.few)))
+
+pub of-requires : goal.of-requires
+of-requires c = let i = c in (i.loop-i-test.true, i.requires)
+
+pub overflow_add-i : goal.overflow_add-i
+overflow_add-i c = omega arith
+
+pub loop-i-smaller : goal.loop-i-smaller
+loop-i-smaller c = omega arith
+
+pub loop-i-preserved : goal.loop-i-preserved
+loop-i-preserved c =
+    let i = c in
+    let l = i in
+    (omega arith, one-row _ _ _ (omega (arith, l.requires.few)) l.loop-i.i l.loop-i.sets _ i.loop-i-test.true l.loop-i.invariant.1 c.of.ensures)
+
+pub returns : goal.returns
+returns c = let l = c in let e : l.loop-i.i ≡ l.args.n = omega arith in rw e at l.loop-i.invariant.1

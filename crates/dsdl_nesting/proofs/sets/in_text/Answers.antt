@@ -1,0 +1,54 @@
+-- `sets::in_text` meets its contract.
+use Rattle.dsdl_nesting.proofs.Walks.{marked-goes, nested_from, on, last}
+use Rattle.dsdl_nesting.specs.inside.Sets.{place_in, marked_by}
+use Rattle.dsdl_given.specs.inside.Places.{given}
+use lib.ListN.{length}
+use native.Mathlib.Omega.{arith}
+use Prim.Native.Nat.{◌-◌, ◌≤◌}
+use mathlib.Core.Path.{◌≡◌, refl, ◌∙◌}
+use Rattle.dsdl_nesting.proofs.sets.in_text.Goals as goal
+
+pub loop-bounds-init : goal.loop-bounds-init
+loop-bounds-init c = (omega arith, refl)
+
+pub end-end-requires : goal.end-end-requires
+end-end-requires c = c.loop-bounds.invariant.0
+
+pub slice_bounds-in_line-count : goal.slice_bounds-in_line-count
+slice_bounds-in_line-count c = omega arith
+
+pub slice_bounds-in_line-start : goal.slice_bounds-in_line-start
+slice_bounds-in_line-start c = omega arith
+
+pub slice_bounds-in_line-end : goal.slice_bounds-in_line-end
+slice_bounds-in_line-end c = omega arith
+
+pub in_line-requires : goal.in_line-requires
+in_line-requires c = c.requires
+
+pub returns-then-end-text : goal.returns-then-end-text
+returns-then-end-text c =
+    let w = c in
+    let d = w in
+    let l = d in
+    let a = l.args in
+    last a.space.now a.text.now l.loop-bounds.at d.end-end.result d.end-end.ensures.0 _ (marked-goes _) l.loop-bounds.sets _ w.in_line.ensures (omega arith)
+    ∙ l.loop-bounds.invariant.1
+
+pub next-at-requires : goal.next-at-requires
+next-at-requires c = omega arith
+
+pub loop-bounds-smaller : goal.loop-bounds-smaller
+loop-bounds-smaller c = let l = c in omega (arith, c.next-at.ensures.1, l.loop-bounds.invariant.0)
+
+pub loop-bounds-preserved : goal.loop-bounds-preserved
+loop-bounds-preserved c =
+    let w = c in
+    let d = w in
+    let l = d in
+    let a = l.args in (
+      c.next-at.ensures.1.1,
+      on a.space.now a.text.now l.loop-bounds.at d.end-end.result d.end-end.ensures.0 _ (marked-goes _) l.loop-bounds.sets _ w.in_line.ensures
+          c.next-at.result c.next-at.ensures.0 (omega arith)
+          ∙ l.loop-bounds.invariant.1,
+    )

@@ -1,0 +1,25 @@
+-- `signature::in_line` meets its contract.
+use Rattle.dsdl_nesting.proofs.Walks.{extended-goes, without, with-one}
+use Rattle.dsdl_nesting.specs.Signature.{extended_by}
+use Rattle.checksum.specs.Signature.{extended}
+use Rattle.dsdl_nesting.proofs.Kept.{same_place}
+use borrow.Author.Tests.{not-true, not-false}
+use mathlib.Core.Path.{ap, ◌∙◌}
+use borrow.Author.Rules.{rules}
+use Rattle.dsdl_nesting.proofs.signature.in_line.Goals as goal
+
+pub returns-then-not-found : goal.returns-then-not-found
+returns-then-not-found c =
+    let r = c in
+    let a = r.args in
+    without _ (extended-goes _) _ r.read-b.result.found _ (r.read-b.ensures.0 a.space.now) a.h (not-true _ c.if-not-found.true)
+
+pub returns : goal.returns
+unfolding extended_by
+returns c =
+    let i = c in
+    let f = i in
+    let r = f in
+    let a = r.args in
+    with-one _ (extended-goes _) _ r.read-b.result.found _ (r.read-b.ensures.0 a.space.now) a.h c.extend.result (not-false _ f.if-not-found.false)
+    (c.extend.ensures ∙ ap (extended a.h) (same_place a.t6 0 _ _ i.find-i.ensures.0))

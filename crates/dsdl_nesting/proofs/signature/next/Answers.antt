@@ -1,0 +1,48 @@
+-- `signature::next` meets its contract.
+use Rattle.dsdl_nesting.proofs.Kept.{none, one_more}
+use Rattle.dsdl_nesting.specs.Signature.{extended_by}
+use Rattle.dsdl_nesting.specs.inside.Kept.{value_of, Kept}
+use Rattle.dsdl_given.specs.Given.{nested_of}
+use Rattle.dsdl_given.specs.inside.Places.{definition_at, given}
+use lib.ListN.{get_or}
+use native.Mathlib.Omega.{arith}
+use Prim.Native.Nat.{ℕ, ◌-◌, ◌≤◌}
+use mathlib.Core.Bool.{false, cond}
+use mathlib.Core.Path.{◌≡◌}
+use Rattle.dsdl_nesting.proofs.signature.next.Goals as goal
+
+pub loop-i-init : goal.loop-i-init
+loop-i-init c = (omega arith, none _ _ _ _ (omega (arith, c.requires.few)))
+
+pub offset_bounds-hashes-i : goal.offset_bounds-hashes-i
+offset_bounds-hashes-i c = omega (arith, c.requires.few)
+
+pub bounds-hashes-i : goal.bounds-hashes-i
+bounds-hashes-i c = omega (arith, c.requires.few)
+
+pub bounds-done-i : goal.bounds-done-i
+bounds-done-i c = omega (arith, c.requires.few)
+
+pub value-requires : goal.value-requires
+value-requires c = (c.loop-i-test.true, c.requires)
+
+pub offset_bounds-r-i : goal.offset_bounds-r-i
+offset_bounds-r-i c = let l = c in omega (arith, l.requires.few)
+
+pub bounds-r-i : goal.bounds-r-i
+bounds-r-i c = let l = c in omega (arith, l.requires.few)
+
+pub overflow_add-i : goal.overflow_add-i
+overflow_add-i c = omega arith
+
+pub loop-i-smaller : goal.loop-i-smaller
+loop-i-smaller c = omega arith
+
+pub loop-i-preserved : goal.loop-i-preserved
+loop-i-preserved c =
+    let i = c in
+    let l = i in
+    (omega arith, one_more _ _ _ _ (omega (arith, l.requires.few)) l.loop-i.i l.loop-i.r _ i.loop-i-test.true l.loop-i.invariant.1 c.value.ensures)
+
+pub returns : goal.returns
+returns c = let l = c in let e : l.loop-i.i ≡ l.args.n = omega arith in rw e at l.loop-i.invariant.1

@@ -1,0 +1,58 @@
+-- `character::quoted` meets its contract.
+use Rattle.dsdl_text.proofs.Choices.{by}
+use Rattle.dsdl_number.proofs.Characters.{two-few, alone, alone-open, letter, letter-open, digits, digits-open}
+use native.Mathlib.Omega.{arith}
+use borrow.Author.Rules.{rules}
+use Rattle.dsdl_number.proofs.character.quoted.Goals as goal
+
+pub returns-then-s-lt2 : goal.returns-then-s-lt2
+returns-then-s-lt2 c = two-few c.args.s.now c.if-s-lt2.true
+
+pub returns-then-is_closed : goal.returns-then-is_closed
+returns-then-is_closed c =
+    let k = c in
+    let t = k in
+    let s = t.args.s.now in
+    alone s t.if-s-ne92.true _ (by k.is_closed.ensures.0 c.if-is_closed.true) c.plain.ensures
+
+pub returns-then-s-ne92 : goal.returns-then-s-ne92
+returns-then-s-ne92 c =
+    let k = c in
+    let t = k in
+    let s = t.args.s.now in
+    alone-open s t.if-s-ne92.true (by k.is_closed.ensures.0 c.if-is_closed.false)
+
+pub returns-then-is_closed-2 : goal.returns-then-is_closed-2
+returns-then-is_closed-2 c =
+    let k = c in
+    let t = k in
+    let f = t in
+    let s = f.args.s.now in
+    letter s f.if-s-ne92.false t.if-s-ne120.true _ (by k.is_closed-then-s-ne120.ensures.0 c.if-is_closed-2.true) c.escape.ensures
+
+pub returns-then-s-ne120 : goal.returns-then-s-ne120
+returns-then-s-ne120 c =
+    let k = c in
+    let t = k in
+    let f = t in
+    let s = f.args.s.now in
+    letter-open s f.if-s-ne92.false t.if-s-ne120.true (by k.is_closed-then-s-ne120.ensures.0 c.if-is_closed-2.false)
+
+pub slice_bounds-coded-end : goal.slice_bounds-coded-end
+slice_bounds-coded-end c = omega (arith, c.is_closed-2.ensures.1 c.if-is_closed-3.true)
+
+pub returns-then-is_closed-3 : goal.returns-then-is_closed-3
+returns-then-is_closed-3 c =
+    let k = c in
+    let t = k in
+    let f = t in
+    let s = f.args.s.now in
+    digits s f.if-s-ne92.false t.if-s-ne120.false _ (by k.is_closed-2.ensures.0 c.if-is_closed-3.true) c.coded.ensures
+
+pub returns : goal.returns
+returns c =
+    let k = c in
+    let t = k in
+    let f = t in
+    let s = f.args.s.now in
+    digits-open s f.if-s-ne92.false t.if-s-ne120.false (by k.is_closed-2.ensures.0 c.if-is_closed-3.false)

@@ -1,0 +1,15 @@
+use Rattle.dsdl_number.proofs.Significands.{padded-length, padded-at, zero-on, zero-stop, zero-end}
+use Rattle.dsdl_number.specs.inside.Significand.{significand, padded, are_zero}
+use Rattle.dsdl_number.specs.Integer.{digit_of}
+use lib.ListN.{get_or, drop}
+use native.Mathlib.Omega.{arith}
+use native.Mathlib.Numerals.{add-one}
+use Prim.Native.Nat.{◌-◌}
+use mathlib.Core.Path.{◌≡◌, refl, sym, ap, ◌∙◌}
+use Rattle.dsdl_number.proofs.significand.are_zero.Given as goal
+
+abbrev pub invariant-loop-k : goal.invariant-loop-k
+invariant-loop-k l = are_zero (drop l.k (padded l.to (significand l.point l.s))) ≡ are_zero (drop l.from (padded l.to (significand l.point l.s)))
+
+abbrev pub decreases-loop-k : goal.decreases-loop-k
+decreases-loop-k l = l.to - l.k

@@ -1,0 +1,18 @@
+use Rattle.dsdl_number.proofs.Bounded.{over, quotient-below, quotient_fits}
+use Rattle.dsdl_number.proofs.Significands.{next-digit, no_digit}
+use Rattle.dsdl_number.specs.Integer.{value_from, value}
+use Rattle.dsdl_number.specs.inside.Significand.{significand, padded}
+use borrow.Author.Tests.{le-leb}
+use lib.ListN.{drop}
+use native.Mathlib.Omega.{arith}
+use native.Mathlib.Numerals.{add-one}
+use Prim.Native.Nat.{◌-◌, ◌≤◌}
+use mathlib.Core.Path.{◌≡◌, refl, sym, ◌∙◌}
+use Rattle.dsdl_number.proofs.significand.at_most.Given as goal
+
+abbrev pub invariant-loop-k : goal.invariant-loop-k
+invariant-loop-k l =
+    (l.k ≤ l.n) × ((l.v ≤ l.m) × (value_from l.base l.v (drop l.k (padded l.n (significand l.point l.s))) ≡ value l.base (padded l.n (significand l.point l.s))))
+
+abbrev pub decreases-loop-k : goal.decreases-loop-k
+decreases-loop-k l = l.n - l.k

@@ -1,0 +1,92 @@
+-- `significand::is_less` meets its contract.
+use Rattle.dsdl_number.proofs.Significands.{padded-length, padded-at}
+use Rattle.dsdl_number.proofs.Compared.{less-here, more-here, same_here, less-end}
+use Rattle.dsdl_number.specs.Integer.{digit_of}
+use Rattle.dsdl_number.specs.inside.Significand.{significand, padded, is_less}
+use borrow.Author.Rules.{rules}
+use lib.ListN.{length, get_or, drop}
+use native.Mathlib.Omega.{arith}
+use native.Mathlib.Nat.{add-zero}
+use native.Mathlib.Numerals.{add-one}
+use Prim.Native.Nat.{ℕ, suc, ◌+◌, ◌-◌, ◌≤◌, ◌<◌}
+use mathlib.Core.Path.{◌≡◌, sym, ap, ◌∙◌}
+use mathlib.Core.List.{List}
+use Rattle.dsdl_number.proofs.significand.is_less.Invariants.{front}
+use Rattle.dsdl_number.proofs.significand.is_less.Goals as goal
+
+-- a digit of the literal among the first ones
+digit-in : (s : List ℕ) (point from n i d : ℕ) → i < n → d ≡ digit_of (get_or (significand point s) (from + i) 48)
+    → (from + i < length (front s point from n)) × (d ≡ digit_of (get_or (front s point from n) (from + i) 0))
+digit-in s point from n i d h e = (
+  omega (arith, padded-length (from + n) (significand point s)),
+  e ∙ ap digit_of (sym (padded-at (from + n) (significand point s) (from + i) 0 (omega arith))),
+)
+
+pub loop-i-init : goal.loop-i-init
+loop-i-init c =
+    let a = c.args in (
+      omega arith,
+      ap (λ (k : ℕ). is_less (drop k (front a.s.now a.point a.from (length a.bound.now))) a.bound.now) (add-zero a.from),
+    )
+
+pub overflow_add-from : goal.overflow_add-from
+overflow_add-from c = omega (arith, c.requires.1)
+
+pub digit_at-d-requires : goal.digit_at-d-requires
+digit_at-d-requires c = c.requires.0
+
+pub bounds-bound-i : goal.bounds-bound-i
+bounds-bound-i c = omega arith
+
+pub returns-then-d-e : goal.returns-then-d-e
+returns-then-d-e c =
+    let g = c in
+    let d = g in
+    let l = d in
+    let a = l.args in
+    let n = length a.bound.now in
+    let i = digit-in a.s.now a.point a.from n l.loop-i.i d.digit_at-d.result (omega arith) d.digit_at-d.ensures.0 in
+    let p = front a.s.now a.point a.from n in
+    less-here p a.bound.now (a.from + l.loop-i.i) l.loop-i.i d.digit_at-d.result g.digit-e.result i.0 (omega arith) i.1 g.digit-e.ensures.0 c.if-d-e.true ∙ l.loop-i.invariant.1
+
+pub returns-then-e-d : goal.returns-then-e-d
+returns-then-e-d c =
+    let g = c in
+    let d = g in
+    let l = d in
+    let a = l.args in
+    let n = length a.bound.now in
+    let i = digit-in a.s.now a.point a.from n l.loop-i.i d.digit_at-d.result (omega arith) d.digit_at-d.ensures.0 in
+    let p = front a.s.now a.point a.from n in
+    more-here p a.bound.now (a.from + l.loop-i.i) l.loop-i.i d.digit_at-d.result g.digit-e.result i.0 (omega arith) i.1 g.digit-e.ensures.0
+    c.if-d-e.false c.if-e-d.true ∙ l.loop-i.invariant.1
+
+pub overflow_add-i : goal.overflow_add-i
+overflow_add-i c = omega arith
+
+pub loop-i-smaller : goal.loop-i-smaller
+loop-i-smaller c = omega arith
+
+pub loop-i-preserved : goal.loop-i-preserved
+loop-i-preserved c =
+    let g = c in
+    let d = g in
+    let l = d in
+    let a = l.args in
+    let n = length a.bound.now in
+    let i = digit-in a.s.now a.point a.from n l.loop-i.i d.digit_at-d.result (omega arith) d.digit_at-d.ensures.0 in
+    let p = front a.s.now a.point a.from n in
+    let e : a.from + (l.loop-i.i + 1) ≡ suc (a.from + l.loop-i.i) = omega arith in
+    let h = same_here p a.bound.now (a.from + l.loop-i.i) l.loop-i.i d.digit_at-d.result g.digit-e.result i.0 (omega arith) i.1 g.digit-e.ensures.0
+    c.if-d-e.false c.if-e-d.false in (
+      omega arith,
+      ap (λ (k : ℕ). is_less (drop k p) (drop (l.loop-i.i + 1) a.bound.now)) e
+          ∙ (ap (λ (k : ℕ). is_less (drop (suc (a.from + l.loop-i.i)) p) (drop k a.bound.now)) (add-one l.loop-i.i) ∙ (sym h ∙ l.loop-i.invariant.1)),
+    )
+
+pub returns : goal.returns
+returns c =
+    let l = c in
+    let a = l.args in
+    let p = front a.s.now a.point a.from (length a.bound.now) in
+    sym (less-end (drop (a.from + l.loop-i.i) p) a.bound.now l.loop-i.i (omega arith)) ∙ l.loop-i.invariant.1

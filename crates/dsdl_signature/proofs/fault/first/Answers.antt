@@ -1,0 +1,63 @@
+-- `fault::first` meets its contract: what is left decides.
+use Rattle.dsdl_signature.proofs.Faults.{passes, stops, ends}
+use Rattle.dsdl_given.specs.Given.{fault_from}
+use Rattle.dsdl_given.specs.inside.Places.{definition_at, given}
+use Rattle.dsdl_signature.specs.inside.Fault.{told}
+use Rattle.dsdl.specs.Definition.{verdict}
+use Rattle.bits.specs.Tabulate.{tabulate}
+use native.Mathlib.Nat.{sub-zero}
+use native.Mathlib.Omega.{arith}
+use Prim.Native.Nat.{ℕ, ◌+◌, ◌-◌}
+use mathlib.Core.Path.{◌≡◌, sym, ap, ap₂, ◌∙◌}
+use borrow.Author.Rules.{rules}
+use Rattle.dsdl_signature.proofs.fault.first.Goals as goal
+
+-- what the code judges is what the definition asks
+judged : (j : goal.After-judge invariant-loop decreases-loop) → let l = j in let a = l.args in
+    told j.judge.result ≡ verdict (definition_at a.source.now a.bounds l.loop.i).name (definition_at a.source.now a.bounds l.loop.i).text
+judged j = j.judge.ensures ∙ ap₂ verdict j.name.ensures j.text.ensures.0
+
+pub loop-i-init : goal.loop-i-init
+loop-i-init c = let a = c.args in ap (λ (k : ℕ). fault_from 1 (given a.source.now a.bounds k)) (sub-zero a.n)
+
+pub name-requires : goal.name-requires
+name-requires c = let l = c in l.requires.holds l.loop-i.i c.loop-i-test.true
+
+pub text-requires : goal.text-requires
+text-requires c = let t = c in let l = t in l.requires.holds l.loop-i.i t.loop-i-test.true
+
+pub judge-requires : goal.judge-requires
+judge-requires c = c.text.ensures.1
+
+pub overflow_add-i : goal.overflow_add-i
+overflow_add-i c = omega arith
+
+pub loop-i-smaller : goal.loop-i-smaller
+loop-i-smaller c = omega arith
+
+pub loop-i-preserved : goal.loop-i-preserved
+loop-i-preserved c =
+    let j = c in
+    let l = j in
+    let a = l.args in
+    sym (passes (definition_at a.source.now a.bounds) l.loop-i.i a.n (omega arith) (ap told (sym c.in-Good.is) ∙ judged j)) ∙ l.loop-i.invariant
+
+pub overflow_cast-result : goal.overflow_cast-result
+overflow_cast-result c = let l = c in omega (arith, l.requires.few)
+
+pub overflow_add-result : goal.overflow_add-result
+overflow_add-result c = let l = c in omega (arith, l.requires.few)
+
+pub returns-in-Faulty : goal.returns-in-Faulty
+returns-in-Faulty c =
+    let k = c in
+    let j = k in
+    let l = j in
+    let a = l.args in
+    stops (definition_at a.source.now a.bounds) l.loop-i.i a.n k.in-Faulty.line (omega arith) (ap told (sym k.in-Faulty.is) ∙ judged j) ∙ l.loop-i.invariant
+
+pub returns : goal.returns
+returns c =
+    let l = c in
+    let a = l.args in
+    ends (definition_at a.source.now a.bounds) l.loop-i.i a.n c.loop-i-test.false ∙ l.loop-i.invariant

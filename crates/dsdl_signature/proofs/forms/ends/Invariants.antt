@@ -1,0 +1,16 @@
+use Rattle.dsdl.specs.Form.{form_of}
+use Rattle.dsdl_given.proofs.Located.{one_more}
+use Rattle.dsdl_signature.specs.inside.Written.{form_at, Ends}
+use native.Mathlib.Omega.{arith}
+use lib.Seq.{get_or-set_same}
+use lib.ListN.{length, get_or, length-set}
+use Prim.Native.Nat.{ℕ, ◌+◌, ◌*◌, ◌-◌, ◌^◌, ◌≤◌, ◌<◌}
+use mathlib.Core.Path.{◌≡◌, refl, sym, ap, ap₂, ◌∙◌}
+use borrow.Author.Rules.{rules}
+use Rattle.dsdl_signature.proofs.forms.ends.Given as goal
+
+abbrev pub invariant-loop-i : goal.invariant-loop-i
+invariant-loop-i l = ((l.i ≤ l.n) × (length l.ends ≡ 9)) × ((l.at ≤ l.i * 2 ^ 19) × ((l.at ≡ get_or l.ends l.i 0) × Ends l.source l.bounds l.ends l.i))
+
+abbrev pub decreases-loop-i : goal.decreases-loop-i
+decreases-loop-i l = l.n - l.i

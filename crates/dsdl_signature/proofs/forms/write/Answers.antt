@@ -1,0 +1,72 @@
+-- `forms::write` meets its contract.
+use Rattle.dsdl_signature.proofs.Joined.{joined_length, one_written, room, one-stored}
+use Rattle.dsdl_nesting.specs.inside.Kept.{Hashes}
+use Rattle.dsdl_signature.specs.inside.Written.{joined, form_at}
+use Rattle.checksum.specs.Signature.{hash_from}
+use Rattle.bits.specs.Part.{splice}
+use Rattle.bits.proofs.Splice.{length-splice}
+use native.Mathlib.Omega.{arith}
+use lib.ListN.{length, get_or, length-set}
+use Prim.Native.Nat.{ℕ, ◌+◌, ◌-◌, ◌≤◌, ◌<◌}
+use mathlib.Core.Path.{◌≡◌, refl, ap, ◌∙◌}
+use borrow.Author.Rules.{rules}
+use Rattle.dsdl_signature.proofs.forms.write.Goals as goal
+
+-- form i has room
+has_room : (l : goal.At-loop-i invariant-loop decreases-loop) → let a = l.args in
+    l.loop.i < a.n → get_or a.t4 l.loop.i 0 + length (form_at a.source.now a.bounds l.loop.i) ≤ length a.out.now
+has_room l h =
+    let s = l in
+    let a = s.args in
+    room (λ (j : ℕ). length (form_at a.source.now a.bounds j)) a.t4 a.n l.loop.i (length a.out.now) s.requires.1.0 h s.requires.1.1
+
+pub loop-i-init : goal.loop-i-init
+unfolding joined
+loop-i-init c = ((omega arith, refl), (refl, (refl, λ j h. absurd (omega arith))))
+
+pub bounds-ends-i : goal.bounds-ends-i
+bounds-ends-i c = let s = c in omega (arith, s.requires.0.few)
+
+pub put-h-requires : goal.put-h-requires
+put-h-requires c =
+    let t = c in
+    let l = t in
+    let s = l in
+    (s.requires.0.holds l.loop-i.i t.loop-i-test.true, omega (arith, has_room l t.loop-i-test.true))
+
+pub bounds-hashes-i : goal.bounds-hashes-i
+bounds-hashes-i c = let s = c in omega (arith, s.requires.0.few)
+
+pub overflow_add-i : goal.overflow_add-i
+overflow_add-i c = omega arith
+
+pub loop-i-smaller : goal.loop-i-smaller
+loop-i-smaller c = omega arith
+
+pub loop-i-preserved : goal.loop-i-preserved
+loop-i-preserved c =
+    let p = c in
+    let t = p in
+    let l = t in
+    let s = l in
+    let a = s.args in
+    let i = l.loop-i.i in
+    let f = form_at a.source.now a.bounds in
+    let v = l.loop-i.invariant in
+    let g : i < length l.loop-i.hashes = omega (arith, s.requires.0.few) in (
+      (omega arith, length-set l.loop-i.hashes i p.put-h.result ∙ v.0.1),
+      (
+        ap length p.put-h.ensures.0 ∙ (length-splice l.loop-i.out (get_or a.t4 i 0) (f i) (omega (arith, has_room l t.loop-i-test.true)) ∙ v.1.0),
+        (
+          one_written f a.out.now l.loop-i.out p.put-h.new.1.1.1.0 (get_or a.t4 i 0) i (joined_length f a.t4 a.n s.requires.1.0 i (omega arith)) (has_room l t.loop-i-test.true) v.1.1.0 p.put-h.ensures.0,
+          one-stored (λ (j : ℕ). hash_from 0 (f j)) l.loop-i.hashes i p.put-h.result g v.1.1.1 p.put-h.ensures.1,
+        ),
+      ),
+    )
+
+pub returns : goal.returns
+returns c =
+    let l = c in
+    let a = l.args in
+    let q : l.loop-i.i ≡ a.n = omega arith in
+    (l.loop-i.invariant.1.1.0 ∙ ap (λ (k : ℕ). splice a.out.now 0 (joined (form_at a.source.now a.bounds) 0 k)) q, λ j h. l.loop-i.invariant.1.1.1 j (omega arith))

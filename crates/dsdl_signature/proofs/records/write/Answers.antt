@@ -1,0 +1,66 @@
+-- `records::write` meets its contract.
+use Rattle.dsdl_signature.proofs.Joined.{joined-fixed, one_written, record-length}
+use Rattle.dsdl_signature.specs.Call.{record_size}
+use Rattle.dsdl_signature.specs.inside.Written.{joined, record_at}
+use Rattle.bits.specs.Part.{splice}
+use Rattle.bits.proofs.Splice.{length-splice}
+use native.Mathlib.Omega.{arith}
+use lib.ListN.{length, get_or}
+use Prim.Native.Nat.{ℕ, ◌+◌, ◌*◌, ◌-◌, ◌≤◌}
+use mathlib.Core.Path.{◌≡◌, refl, ap, ◌∙◌}
+use borrow.Author.Rules.{rules}
+use Rattle.dsdl_signature.proofs.records.write.Goals as goal
+
+pub loop-i-init : goal.loop-i-init
+unfolding joined
+loop-i-init c = (omega arith, (refl, refl))
+
+pub overflow_add-j : goal.overflow_add-j
+overflow_add-j c = omega arith
+
+pub overflow_mul-i : goal.overflow_mul-i
+overflow_mul-i c = omega arith
+
+pub bounds-ends-j : goal.bounds-ends-j
+bounds-ends-j c = omega arith
+
+pub bounds-ends-i : goal.bounds-ends-i
+bounds-ends-i c = omega arith
+
+pub overflow_sub-ends : goal.overflow_sub-ends
+overflow_sub-ends c = let l = c in l.requires.1.1 l.loop-i.i c.loop-i-test.true
+
+pub bounds-signatures-i : goal.bounds-signatures-i
+bounds-signatures-i c = omega arith
+
+pub put-requires : goal.put-requires
+put-requires c = omega arith
+
+pub overflow_add-i : goal.overflow_add-i
+overflow_add-i c = omega arith
+
+pub loop-i-smaller : goal.loop-i-smaller
+loop-i-smaller c = omega arith
+
+pub loop-i-preserved : goal.loop-i-preserved
+loop-i-preserved c =
+    let p = c in
+    let l = p in
+    let s = l in
+    let a = s.args in
+    let i = l.loop-i.i in
+    let f = record_at a.t1 a.t2 in
+    let e : (j : ℕ) → length (f j) ≡ record_size = λ j. record-length (get_or a.t1 (j + 1) 0 - get_or a.t1 j 0) (get_or a.t2 j 0) in (
+      omega arith,
+      (
+        ap length p.put.ensures ∙ (length-splice l.loop-i.records (i * record_size) (f i) (omega (arith, e i)) ∙ l.loop-i.invariant.1.0),
+        one_written f a.records.now l.loop-i.records p.put.new.records (i * record_size) i (joined-fixed f record_size i e) (omega (arith, e i)) l.loop-i.invariant.1.1 p.put.ensures,
+      ),
+    )
+
+pub returns : goal.returns
+returns c =
+    let l = c in
+    let a = l.args in
+    let q : l.loop-i.i ≡ a.n = omega arith in
+    l.loop-i.invariant.1.1 ∙ ap (λ (k : ℕ). splice a.records.now 0 (joined (record_at a.t1 a.t2) 0 k)) q

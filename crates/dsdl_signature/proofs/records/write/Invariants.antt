@@ -1,0 +1,17 @@
+use Rattle.dsdl_signature.proofs.Joined.{joined-fixed, one_written, record-length}
+use Rattle.dsdl_signature.specs.Call.{record_size}
+use Rattle.dsdl_signature.specs.inside.Written.{joined, record_at}
+use Rattle.bits.specs.Part.{splice}
+use Rattle.bits.proofs.Splice.{length-splice}
+use native.Mathlib.Omega.{arith}
+use lib.ListN.{length, get_or}
+use Prim.Native.Nat.{ℕ, ◌+◌, ◌*◌, ◌-◌, ◌≤◌}
+use mathlib.Core.Path.{◌≡◌, refl, ap, ◌∙◌}
+use borrow.Author.Rules.{rules}
+use Rattle.dsdl_signature.proofs.records.write.Given as goal
+
+abbrev pub invariant-loop-i : goal.invariant-loop-i
+invariant-loop-i l = (l.i ≤ l.n) × ((length l.records ≡ length l.initial.records) × (l.records ≡ splice l.initial.records 0 (joined (record_at l.ends l.signatures) 0 l.i)))
+
+abbrev pub decreases-loop-i : goal.decreases-loop-i
+decreases-loop-i l = l.n - l.i

@@ -1,0 +1,12 @@
+use Rattle.dsdl_text.proofs.Choices.{or-first, or-next, by}
+use borrow.Author.Rules.{rules}
+use Rattle.dsdl_text.proofs.class.is_hexadecimal.Goals as goal
+
+pub returns-then-within : goal.returns-then-within
+returns-then-within c = or-first _ _ (by c.within.ensures c.if-within.true)
+
+pub returns-then-within-2 : goal.returns-then-within-2
+returns-then-within-2 c = let f = c in or-next _ _ _ (by f.within.ensures f.if-within.false) (or-first _ _ (by c.within-2.ensures c.if-within-2.true))
+
+pub returns : goal.returns
+returns c = let g = c in let f = g in or-next _ _ _ (by f.within.ensures f.if-within.false) (or-next _ _ _ (by g.within-2.ensures g.if-within-2.false) c.within-3.ensures)

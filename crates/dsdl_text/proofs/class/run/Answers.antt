@@ -1,0 +1,47 @@
+-- `class::run` meets its contract.
+use Rattle.dsdl_text.proofs.Choices.{by}
+use Rattle.dsdl_text.proofs.Runs.{hit, miss, at-end}
+use Rattle.dsdl_text.specs.Class.{run}
+use borrow.Author.Tests.{not-true, not-false}
+use borrow.Author.Rules.{rules}
+use lib.ListN.{length, drop}
+use native.Mathlib.Omega.{arith}
+use native.Mathlib.Numerals.{add-one}
+use Prim.Native.Nat.{◌+◌, ◌-◌, ◌≤◌}
+use mathlib.Core.Path.{◌≡◌}
+use Rattle.dsdl_text.proofs.class.run.Goals as goal
+
+pub loop-i-init : goal.loop-i-init
+loop-i-init c = (omega arith, omega arith)
+
+pub bounds-s-i : goal.bounds-s-i
+bounds-s-i c = omega arith
+
+pub returns-then-not-is : goal.returns-then-not-is
+returns-then-not-is c =
+    let d = c in
+    let l = d in
+    let a = l.args in
+    let h = hit a.class a.s.now l.loop-i.i (omega arith) (by d.is.ensures (not-true _ c.if-not-is.true)) in
+    (omega arith, omega arith)
+
+pub overflow_add-i : goal.overflow_add-i
+overflow_add-i c = omega arith
+
+pub loop-i-smaller : goal.loop-i-smaller
+loop-i-smaller c = omega arith
+
+pub loop-i-preserved : goal.loop-i-preserved
+loop-i-preserved c =
+    let d = c in
+    let l = d in
+    let a = l.args in
+    let h = miss a.class a.s.now l.loop-i.i (omega arith) (by d.is.ensures (not-false _ c.if-not-is.false)) in
+    (omega arith, rw add-one (omega arith))
+
+pub returns : goal.returns
+returns c =
+    let l = c in
+    let a = l.args in
+    let h = at-end a.class a.s.now l.loop-i.i (omega arith) in
+    (omega arith, omega arith)

@@ -1,0 +1,42 @@
+-- `name::space` meets its contract.
+use Rattle.dsdl_text.proofs.Names.{dot, other, found}
+use Rattle.dsdl_text.specs.Names.{last_dot}
+use lib.ListN.{length, drop}
+use native.Mathlib.Omega.{arith}
+use native.Mathlib.Numerals.{add-one}
+use Prim.Native.Nat.{◌-◌, ◌≤◌}
+use mathlib.Core.Path.{◌≡◌, refl, sym, ◌∙◌}
+use Rattle.dsdl_text.proofs.name.space.Goals as goal
+
+pub loop-i-init : goal.loop-i-init
+loop-i-init c = (omega arith, (omega arith, refl))
+
+pub bounds-s-i : goal.bounds-s-i
+bounds-s-i c = omega arith
+
+pub overflow_add-i : goal.overflow_add-i
+overflow_add-i c = omega arith
+
+pub loop-i-smaller-then-c-eq46 : goal.loop-i-smaller-then-c-eq46
+loop-i-smaller-then-c-eq46 c = omega arith
+
+pub loop-i-preserved-then-c-eq46 : goal.loop-i-preserved-then-c-eq46
+loop-i-preserved-then-c-eq46 c =
+    let l = c in
+    let a = l.args in
+    (omega arith, (omega arith, rw add-one (sym (dot a.s.now l.loop-i.i l.loop-i.end (omega arith) c.if-c-eq46.true) ∙ l.loop-i.invariant.1.1)))
+
+pub loop-i-smaller : goal.loop-i-smaller
+loop-i-smaller c = omega arith
+
+pub loop-i-preserved : goal.loop-i-preserved
+loop-i-preserved c =
+    let l = c in
+    let a = l.args in
+    (omega arith, (omega arith, rw add-one (sym (other a.s.now l.loop-i.i l.loop-i.end (omega arith) c.if-c-eq46.false) ∙ l.loop-i.invariant.1.1)))
+
+pub returns : goal.returns
+returns c =
+    let l = c in
+    let a = l.args in
+    (sym (found a.s.now l.loop-i.i l.loop-i.end (omega arith)) ∙ l.loop-i.invariant.1.1, omega arith)

@@ -1,0 +1,15 @@
+-- `base::is_of` meets its contract.
+use Rattle.dsdl_text.proofs.Choices.{and_first, and-next, by}
+use borrow.Author.Tests.{not-true, not-false, lt-leb, le-leb}
+use mathlib.Core.Path.{refl}
+use borrow.Author.Rules.{rules}
+use Rattle.dsdl_type.proofs.base.is_of.Goals as goal
+
+pub returns-then-not-same : goal.returns-then-not-same
+returns-then-not-same c = and_first _ _ (by c.same.ensures (not-true _ c.if-not-same.true))
+
+pub returns-then-bits-least : goal.returns-then-bits-least
+returns-then-bits-least c = let f = c in and-next _ _ _ (by f.same.ensures (not-false _ f.if-not-same.false)) (and_first _ _ (lt-leb _ _ c.if-bits-least.true))
+
+pub returns : goal.returns
+returns c = let f = c in and-next _ _ _ (by f.same.ensures (not-false _ f.if-not-same.false)) (and-next _ _ _ (le-leb _ _ c.if-bits-least.false) refl)

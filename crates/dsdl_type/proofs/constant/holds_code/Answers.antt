@@ -1,0 +1,35 @@
+-- `constant::holds_code` meets its contract.
+use Rattle.dsdl_type.proofs.Holding.{signed-bits, unsigned-bits, code-boolean, code-signed, code-unsigned, code-floating, of-void, of-nested, of-unknown}
+use native.Mathlib.Omega.{arith}
+use borrow.Author.Rules.{rules}
+use Rattle.dsdl_type.proofs.constant.holds_code.Goals as goal
+
+pub overflow_sub-bits : goal.overflow_sub-bits
+overflow_sub-bits c = let s = c in let p = signed-bits s.args.b _ s.requires.0 c.in-Signed.is in omega arith
+
+pub ones-requires : goal.ones-requires
+ones-requires c = let s = c in let p = signed-bits s.args.b _ s.requires.0 c.in-Signed.is in omega arith
+
+pub ones-requires-in-Unsigned : goal.ones-requires-in-Unsigned
+ones-requires-in-Unsigned c = let s = c in (unsigned-bits s.args.b _ s.requires.0 c.in-Unsigned.is).1
+
+pub returns-in-Boolean : goal.returns-in-Boolean
+returns-in-Boolean c = let a = c.args in code-boolean a.b a.code c.in-Boolean.is
+
+pub returns-in-Signed : goal.returns-in-Signed
+returns-in-Signed c = let k = c in let a = k.args in code-signed a.b a.code c.ones.result _ k.in-Signed.is c.ones.ensures
+
+pub returns-in-Unsigned : goal.returns-in-Unsigned
+returns-in-Unsigned c = let k = c in let a = k.args in code-unsigned a.b a.code c.ones-in-Unsigned.result _ k.in-Unsigned.is c.ones-in-Unsigned.ensures
+
+pub returns-in-Floating : goal.returns-in-Floating
+returns-in-Floating c = let s = c in code-floating s.args.b s.args.code _ c.in-Floating.is s.requires.1
+
+pub returns-in-Void : goal.returns-in-Void
+returns-in-Void c = let a = c.args in of-void a.b _ _ c.in-Void.is
+
+pub returns-in-Nested : goal.returns-in-Nested
+returns-in-Nested c = let a = c.args in of-nested a.b _ c.in-Nested.is
+
+pub returns-in-Unknown : goal.returns-in-Unknown
+returns-in-Unknown c = let a = c.args in of-unknown a.b _ c.in-Unknown.is

@@ -1,0 +1,20 @@
+-- `initializer::is_integer` meets its contract.
+use Rattle.dsdl_text.proofs.Choices.{and_first}
+use Rattle.dsdl_type.proofs.Initializers.{sign-before, no-sign-before}
+use borrow.Author.Tests.{le-ltb}
+use native.Mathlib.Omega.{arith}
+use borrow.Author.Rules.{rules}
+use Rattle.dsdl_type.proofs.initializer.is_integer.Goals as goal
+
+pub returns-then-base-eq0 : goal.returns-then-base-eq0
+returns-then-base-eq0 c = and_first _ _ (le-ltb 0 c.args.base (omega arith))
+
+pub returns-then-signed : goal.returns-then-signed
+returns-then-signed c =
+    let t = c in
+    let f = t in
+    let a = f.args in
+    sign-before a.base a.signed _ f.if-base-eq0.false c.same.result t.if-signed.true c.same.ensures
+
+pub returns : goal.returns
+returns c = let f = c in let a = f.args in no-sign-before a.base a.signed _ f.if-base-eq0.false c.if-signed.false

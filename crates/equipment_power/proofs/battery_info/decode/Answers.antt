@@ -1,0 +1,22 @@
+-- `battery_info::decode` meets its contract: what `decode_raw` gives, its floats widened.
+use mathlib.Core.Path.{refl, sym, ap, ◌∙◌}
+use Rattle.shape.specs.Answer.{got, numbered}
+use Rattle.shape.proofs.Reading.{unrefused, unread, refused-on, got-on}
+use Rattle.equipment_power.specs.BatteryInfo.{raw_answer_of, with_floats}
+use Rattle.equipment_power.specs.declared.battery_info.BatteryInfo.{BatteryInfo}
+use borrow.Author.Rules.{rules}
+use Rattle.equipment_power.proofs.battery_info.decode.Goals as goal
+
+pub returns-in-Refused : goal.returns-in-Refused
+returns-in-Refused c =
+    let n = c in
+    let d = n.decode_raw in
+    ap numbered (sym (refused-on with_floats refl (unrefused _ _ (sym (ap raw_answer_of n.in-Refused.is) ∙ d.ensures))))
+
+pub returns-in-Got : goal.returns-in-Got
+returns-in-Got c =
+    let m = c in
+    let d = m.decode_raw in
+    let place = m.in-Got.place in
+    ap (λ (x : BatteryInfo). numbered (got (x, place))) c.widened.ensures
+    ∙ ap numbered (sym (got-on with_floats refl (unread _ _ (sym (ap raw_answer_of m.in-Got.is) ∙ d.ensures))))

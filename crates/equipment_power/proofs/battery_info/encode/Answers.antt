@@ -1,0 +1,14 @@
+-- `battery_info::encode` meets its contract: its floats narrowed, then `encode_raw`.
+use mathlib.Core.Path.{ap, ◌∙◌}
+use Rattle.shape.specs.Shape.{written}
+use Rattle.equipment_power.specs.BatteryInfo.{name_only, battery_info, raw_values}
+use Rattle.equipment_power.specs.declared.battery_info.Raw.{Raw}
+use borrow.Author.Rules.{rules}
+use Rattle.equipment_power.proofs.battery_info.encode.Goals as goal
+
+pub returns : goal.returns
+returns c =
+    let r = c in
+    let n = r in
+    let a = n.args in
+    r.encode_raw.ensures ∙ ap (λ (m : Raw). written battery_info (raw_values m name_only a.model-name.now) a.out.now) n.narrowed.ensures

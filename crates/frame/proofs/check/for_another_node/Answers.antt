@@ -1,0 +1,13 @@
+-- `check::for_another_node` meets its contract.
+use borrow.Author.Tests.{eq-eqb, ne_eqb}
+use Rattle.frame.proofs.check.for_another_node.Goals as goal
+
+pub returns-then-h-eq0 : goal.returns-then-h-eq0
+returns-then-h-eq0 c =
+    let a = c.args in
+    rw (eq-eqb a.h.transfer_type 0 c.if-h-eq0.true)
+
+pub returns : goal.returns
+returns c =
+    let a = c.args in
+    rw (ne_eqb a.h.transfer_type 0 c.if-h-eq0.false)

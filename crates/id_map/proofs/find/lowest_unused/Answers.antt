@@ -1,0 +1,46 @@
+-- `find::lowest_unused` meets its contract: no place passed is unused for long.
+use mathlib.Core.Path.{◌≡◌, refl, sym, ◌∙◌}
+use mathlib.Core.Bool.{Bool}
+use mathlib.Core.List.{List}
+use Prim.Native.Nat.{ℕ, ◌-◌, ◌≤◌}
+use native.Mathlib.Numerals.{add-one}
+use native.Mathlib.Omega.{arith}
+use Rattle.id_map.specs.Layout.{slot_at}
+use Rattle.keys.specs.inside.Keys.{lowest}
+use Rattle.keys.proofs.Lowest.{hit, miss, none}
+use Rattle.rules.specs.Limits.{entries_max}
+use Rattle.rules.specs.Map.{is_unused}
+use Rattle.id_map.proofs.find.lowest_unused.Invariants.{unused}
+use Rattle.id_map.proofs.find.lowest_unused.Goals as goal
+
+pub loop-i-init : goal.loop-i-init
+loop-i-init c = (omega arith, refl)
+
+pub is_unused-requires : goal.is_unused-requires
+is_unused-requires c = omega arith
+
+pub returns-then-is_unused : goal.returns-then-is_unused
+returns-then-is_unused c =
+    let l = c in
+    let a = l.args in
+    sym (hit (unused a.map.now a.t) l.loop-i.i entries_max (omega arith) (sym c.is_unused.ensures ∙ c.if-is_unused.true)) ∙ l.loop-i.invariant.1
+
+pub overflow_add-i : goal.overflow_add-i
+overflow_add-i c = omega arith
+
+pub loop-i-smaller : goal.loop-i-smaller
+loop-i-smaller c = omega arith
+
+pub loop-i-preserved : goal.loop-i-preserved
+loop-i-preserved c =
+    let l = c in
+    let a = l.args in (
+      omega arith,
+      rw add-one (sym (miss (unused a.map.now a.t) l.loop-i.i entries_max (omega arith) (sym c.is_unused.ensures ∙ c.if-is_unused.false)) ∙ l.loop-i.invariant.1),
+    )
+
+pub returns : goal.returns
+returns c =
+    let l = c in
+    let a = l.args in
+    sym (none (unused a.map.now a.t) l.loop-i.i entries_max (omega arith)) ∙ l.loop-i.invariant.1

@@ -1,0 +1,21 @@
+use mathlib.Core.Path.{◌≡◌, refl, sym, ◌∙◌}
+use mathlib.Core.Bool.{Bool}
+use mathlib.Core.List.{List}
+use Prim.Native.Nat.{ℕ, ◌-◌, ◌≤◌}
+use native.Mathlib.Numerals.{add-one}
+use native.Mathlib.Omega.{arith}
+use Rattle.id_map.specs.Layout.{slot_at}
+use Rattle.keys.specs.inside.Keys.{lowest}
+use Rattle.keys.proofs.Lowest.{hit, miss, none}
+use Rattle.rules.specs.Limits.{entries_max}
+use Rattle.rules.specs.Map.{is_unused}
+use Rattle.id_map.proofs.find.lowest_unused.Given as goal
+
+abbrev pub unused : List ℕ → ℕ → ℕ → Bool
+unused m t i = is_unused t (slot_at m i)
+
+abbrev pub invariant-loop-i : goal.invariant-loop-i
+invariant-loop-i l = (l.i ≤ entries_max) × (lowest (unused l.map l.t) l.i (entries_max - l.i) ≡ lowest (unused l.map l.t) 0 entries_max)
+
+abbrev pub decreases-loop-i : goal.decreases-loop-i
+decreases-loop-i l = entries_max - l.i

@@ -1,0 +1,26 @@
+-- `find::place` meets its contract, case by case.
+use native.Mathlib.Omega.{arith}
+use Rattle.id_map.proofs.Seek.{place_found, place-free, place-unused}
+use borrow.Author.Rules.{rules}
+use Rattle.id_map.proofs.find.place.Goals as goal
+
+pub returns-then-found-lt-MAP_ENTRIES : goal.returns-then-found-lt-MAP_ENTRIES
+returns-then-found-lt-MAP_ENTRIES c =
+    let f = c in
+    let a = f.args in
+    place_found a.map.now a.k a.time (λ z. omega arith) f.find-found.result f.find-found.ensures c.if-found-lt-MAP_ENTRIES.true
+
+pub returns-then-free-lt-MAP_ENTRIES : goal.returns-then-free-lt-MAP_ENTRIES
+returns-then-free-lt-MAP_ENTRIES c =
+    let g = c in
+    let f = g in
+    let a = f.args in
+    place-free a.map.now a.k a.time (λ z. omega arith) f.find-found.result f.find-found.ensures g.if-found-lt-MAP_ENTRIES.false g.find-free.result g.find-free.ensures c.if-free-lt-MAP_ENTRIES.true
+
+pub returns : goal.returns
+returns c =
+    let g = c in
+    let f = g in
+    let a = f.args in
+    place-unused a.map.now a.k a.time (λ z. omega arith) f.find-found.result f.find-found.ensures g.if-found-lt-MAP_ENTRIES.false g.find-free.result g.find-free.ensures
+    c.if-free-lt-MAP_ENTRIES.false c.lowest_unused.result c.lowest_unused.ensures

@@ -1,0 +1,29 @@
+-- `setup` meets its contract.
+use mathlib.Core.Path.{◌≡◌}
+use mathlib.Core.List.{List}
+use Prim.Native.Nat.{ℕ, ◌≤◌, ◌<◌}
+use borrow.Author.Tests.{lt-ltb, le-ltb}
+use lib.ListN.{length, replicate}
+use Rattle.bits.specs.Part.{splice}
+use Rattle.id_map.specs.Layout.{size}
+use Rattle.id_map.specs.Setup.{returned, after_setup}
+use Rattle.answers.specs.declared.Outcome.TheVariants.{Done, Short}
+use borrow.Author.Rules.{rules}
+use Rattle.id_map.proofs.setup.Goals as goal
+
+refused : (m : List ℕ) → length m < size → returned Short m ≡ after_setup m
+unfolding after_setup
+refused m h = rw (lt-ltb (length m) size h)
+
+cleared : (m m' : List ℕ) → size ≤ length m → m' ≡ splice m 0 (replicate size 0) → returned Done m' ≡ after_setup m
+unfolding after_setup
+cleared m m' h e = rw (le-ltb (length m) size h, e)
+
+pub returns-then-map-lt-SIZE : goal.returns-then-map-lt-SIZE
+returns-then-map-lt-SIZE c = refused c.args.map.now c.if-map-lt-SIZE.true
+
+pub returns : goal.returns
+returns c =
+    let p = c in
+    let e = p in
+    cleared e.args.map.now p.copy_at.new.dst e.if-map-lt-SIZE.false p.copy_at.ensures

@@ -1,0 +1,10 @@
+-- `show_frame` is safe: a line has at most 47 bytes.
+use Rattle.std.proofs.Common.{arith, rules}
+use Rattle.capture_convert.proofs.Calls.{prints}
+use Rattle.judge.proofs.fault.show_frame.Goals as goal
+
+pub lines-n-requires : goal.lines-n-requires
+lines-n-requires c =
+    let m = c in
+    let s = m in
+    prints s.args.r.now m.measure.result 47 m.measure.ensures c.if-measure.true (omega (arith, s.requires))

@@ -1,0 +1,46 @@
+-- `open` meets its contract. A start that is no end has seven bytes.
+use mathlib.Core.Path.{◌≡◌}
+use native.Mathlib.Omega.{arith}
+use borrow.Author.Rules.{rules}
+use lib.ListN.{length}
+use Rattle.judge_stream.proofs.Rules.{whole, opens}
+use Rattle.judge_stream.proofs.open.Goals as goal
+
+seven : (c : goal.Else-v) → length c.args.p.now ≡ 7
+seven c = c.requires.full c.if-v.false
+
+pub returns-then-v : goal.returns-then-v
+returns-then-v c =
+    let s = c in
+    let a = s.args in
+    rw c.rest.ensures (whole a.signature a.v a.p.now c.if-v.true s.requires.transfer)
+
+pub bounds-p-0 : goal.bounds-p-0
+bounds-p-0 c = omega (arith, seven c)
+
+pub overflow_cast-result : goal.overflow_cast-result
+overflow_cast-result c = omega (arith, c.shared_slice_known-2-1.given 0)
+
+pub bounds-p-1 : goal.bounds-p-1
+bounds-p-1 c = omega (arith, seven c)
+
+pub overflow_cast-result-2 : goal.overflow_cast-result-2
+overflow_cast-result-2 c = omega (arith, c.shared_slice_known-3-1.given 1)
+
+pub overflow_mul-result : goal.overflow_mul-result
+overflow_mul-result c = omega (arith, c.shared_slice_known-3-1.given 1)
+
+pub overflow_add-result : goal.overflow_add-result
+overflow_add-result c = omega (arith, c.shared_slice_known-3-1.given 0, c.shared_slice_known-3-1.given 1)
+
+pub slice_bounds-transfer-count : goal.slice_bounds-transfer-count
+slice_bounds-transfer-count c = omega (arith, seven c)
+
+pub slice_bounds-transfer-start : goal.slice_bounds-transfer-start
+slice_bounds-transfer-start c = omega (arith, seven c)
+
+pub returns : goal.returns
+returns c =
+    let i1 = c in
+    let a = i1.args in
+    opens a.signature a.v a.p.now (seven i1) i1.if-v.false i1.requires.transfer c.transfer.result c.transfer.ensures

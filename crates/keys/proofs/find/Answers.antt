@@ -1,0 +1,56 @@
+-- `find` meets its contract: no place passed has the key.
+use mathlib.Core.Path.{◌≡◌, sym, ap, ◌∙◌}
+use mathlib.Core.Bool.{Bool}
+use mathlib.Core.List.{List}
+use Prim.Native.Nat.{ℕ, ◌-◌, ◌≤◌}
+use native.Mathlib.Nat.{sub-zero}
+use native.Mathlib.Numerals.{add-one}
+use native.Mathlib.Omega.{arith}
+use borrow.Author.Tests.{eq-eqb, ne_eqb}
+use lib.Dec.{eqb}
+use Rattle.keys.specs.inside.Keys.{word_at, lowest}
+use Rattle.keys.proofs.Lowest.{hit, miss, none}
+use Rattle.keys.proofs.find.Invariants.{has}
+use Rattle.keys.proofs.find.Goals as goal
+
+pub loop-i-init : goal.loop-i-init
+loop-i-init c = let a = c.args in (omega arith, ap (lowest (has a.s.now a.at a.k) 0) (sub-zero a.n))
+
+pub overflow_mul-i : goal.overflow_mul-i
+overflow_mul-i c = omega arith
+
+pub overflow_add-at : goal.overflow_add-at
+overflow_add-at c = omega arith
+
+pub get_u32-requires : goal.get_u32-requires
+get_u32-requires c = omega arith
+
+pub returns-then-get_u32-k : goal.returns-then-get_u32-k
+returns-then-get_u32-k c =
+    let g = c in
+    let l = g in
+    let a = l.args in
+    let f = has a.s.now a.at a.k in
+    sym (hit f l.loop-i.i a.n (omega arith) (eq-eqb (word_at a.s.now a.at l.loop-i.i) a.k (sym g.get_u32.ensures ∙ c.if-get_u32-k.true))) ∙ l.loop-i.invariant.1
+
+pub overflow_add-i : goal.overflow_add-i
+overflow_add-i c = omega arith
+
+pub loop-i-smaller : goal.loop-i-smaller
+loop-i-smaller c = omega arith
+
+pub loop-i-preserved : goal.loop-i-preserved
+loop-i-preserved c =
+    let g = c in
+    let l = g in
+    let a = l.args in
+    let f = has a.s.now a.at a.k in (
+      omega arith,
+      rw add-one (sym (miss f l.loop-i.i a.n (omega arith) (ne_eqb (word_at a.s.now a.at l.loop-i.i) a.k (λ e. c.if-get_u32-k.false (g.get_u32.ensures ∙ e)))) ∙ l.loop-i.invariant.1),
+    )
+
+pub returns : goal.returns
+returns c =
+    let l = c in
+    let a = l.args in
+    sym (none (has a.s.now a.at a.k) l.loop-i.i a.n (omega arith)) ∙ l.loop-i.invariant.1

@@ -1,0 +1,21 @@
+use mathlib.Core.Path.{◌≡◌, sym, ap, ◌∙◌}
+use mathlib.Core.Bool.{Bool}
+use mathlib.Core.List.{List}
+use Prim.Native.Nat.{ℕ, ◌-◌, ◌≤◌}
+use native.Mathlib.Nat.{sub-zero}
+use native.Mathlib.Numerals.{add-one}
+use native.Mathlib.Omega.{arith}
+use borrow.Author.Tests.{eq-eqb, ne_eqb}
+use lib.Dec.{eqb}
+use Rattle.keys.specs.inside.Keys.{word_at, lowest}
+use Rattle.keys.proofs.Lowest.{hit, miss, none}
+use Rattle.keys.proofs.find.Given as goal
+
+abbrev pub has : List ℕ → ℕ → ℕ → ℕ → Bool
+has s at k i = eqb (word_at s at i) k
+
+abbrev pub invariant-loop-i : goal.invariant-loop-i
+invariant-loop-i l = (l.i ≤ l.n) × (lowest (has l.s l.at l.k) l.i (l.n - l.i) ≡ lowest (has l.s l.at l.k) 0 l.n)
+
+abbrev pub decreases-loop-i : goal.decreases-loop-i
+decreases-loop-i l = l.n - l.i

@@ -1,0 +1,60 @@
+-- `load` meets its contract. The invariant: the first i keys are in hand.
+use mathlib.Core.Path.{◌≡◌, refl, sym, ap, ◌∙◌}
+use mathlib.Core.List.{List}
+use Prim.Native.Nat.{ℕ, suc, ◌-◌, ◌≤◌, ◌<◌}
+use native.Mathlib.Nat.{zero-add}
+use native.Mathlib.Numerals.{add-one}
+use native.Mathlib.Omega.{arith}
+use lib.ListN.{length, take, set, length-set}
+use lib.Seq.{take-suc-set, take_all}
+use Rattle.bits.specs.Tabulate.{tabulate}
+use Rattle.bits.proofs.Tabulate.{tab-snoc}
+use Rattle.keys.specs.inside.Keys.{word_at}
+use Rattle.keys.proofs.load.Goals as goal
+
+turn : (f : ℕ → ℕ) (table : List ℕ) (i k : ℕ) → i < length table → take i table ≡ tabulate f 0 i → k ≡ f i → take (suc i) (set table i k) ≡ tabulate f 0 (suc i)
+turn f table i k l e q = rw (take-suc-set table i, tab-snoc f 0 i, zero-add, e, q)
+
+pub loop-i-init : goal.loop-i-init
+unfolding tabulate
+loop-i-init c = (omega arith, (refl, refl))
+
+pub overflow_mul-i : goal.overflow_mul-i
+overflow_mul-i c = omega arith
+
+pub overflow_add-at : goal.overflow_add-at
+overflow_add-at c = omega arith
+
+pub get_u32-requires : goal.get_u32-requires
+get_u32-requires c = omega arith
+
+pub offset_bounds-table-i : goal.offset_bounds-table-i
+offset_bounds-table-i c = omega arith
+
+pub bounds-table-i : goal.bounds-table-i
+bounds-table-i c = omega arith
+
+pub overflow_add-i : goal.overflow_add-i
+overflow_add-i c = omega arith
+
+pub loop-i-smaller : goal.loop-i-smaller
+loop-i-smaller c = omega arith
+
+pub loop-i-preserved : goal.loop-i-preserved
+loop-i-preserved c =
+    let l = c in
+    let a = l.args in
+    let v = l.loop-i.invariant.1 in (
+      simp length-set (omega arith),
+      (simp length-set v.0, rw add-one (turn (word_at a.s.now a.at) l.loop-i.table l.loop-i.i c.get_u32.result (omega arith) v.1 c.get_u32.ensures)),
+    )
+
+pub shape_of-table : goal.shape_of-table
+shape_of-table c = omega arith
+
+pub returns : goal.returns
+returns c =
+    let l = c in
+    let a = l.args in
+    let e : l.loop-i.i ≡ length a.table.now = omega arith in
+    sym (take_all l.loop-i.i l.loop-i.table (omega arith)) ∙ l.loop-i.invariant.1.1 ∙ ap (tabulate (word_at a.s.now a.at) 0) e

@@ -1,0 +1,14 @@
+-- `run` is safe and ends: the turns that are left fall, and the receiver's state has no fault.
+use borrow.Author.Rules.{rules}
+use mathlib.Core.Path.{◌≡◌, ◌∙◌}
+use mathlib.Core.Bool.{true}
+use Prim.Native.Nat.{◌≤◌}
+use lib.ListN.{length}
+use Rattle.state.specs.Sound.{sound_state}
+use Rattle.log.proofs.run.Goals as goal
+
+pub loop-turns-preserved : goal.loop-turns-preserved
+loop-turns-preserved c =
+    let r = c in
+    let i = r.loop-turns.invariant.1.1 in
+    (r.turn-t.ensures.0, (r.turn-t.ensures.1, (r.turn-t.auto.0 ∙ i.0, (r.turn-t.auto.1.0 ∙ i.1.0, r.turn-t.auto.1.1.1.0 ∙ i.1.1))))

@@ -1,0 +1,31 @@
+-- `keep` meets its contract.
+use borrow.Author.Rules.{rules}
+use mathlib.Core.Path.{sym, ap, ◌∙◌}
+use mathlib.Core.List.{List}
+use Prim.Native.Nat.{ℕ, ◌-◌}
+use native.Mathlib.Omega.{arith}
+use lib.ListN.{length, drop, length-take, length-drop}
+use lib.Seq.{take_all, take-take, length-take-le}
+use Rattle.bits.specs.Part.{span}
+use Rattle.log_feed.proofs.keep.Goals as goal
+
+pub returns-then-to-from-lt48 : goal.returns-then-to-from-lt48
+returns-then-to-from-lt48 c =
+    let r = c in
+    let s = r in
+    let a = s.args in
+    let b = a.block.now in
+    let n = a.to - a.from in
+    let l = length-take-le n (drop a.from b) (omega (arith, s.requires.0, s.requires.1, length-drop a.from b)) in (
+      r.moved.ensures.0 ∙ sym (take_all 48 (span b a.from n) (omega (arith, l, r.if-to-from-lt48.true))),
+      omega (arith, r.moved.ensures.1, r.if-to-from-lt48.true),
+    )
+
+pub returns : goal.returns
+returns c =
+    let r = c in
+    let s = r in
+    let a = s.args in (
+      r.moved-2.ensures.0 ∙ sym (take-take 48 (a.to - a.from) (drop a.from a.block.now) (omega (arith, r.if-to-from-lt48.false))),
+      omega (arith, r.moved-2.ensures.1),
+    )

@@ -1,0 +1,9 @@
+-- `is_handed` meets its contract.
+use mathlib.Core.Path.{ap}
+use Prim.Native.Nat.{ℕ}
+use lib.Dec.{eqb}
+use borrow.Author.Rules.{rules}
+use Rattle.log_replay.proofs.is_handed.Goals as goal
+
+pub returns : goal.returns
+returns c = ap (λ (n : ℕ). eqb n 1) c.number.ensures.0

@@ -1,0 +1,40 @@
+-- `subscriptions` meets its contract: each turn puts a record after those that are there; what is there after the last is computed.
+use borrow.Author.Rules.{rules}
+use mathlib.Core.Path.{◌≡◌, refl, ap, ◌∙◌}
+use mathlib.Core.List.{List, [], ◌∷◌}
+use Prim.Native.Nat.{ℕ, zero, suc, ◌+◌, ◌*◌, ◌-◌, ◌/◌, ◌%◌, ◌≤◌}
+use native.Mathlib.Numerals.{add-one}
+use native.Mathlib.Omega.{arith}
+use lib.ListN.{length, get_or, replicate}
+use Rattle.bits.specs.Little.{le_bytes}
+use Rattle.bits.specs.Part.{splice}
+use Rattle.rules.specs.Setup.{subscribed}
+use Rattle.types.specs.Types.{signature_of}
+use Rattle.log_subscriptions.specs.Subscriptions.{record13, records, subscriptions}
+use Rattle.log_subscriptions.proofs.subscriptions.Goals as goal
+
+-- the first j records
+filled : List ℕ → ℕ → List ℕ
+filled ts zero = replicate 117 0
+filled ts (suc j) = splice (filled ts j) (j * 13) (record13 (get_or ts j 0 / 65536) (get_or ts j 0 % 65536))
+
+more : (ts m m' : List ℕ) (j : ℕ) → m ≡ filled ts j → m' ≡ splice m (j * 13) (record13 (get_or ts j 0 / 65536) (get_or ts j 0 % 65536)) → m' ≡ filled ts (j + 1)
+unfolding filled
+more ts m m' j e f = rw (add-one j) (f ∙ ap (λ (x : List ℕ). splice x (j * 13) (record13 (get_or ts j 0 / 65536) (get_or ts j 0 % 65536))) e)
+
+all : (ts m : List ℕ) (j : ℕ) → ts ≡ 341 ∷ 65537 ∷ 1 ∷ 16370 ∷ 16383 ∷ 1092 ∷ 1030 ∷ 65547 ∷ 65546 ∷ [] → j ≡ 9 → m ≡ filled ts j → m ≡ subscriptions
+unfolding filled record13 records signature_of subscribed le_bytes
+all ts m j t e f = f ∙ ap (filled ts) e ∙ ap (λ (x : List ℕ). filled x 9) t
+
+pub loop-j-init : goal.loop-j-init
+unfolding filled
+loop-j-init c = (omega arith, (refl, refl))
+
+pub loop-j-preserved : goal.loop-j-preserved
+loop-j-preserved c =
+    let p = c in
+    let l = p.loop-j in
+    (omega arith, (p.put.auto.0 ∙ l.invariant.1.0, more _ l.out p.put.new.out l.j l.invariant.1.1 p.put.ensures))
+
+pub returns : goal.returns
+returns c = let l = c.loop-j in all _ l.out l.j refl (omega arith) l.invariant.1.1

@@ -1,0 +1,19 @@
+use borrow.Author.Rules.{rules}
+use mathlib.Core.Path.{◌≡◌, refl, ap, ◌∙◌}
+use mathlib.Core.List.{List, [], ◌∷◌}
+use Prim.Native.Nat.{ℕ, zero, suc, ◌+◌, ◌*◌, ◌-◌, ◌/◌, ◌%◌, ◌≤◌}
+use native.Mathlib.Numerals.{add-one}
+use native.Mathlib.Omega.{arith}
+use lib.ListN.{length, get_or, replicate}
+use Rattle.bits.specs.Little.{le_bytes}
+use Rattle.bits.specs.Part.{splice}
+use Rattle.rules.specs.Setup.{subscribed}
+use Rattle.types.specs.Types.{signature_of}
+use Rattle.log_subscriptions.specs.Subscriptions.{record13, records, subscriptions}
+use Rattle.log_subscriptions.proofs.subscriptions.Given as goal
+
+abbrev pub invariant-loop-j : goal.invariant-loop-j
+invariant-loop-j l = (l.j ≤ 9) × ((length l.out ≡ 117) × (l.out ≡ filled l.types l.j))
+
+abbrev pub decreases-loop-j : goal.decreases-loop-j
+decreases-loop-j l = 9 - l.j

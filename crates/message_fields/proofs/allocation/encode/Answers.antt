@@ -1,0 +1,28 @@
+-- `allocation::encode` meets its contract: the message call on the row's numbers.
+use borrow.Author.Rules.{rules}
+use mathlib.Core.Path.{refl, ap, ◌∙◌}
+use native.Mathlib.Omega.{arith}
+use lib.IntN.{ℤ}
+use Rattle.shape.specs.Shape.{written}
+use Rattle.protocol_dynamic_node_id.specs.Allocation.{allocation}
+use Rattle.row.proofs.Rows.{counted, both, write-short, write_as}
+use Rattle.row.proofs.Lengths.{word_fits}
+use Rattle.message_fields.proofs.allocation.encode.Goals as goal
+
+pub returns-then-fields-lt4 : goal.returns-then-fields-lt4
+returns-then-fields-lt4 c = let a = c.args in write-short 4 a.fields.now _ a.out.now (omega arith)
+
+pub of_written-requires : goal.of_written-requires
+of_written-requires c =
+    let e = c in
+    let a = e.args in
+    word_fits allocation refl _ a.out.now _ _ e.encode.ensures
+
+pub returns : goal.returns
+returns c =
+    let e = c in
+    let n₂ = e in
+    let n₁ = n₂ in
+    let a = n₁.args in
+    let m = a.out.now in
+    write_as 4 a.fields.now _ m (omega arith) _ _ (e.encode.ensures ∙ ap (λ (p : ℤ × ℤ). written allocation (p.0, (p.1, a.unique-id.now)) m) (both (counted _ _ n₁.count.ensures) (counted _ _ n₂.count-2.ensures))) _ c.of_written.ensures

@@ -1,0 +1,37 @@
+-- `battery_info::are_floats` meets its contract. The invariant: the words before the i-th are floats.
+use Prim.Native.Nat.{ℕ, ◌-◌, ◌^◌, ◌≤◌, ◌<◌}
+use native.Mathlib.Omega.{arith}
+use borrow.Author.Count.{below_more}
+use lib.ListN.{get_or}
+use Rattle.message_fields.proofs.Floats.{all-floats, no-float}
+use Rattle.message_fields.proofs.battery_info.are_floats.Goals as goal
+
+pub loop-i-init : goal.loop-i-init
+loop-i-init c = (omega arith, λ k h. absurd (omega arith))
+
+pub offset_bounds-fields-i : goal.offset_bounds-fields-i
+offset_bounds-fields-i c = omega arith
+
+pub bounds-fields-i : goal.bounds-fields-i
+bounds-fields-i c = omega arith
+
+pub returns-then-fields-i-gt4294967295 : goal.returns-then-fields-i-gt4294967295
+returns-then-fields-i-gt4294967295 c =
+    let l = c in
+    no-float l.args.fields.now (omega arith) l.loop-i.i (omega arith) (omega arith)
+
+pub overflow_add-i : goal.overflow_add-i
+overflow_add-i c = omega arith
+
+pub loop-i-smaller : goal.loop-i-smaller
+loop-i-smaller c = omega arith
+
+pub loop-i-preserved : goal.loop-i-preserved
+loop-i-preserved c =
+    let l = c in
+    (omega arith, below_more (λ (k : ℕ). get_or l.args.fields.now k 0 < 2 ^ 32) l.loop-i.i l.loop-i.invariant.1 (omega arith))
+
+pub returns : goal.returns
+returns c =
+    let l = c in
+    all-floats l.args.fields.now (omega arith) (λ k h. l.loop-i.invariant.1 k (omega arith))

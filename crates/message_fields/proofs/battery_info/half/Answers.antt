@@ -1,0 +1,10 @@
+-- `battery_info::half` meets its contract.
+use borrow.Author.Rules.{rules}
+use native.Mathlib.Omega.{arith}
+use Rattle.message_fields.proofs.Floats.{float_at}
+use Rattle.message_fields.proofs.battery_info.half.Goals as goal
+
+pub overflow_cast-fields : goal.overflow_cast-fields
+overflow_cast-fields c =
+    let s = c in
+    record { fits = omega (arith, float_at s.args.fields.now (omega arith) s.args.i (omega arith) s.requires.1.1) }

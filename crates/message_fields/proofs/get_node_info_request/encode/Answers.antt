@@ -1,0 +1,20 @@
+-- `get_node_info_request::encode` meets its contract: the message call.
+use borrow.Author.Rules.{rules}
+use mathlib.Core.Path.{refl}
+use native.Mathlib.Omega.{arith}
+use Rattle.protocol.specs.GetNodeInfoRequest.{request}
+use Rattle.row.proofs.Rows.{write_as}
+use Rattle.row.proofs.Lengths.{word_fits}
+use Rattle.message_fields.proofs.get_node_info_request.encode.Goals as goal
+
+pub of_written-requires : goal.of_written-requires
+of_written-requires c =
+    let e = c in
+    let a = e.args in
+    word_fits request refl tt a.out.now _ _ e.encode.ensures
+
+pub returns : goal.returns
+returns c =
+    let e = c in
+    let a = e.args in
+    write_as 0 a.fields.now _ a.out.now (omega arith) _ _ e.encode.ensures _ c.of_written.ensures

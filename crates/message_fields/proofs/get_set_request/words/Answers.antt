@@ -1,0 +1,12 @@
+-- `get_set_request::words` meets its contract.
+use borrow.Author.Rules.{rules}
+use Rattle.row.proofs.Rows.{word-of, then}
+use Rattle.message_fields.proofs.Values.{spread}
+use Rattle.message_fields.proofs.get_set_request.words.Goals as goal
+
+pub returns : goal.returns
+returns c =
+    let w = c in
+    let x = w.args.x in
+    let g = c.struct_told-1.given in
+    then (word-of _ (record { sfits = g.0.1 }) _ c.word.ensures) (spread _ x.value _ w.words-v.ensures)

@@ -1,0 +1,26 @@
+-- `node_status::decode` meets its contract: what the message call gives, as words.
+use mathlib.Core.Path.{sym, ap, ◌∙◌}
+use borrow.Author.Rules.{rules}
+use Rattle.shape.specs.Answer.{map_answer}
+use Rattle.shape.specs.Shape.{end, decoded}
+use Rattle.protocol.specs.NodeStatus.{node_status, status_of, answer_of}
+use Rattle.message_fields.specs.NodeStatus.{status_words}
+use Rattle.row.proofs.Rows.{read-refused, read-got}
+use Rattle.message_fields.proofs.node_status.decode.Goals as goal
+
+pub returns-in-Refused : goal.returns-in-Refused
+returns-in-Refused c =
+    let n = c in
+    let d = n in
+    let a = d.args in
+    read-refused status_words (map_answer (status_of end) (decoded node_status a.payload.now)) a.fields.now _ (sym (ap answer_of n.in-Refused.is) ∙ d.decode.ensures)
+
+pub returns-in-Got : goal.returns-in-Got
+returns-in-Got c =
+    let p = c in
+    let w = p in
+    let x = w in
+    let d = x in
+    let a = d.args in
+    read-got status_words (map_answer (status_of end) (decoded node_status a.payload.now)) a.fields.now x.in-Got.x (sym (ap answer_of x.in-Got.is) ∙ d.decode.ensures)
+    w.words-w.result w.words-w.ensures _ p.put.ensures

@@ -1,0 +1,59 @@
+-- `raw_command::words` meets its contract. The invariant: the count, and the words of the first i numbers, stand in front.
+use mathlib.Core.Path.{◌≡◌, refl, ap, ◌∙◌}
+use mathlib.Core.List.{List, ◌∷◌, ◌++◌, map}
+use Prim.Native.Nat.{ℕ, suc, ◌+◌, ◌-◌, ◌≤◌, ◌<◌}
+use native.Mathlib.Numerals.{add-one}
+use native.Mathlib.Omega.{arith}
+use borrow.Author.Rules.{rules}
+use lib.IntN.{ℤ, pos}
+use lib.ListN.{length, take, get_or, set, replicate}
+use Rattle.equipment_esc.proofs.RawCommandFacts.{mapped, all-mapped}
+use Rattle.row.specs.Row.{word}
+use Rattle.row.proofs.Rows.{word-of}
+use Rattle.message_fields.proofs.raw_command.words.Invariants.{front}
+use Rattle.message_fields.proofs.raw_command.words.Goals as goal
+
+-- a turn's store, one place further
+turn : (cmd : List ℤ) (n : ℕ) (w : List ℕ) (i v : ℕ) → i < length cmd → i < 20 → w ≡ n ∷ front cmd i → v ≡ word (get_or cmd i (pos 0)) → set w (i + 1) v ≡ n ∷ front cmd (i + 1)
+turn cmd n w i v h k e g =
+    ap (λ (l : List ℕ). set l (i + 1) v) e ∙ ap (λ (j : ℕ). set (n ∷ front cmd i) j v) (add-one i)
+    ∙ ap (λ (l : List ℕ). n ∷ l) (mapped word cmd (pos 0) 0 (front cmd i) i v h k refl g)
+
+long : (c : goal.Start invariant-loop decreases-loop) → length c.args.x.cmd ≡ 20
+long c = search rules
+
+pub loop-i-init : goal.loop-i-init
+loop-i-init c = (omega arith, refl)
+
+pub offset_bounds-cmd-i : goal.offset_bounds-cmd-i
+offset_bounds-cmd-i c = omega arith
+
+pub bounds-cmd-i : goal.bounds-cmd-i
+bounds-cmd-i c = omega arith
+
+pub overflow_add-w : goal.overflow_add-w
+overflow_add-w c = omega arith
+
+pub offset_bounds-w-i : goal.offset_bounds-w-i
+offset_bounds-w-i c = omega arith
+
+pub bounds-w-i : goal.bounds-w-i
+bounds-w-i c = omega arith
+
+pub overflow_add-i : goal.overflow_add-i
+overflow_add-i c = omega arith
+
+pub loop-i-smaller : goal.loop-i-smaller
+loop-i-smaller c = omega arith
+
+pub loop-i-preserved : goal.loop-i-preserved
+loop-i-preserved c =
+    let l = c in
+    let a = l in
+    (omega arith, turn a.args.x.cmd a.args.x.count l.loop-i.w l.loop-i.i c.word.result (omega (arith, long a)) (omega arith) l.loop-i.invariant.1 (word-of _ (record { sfits = c.v-1.given }) _ c.word.ensures))
+
+pub returns : goal.returns
+returns c =
+    let l = c in
+    let a = l in
+    l.loop-i.invariant.1 ∙ ap (λ (m : List ℕ). a.args.x.count ∷ m) (all-mapped word a.args.x.cmd 0 (front a.args.x.cmd l.loop-i.i) l.loop-i.i (long a) (omega arith) refl)

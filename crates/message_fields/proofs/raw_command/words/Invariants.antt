@@ -1,0 +1,22 @@
+use mathlib.Core.Path.{◌≡◌, refl, ap, ◌∙◌}
+use mathlib.Core.List.{List, ◌∷◌, ◌++◌, map}
+use Prim.Native.Nat.{ℕ, suc, ◌+◌, ◌-◌, ◌≤◌, ◌<◌}
+use native.Mathlib.Numerals.{add-one}
+use native.Mathlib.Omega.{arith}
+use borrow.Author.Rules.{rules}
+use lib.IntN.{ℤ, pos}
+use lib.ListN.{length, take, get_or, set, replicate}
+use Rattle.equipment_esc.proofs.RawCommandFacts.{mapped, all-mapped}
+use Rattle.row.specs.Row.{word}
+use Rattle.row.proofs.Rows.{word-of}
+use Rattle.message_fields.proofs.raw_command.words.Given as goal
+
+-- the words of the first i, and zeros
+abbrev pub front : List ℤ → ℕ → List ℕ
+front cmd i = map word (take i cmd) ++ replicate (20 - i) 0
+
+abbrev pub invariant-loop-i : goal.invariant-loop-i
+invariant-loop-i l = (l.i ≤ 20) × (l.w ≡ get_or l.initial.w 0 0 ∷ front l.cmd l.i)
+
+abbrev pub decreases-loop-i : goal.decreases-loop-i
+decreases-loop-i l = 20 - l.i

@@ -1,0 +1,11 @@
+-- `get_node_info_response::certificate_of_authenticity` meets its contract.
+use mathlib.Core.Path.{ap, ◌∙◌}
+use Prim.Native.Nat.{ℕ}
+use Rattle.bits.specs.Part.{span}
+use borrow.Author.Rules.{rules}
+use Rattle.protocol.proofs.get_node_info_response.certificate_of_authenticity.Goals as goal
+
+pub returns : goal.returns
+returns c =
+    let n = c in
+    c.within.ensures ∙ ap (λ (k : ℕ). span n.args.payload.now 41 k) n.certificate_length.ensures

@@ -1,0 +1,45 @@
+-- `name::is_name` meets its contract: the letters passed do not decide.
+use mathlib.Core.Path.{◌≡◌, refl, sym, ◌∙◌}
+use Prim.Native.Nat.{◌-◌, ◌≤◌, ◌<◌}
+use native.Mathlib.Omega.{arith}
+use borrow.Author.Tests.{not-true, not-false}
+use lib.ListN.{length, drop}
+use Rattle.protocol.proofs.NameFacts.{empty, bad, next, all}
+use Rattle.protocol.specs.Name.{all_letters}
+use Rattle.protocol.proofs.name.is_name.Goals as goal
+
+pub returns-then-s-eq0 : goal.returns-then-s-eq0
+returns-then-s-eq0 c = empty c.args.s.now c.if-s-eq0.true
+
+pub loop-i-init : goal.loop-i-init
+loop-i-init c = (omega arith, (omega arith, refl))
+
+pub bounds-s-i : goal.bounds-s-i
+bounds-s-i c = omega arith
+
+pub is_letter-requires : goal.is_letter-requires
+is_letter-requires c = tt
+
+pub returns-then-not-is_letter : goal.returns-then-not-is_letter
+returns-then-not-is_letter c =
+    let n = c in
+    let l = n in
+    bad l.args.s.now l.loop-i.i (omega arith) l.loop-i.invariant.1.1
+    (sym n.is_letter.ensures ∙ not-true n.is_letter.result c.if-not-is_letter.true)
+
+pub overflow_add-i : goal.overflow_add-i
+overflow_add-i c = omega arith
+
+pub loop-i-smaller : goal.loop-i-smaller
+loop-i-smaller c = omega arith
+
+pub loop-i-preserved : goal.loop-i-preserved
+loop-i-preserved c =
+    let n = c in
+    let l = n in
+    (omega arith, (omega arith, next l.args.s.now l.loop-i.i (omega arith) l.loop-i.invariant.1.1 (sym n.is_letter.ensures ∙ not-false n.is_letter.result c.if-not-is_letter.false)))
+
+pub returns : goal.returns
+returns c =
+    let l = c in
+    all l.args.s.now l.loop-i.i (omega arith) (omega arith) l.loop-i.invariant.1.1

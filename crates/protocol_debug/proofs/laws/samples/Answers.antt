@@ -1,0 +1,12 @@
+-- The worked values, computed.
+use mathlib.Core.Path.{refl}
+use Rattle.bits.specs.Order.{digits, value_from, unpack, bytes, octets, to_bits, number, from_bits}
+use Rattle.bits.specs.Width.{width_in, width_of}
+use Rattle.shape.specs.Answer.{refuse_if, map_answer}
+use Rattle.shape.specs.Cast.{nearest, low_bits}
+use Rattle.shape.specs.Shape.{item_bits, items_of, all_below, encode, decode, fits, encoded}
+use Rattle.protocol_debug.proofs.laws.samples.Goals as goal
+
+pub returns : goal.returns
+unfolding encoded decode encode fits item_bits items_of all_below refuse_if map_answer nearest low_bits to_bits from_bits octets number unpack bytes digits value_from width_of width_in
+returns c = record { key-value = refl; key-value-back = refl; log-message = refl; log-message-back = refl; high = refl; low = refl }

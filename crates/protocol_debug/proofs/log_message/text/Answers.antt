@@ -1,0 +1,16 @@
+-- `log_message::text` meets its contract.
+use mathlib.Core.Path.{ap, ◌∙◌}
+use Prim.Native.Nat.{ℕ, ◌+◌}
+use native.Mathlib.Omega.{arith}
+use lib.ListN.{drop}
+use Rattle.protocol_debug.proofs.LogMessageFacts.{below}
+use borrow.Author.Rules.{rules}
+use Rattle.protocol_debug.proofs.log_message.text.Goals as goal
+
+pub overflow_add-source_length : goal.overflow_add-source_length
+overflow_add-source_length c = omega (arith, c.source_length.ensures, below c.args.payload.now)
+
+pub returns : goal.returns
+returns c =
+    let n = c in
+    c.behind.ensures ∙ ap (λ (k : ℕ). drop (1 + k) n.args.payload.now) n.source_length.ensures

@@ -1,0 +1,11 @@
+-- The worked values, computed.
+use mathlib.Core.Path.{refl}
+use Rattle.bits.specs.Order.{digits, value_from, unpack, bytes, octets, to_bits, number, from_bits}
+use Rattle.shape.specs.Answer.{refuse_if, map_answer}
+use Rattle.shape.specs.Shape.{item_bits, items_of, all_below, encode, decode, fits, encoded}
+use Rattle.shape.specs.Cast.{nearest, low_bits}
+use Rattle.protocol_dynamic_node_id.proofs.laws.samples.Goals as goal
+
+pub returns : goal.returns
+unfolding encoded decode encode fits item_bits items_of all_below refuse_if map_answer nearest low_bits to_bits from_bits octets number unpack bytes digits value_from
+returns c = record { first = refl; last = refl; clipped = refl }

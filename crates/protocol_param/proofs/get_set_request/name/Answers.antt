@@ -1,0 +1,11 @@
+-- `get_set_request::name` meets its contract.
+use mathlib.Core.Path.{ap, ◌∙◌}
+use Prim.Native.Nat.{ℕ}
+use lib.ListN.{drop}
+use borrow.Author.Rules.{rules}
+use Rattle.protocol_param.proofs.get_set_request.name.Goals as goal
+
+pub returns : goal.returns
+returns c =
+    let n = c in
+    c.behind.ensures ∙ ap (λ (k : ℕ). drop k n.args.payload.now) n.name_at.ensures

@@ -1,0 +1,46 @@
+-- `get_set_request::refusal` meets its contract: the first refusal of its fields.
+use mathlib.Core.Path.{sym, ap, ◌∙◌}
+use mathlib.Core.List.{List}
+use Prim.Native.Nat.{ℕ}
+use native.Mathlib.Omega.{arith}
+use lib.ListN.{length, drop}
+use Rattle.bits.proofs.Octets.{octets-all}
+use Rattle.protocol_param.proofs.ValueFacts.{number_of, refused-by, value-all}
+use Rattle.protocol_param.proofs.GetSetFacts.{request-stop, request-long, request-held}
+use Rattle.protocol_param.specs.inside.Value.{sized}
+use borrow.Author.Rules.{rules}
+use Rattle.protocol_param.proofs.get_set_request.refusal.Goals as goal
+
+pub returns-then-n-ne0 : goal.returns-then-n-ne0
+returns-then-n-ne0 c =
+    let q = c in
+    let b = q in
+    let k = b in
+    let p = k.args.payload.now in
+    let o = octets-all p (λ i. omega (arith, k.shared_slice_known-1.given i)) in
+    let e = q.refusal-n.ensures ∙ ap (λ (l : List ℕ). number_of (sized 5 l)) b.behind.ensures in
+    sym (ap number_of (request-stop p o q.refusal-n.result (refused-by (sized 5 (drop 1 p)) q.refusal-n.result e c.if-n-ne0.true)))
+
+pub returns-then-name-gt92 : goal.returns-then-name-gt92
+returns-then-name-gt92 c =
+    let t = c in
+    let f = t in
+    let q = f in
+    let b = q in
+    let k = b in
+    let p = k.args.payload.now in
+    let o = octets-all p (λ i. omega (arith, k.shared_slice_known-1.given i)) in
+    let e = q.refusal-n.ensures ∙ ap (λ (l : List ℕ). number_of (sized 5 l)) b.behind.ensures in
+    sym (ap number_of (request-long p o (value-all 5 (drop 1 p) (sym f.if-n-ne0.false ∙ e)) (omega (arith, ap (λ (l : List ℕ). length l) t.name.ensures, c.if-name-gt92.true))))
+
+pub returns : goal.returns
+returns c =
+    let t = c in
+    let f = t in
+    let q = f in
+    let b = q in
+    let k = b in
+    let p = k.args.payload.now in
+    let o = octets-all p (λ i. omega (arith, k.shared_slice_known-1.given i)) in
+    let e = q.refusal-n.ensures ∙ ap (λ (l : List ℕ). number_of (sized 5 l)) b.behind.ensures in
+    sym (ap number_of (request-held p o (value-all 5 (drop 1 p) (sym f.if-n-ne0.false ∙ e)) (omega (arith, ap (λ (l : List ℕ). length l) t.name.ensures, c.if-name-gt92.false))))

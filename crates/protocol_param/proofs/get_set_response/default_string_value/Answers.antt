@@ -1,0 +1,14 @@
+-- `get_set_response::default_string_value` meets its contract.
+use mathlib.Core.Path.{ap, ◌∙◌}
+use mathlib.Core.List.{List}
+use Prim.Native.Nat.{ℕ}
+use lib.ListN.{drop}
+use Rattle.protocol_param.specs.Value.{text_in}
+use borrow.Author.Rules.{rules}
+use Rattle.protocol_param.proofs.get_set_response.default_string_value.Goals as goal
+
+pub returns : goal.returns
+returns c =
+    let b = c in
+    let d = b in
+    c.text.ensures ∙ ap (λ (l : List ℕ). text_in l) (b.behind.ensures ∙ ap (λ (k : ℕ). drop k d.args.payload.now) d.default_at.ensures)

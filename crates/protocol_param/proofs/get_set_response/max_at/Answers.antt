@@ -1,0 +1,20 @@
+-- `get_set_response::max_at` meets its contract.
+use native.Mathlib.Omega.{arith}
+use Rattle.protocol_param.proofs.GetSetFacts.{next_place, default_lt}
+use Rattle.protocol_param.proofs.ValueFacts.{size-at-lt}
+use Rattle.protocol_param.specs.GetSetResponse.{max_at}
+use borrow.Author.Rules.{rules}
+use Rattle.protocol_param.proofs.get_set_response.max_at.Goals as goal
+
+pub overflow_add-result : goal.overflow_add-result
+overflow_add-result c =
+    let b = c in
+    let d = b in
+    omega (arith, d.default_at-at.ensures, default_lt d.args.payload.now, c.size.ensures, size-at-lt 5 b.behind.result.now)
+
+pub returns : goal.returns
+unfolding max_at
+returns c =
+    let b = c in
+    let d = b in
+    next_place d.args.payload.now 5 _ _ _ _ d.default_at-at.ensures b.behind.ensures c.size.ensures

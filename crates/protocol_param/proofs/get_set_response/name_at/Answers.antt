@@ -1,0 +1,20 @@
+-- `get_set_response::name_at` meets its contract.
+use native.Mathlib.Omega.{arith}
+use Rattle.protocol_param.proofs.GetSetFacts.{next_place, min-lt}
+use Rattle.protocol_param.proofs.ValueFacts.{size-at-lt}
+use Rattle.protocol_param.specs.GetSetResponse.{name_at}
+use borrow.Author.Rules.{rules}
+use Rattle.protocol_param.proofs.get_set_response.name_at.Goals as goal
+
+pub overflow_add-result : goal.overflow_add-result
+overflow_add-result c =
+    let b = c in
+    let d = b in
+    omega (arith, d.min_at-at.ensures, min-lt d.args.payload.now, c.size.ensures, size-at-lt 3 b.behind.result.now)
+
+pub returns : goal.returns
+unfolding name_at
+returns c =
+    let b = c in
+    let d = b in
+    next_place d.args.payload.now 3 _ _ _ _ d.min_at-at.ensures b.behind.ensures c.size.ensures

@@ -1,0 +1,11 @@
+-- `value::text` meets its contract.
+use mathlib.Core.Path.{ap, ◌∙◌}
+use Prim.Native.Nat.{ℕ}
+use Rattle.bits.specs.Part.{span}
+use borrow.Author.Rules.{rules}
+use Rattle.protocol_param.proofs.value.text.Goals as goal
+
+pub returns : goal.returns
+returns c =
+    let n = c in
+    c.within.ensures ∙ ap (λ (k : ℕ). span n.args.s.now 2 k) n.text_length.ensures

@@ -1,0 +1,17 @@
+-- `value::write_text` meets its contract: its length, and its bytes.
+use native.Mathlib.Omega.{arith}
+use Rattle.protocol_param.proofs.WriteFacts.{text-stored}
+use Rattle.protocol_param.proofs.ValueFacts.{eight}
+use borrow.Author.Rules.{rules}
+use Rattle.protocol_param.proofs.value.write_text.Goals as goal
+
+pub write-requires : goal.write-requires
+write-requires c = (omega (arith, eight, c.width.ensures), (omega arith, omega (arith, eight, c.width.ensures)))
+
+pub returns : goal.returns
+returns c =
+    let b = c in
+    let w = b in
+    let d = w in
+    let a = d.args in
+    text-stored a.text.now a.out.now w.write.new.s b.write_bytes.new.s a.at d.width.result d.width.ensures (omega arith) w.write.ensures b.write_bytes.ensures

@@ -1,0 +1,25 @@
+-- `receive` meets its contract: a state at fault answers 20, any other is stepped.
+use mathlib.Core.Path.{sym, ap, ◌∙◌}
+use mathlib.Core.Bool.{Bool}
+use Rattle.receiver.specs.Receive.{arrival_of, received_if, received}
+use borrow.Author.Rules.{rules}
+use Rattle.receiver.proofs.receive.Goals as goal
+
+pub receive_sound-requires : goal.receive_sound-requires
+receive_sound-requires c = let t = c in sym t.is_sound.ensures ∙ t.if-is_sound.true
+
+pub returns-then-is_sound : goal.returns-then-is_sound
+unfolding received received_if
+returns-then-is_sound c =
+    let r = c in
+    let t = r in
+    let n = t in
+    let a = n.args in
+    r.receive_sound.ensures ∙ ap (λ (b : Bool). received_if b a.state.now (arrival_of a.id a.frame.now a.interface a.time) a.out.now) (sym (sym n.is_sound.ensures ∙ t.if-is_sound.true))
+
+pub returns : goal.returns
+unfolding received received_if
+returns c =
+    let n = c in
+    let a = n.args in
+    ap (λ (b : Bool). received_if b a.state.now (arrival_of a.id a.frame.now a.interface a.time) a.out.now) (sym (sym n.is_sound.ensures ∙ c.if-is_sound.false))

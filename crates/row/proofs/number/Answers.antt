@@ -1,0 +1,7 @@
+-- `number` meets its contract.
+use native.Mathlib.Omega.{arith}
+use borrow.Author.Rules.{rules}
+use Rattle.row.proofs.number.Goals as goal
+
+pub value-requires : goal.value-requires
+value-requires c = ((omega arith, omega arith), omega (arith, c.shared_slice_known-2-1.given c.args.i))

@@ -1,0 +1,14 @@
+-- `put` meets its contract.
+use native.Mathlib.Omega.{arith}
+use borrow.Author.Rules.{rules}
+use Rattle.row.proofs.Rows.{row-short, row-placed}
+use Rattle.row.proofs.put.Goals as goal
+
+pub returns-then-fields-words : goal.returns-then-fields-words
+returns-then-fields-words c = let a = c.args in row-short a.words.now a.fields.now (omega arith)
+
+pub returns : goal.returns
+returns c =
+    let s = c in
+    let a = s.args in
+    row-placed a.words.now a.fields.now s.copy.new.1.0 (omega arith) s.copy.ensures

@@ -1,0 +1,117 @@
+-- `number` meets its contract: no place is left, or an entry is stored and the records are written.
+use mathlib.Core.Path.{◌≡◌, ap, ◌∙◌}
+use mathlib.Core.List.{List}
+use Prim.Native.Nat.{ℕ, ◌≤◌, ◌<◌}
+use native.Mathlib.Omega.{arith}
+use lib.ListN.{length}
+use Rattle.bits.specs.Order.{Octets}
+use Rattle.bits.specs.Part.{splice}
+use Rattle.bits.proofs.Octets.{octets-all}
+use Rattle.id_map.specs.inside.Find.{place_or32}
+use Rattle.id_map.specs.Layout.{size, map_of, slot_at, with_slot}
+use Rattle.id_map.proofs.Soundness.{long-enough}
+use Rattle.rules.specs.Map as rules
+use Rattle.rules.specs.Map.{slot_for, used}
+use Rattle.rules.specs.Sending.{Call, topic_of, records_of}
+use Rattle.rules.specs.Sent.{sent}
+use Rattle.rules.specs.Session.{next}
+use Rattle.sender.specs.Send.{call_of}
+use Rattle.sender.proofs.Lent.{drawn-lt, no_place, stored, without-payload, same_id, key_in}
+use borrow.Author.Rules.{rules}
+use Rattle.sender.proofs.number.Goals as goal
+
+call : goal.Start → Call
+call s = call_of s.args.c s.args.payload.now
+
+octets : (k : goal.After-slice_known-1) → Octets k.args.map.now
+octets k = octets-all k.args.map.now (λ i. omega (arith, k.slice_known-1.given i))
+
+long : (s : goal.Start) → size ≤ length s.args.map.now
+long s = long-enough s.args.map.now s.requires.0.0
+
+-- the place is the call's
+place_is : (p : goal.After-place-i) → let s = p in
+    p.place-i.result ≡ place_or32 (slot_for (topic_of (call s)) (call s).time (map_of s.args.map.now))
+unfolding call
+place_is p =
+    let k = p in
+    let s = k in
+    p.place-i.ensures ∙ ap (λ t. place_or32 (slot_for t s.args.c.time (map_of s.args.map.now))) k.key_of-k.ensures.0
+
+drawn-is : (d : goal.After-drawn-transfer) → let p = d in let s = p in
+    d.drawn-transfer.result ≡ rules.drawn (topic_of (call s)) (slot_at s.args.map.now p.place-i.result)
+unfolding call
+drawn-is d =
+    let p = d in
+    let k = p in
+    let s = k in
+    d.drawn-transfer.ensures ∙ ap (λ t. rules.drawn t (slot_at s.args.map.now p.place-i.result)) k.key_of-k.ensures.0
+
+small : (d : goal.After-drawn-transfer) → d.drawn-transfer.result < 32
+small d =
+    let e = d in
+    let p = e in
+    let k = p in
+    let s = k in
+    let l = drawn-lt s.args.map.now s.requires.0.0 (octets k) (topic_of (call s)) p.place-i.result (omega arith) in
+    omega (arith, drawn-is d)
+
+pub key_of-k-requires : goal.key_of-k-requires
+unfolding call
+key_of-k-requires c = let s = c in key_in (call s) s.requires.0.1 s.requires.1.0
+
+pub place-i-requires : goal.place-i-requires
+place-i-requires c = let k = c in (long k, k.key_of-k.ensures.1)
+
+pub returns-then-i-gt31 : goal.returns-then-i-gt31
+unfolding call
+returns-then-i-gt31 c =
+    let p = c in
+    let k = p in
+    let s = k in
+    no_place s.args.map.now s.requires.0.0 (octets k) (call s) s.args.out.now p.place-i.result (place_is p) c.if-i-gt31.true
+
+pub drawn-transfer-requires : goal.drawn-transfer-requires
+drawn-transfer-requires c =
+    let p = c in
+    let k = p in
+    ((omega arith, long k), k.key_of-k.ensures.1)
+
+pub overflow_add-transfer : goal.overflow_add-transfer
+overflow_add-transfer c = omega (arith, small c)
+
+pub store-requires : goal.store-requires
+store-requires c =
+    let p = c in
+    let k = p in
+    ((omega arith, long k), k.key_of-k.ensures.1)
+
+pub id-requires : goal.id-requires
+unfolding call
+id-requires c =
+    let s = c in
+    without-payload s.args.c s.args.payload.now s.requires.0.1
+
+pub write-requires : goal.write-requires
+write-requires c =
+    let d = c in
+    let s = d in
+    (small d, (s.requires.1.1.0, s.requires.1.1.1))
+
+pub returns : goal.returns
+unfolding call
+returns c =
+    let w = c in
+    let i = w in
+    let t = i in
+    let d = t in
+    let p = d in
+    let y = p in
+    let k = y in
+    let s = k in
+    let r : ℕ → List ℕ = λ x. splice s.args.out.now 0 (records_of x (sent s.args.c.signature d.drawn-transfer.result s.args.payload.now)) in
+    let o : w.write.new.out ≡ r i.id.result = w.write.ensures in
+    stored s.args.map.now s.requires.0.0 (octets k) (call s) s.args.out.now p.place-i.result d.drawn-transfer.result c.count.result t.store.new.map w.write.new.out
+    (place_is p) (omega arith) (drawn-is d)
+    (t.store.ensures ∙ ap (λ x. with_slot s.args.map.now p.place-i.result (used x (next d.drawn-transfer.result) s.args.c.time)) y.key_of-k.ensures.0)
+    c.count.ensures (o ∙ ap r (i.id.ensures ∙ same_id s.args.c s.args.payload.now))

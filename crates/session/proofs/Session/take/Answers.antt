@@ -1,0 +1,12 @@
+-- `Session::take` meets its contract.
+use mathlib.Core.Path.{ap}
+use Prim.Native.Nat.{ℕ, ◌+◌}
+use mathlib.Core.Bool.{not}
+use borrow.Author.Rules.{rules}
+use Rattle.session.proofs.Session.take.Goals as goal
+
+pub returns : goal.returns
+returns c =
+    let q = c in
+    let a = q.args in
+    ap (λ (t : ℕ). record { expected = a.self.expected; toggle = not a.self.toggle; time = t; follows = a.self.follows; len = a.self.len + a.n }) q.started-since.ensures

@@ -1,0 +1,6 @@
+-- `expects` meets its contract.
+use borrow.Author.Rules.{rules}
+use Rattle.session.proofs.expects.Goals as goal
+
+pub returns : goal.returns
+returns c = rw c.if-f.false

@@ -1,0 +1,28 @@
+-- `sum_ok` meets its contract: the two bytes in front, low byte first, against the checksum of those after them.
+use mathlib.Core.Path.{◌≡◌}
+use native.Mathlib.Omega.{arith}
+use borrow.Author.Rules.{rules}
+use lib.ListN.{length, take}
+use lib.Seq.{length-take-le}
+use Rattle.session.proofs.Gathered.{sum-short, sum-at}
+use Rattle.session.proofs.sum_ok.Goals as goal
+
+pub returns-then-len-lt2 : goal.returns-then-len-lt2
+returns-then-len-lt2 c =
+    let a = c.args in
+    let s = a.s.now in
+    let l : length (take a.len s) ≡ a.len = length-take-le a.len s (omega arith) in
+    sum-short a.signature (take a.len s) (omega arith)
+
+pub overflow_mul-result : goal.overflow_mul-result
+overflow_mul-result c = let byte = c.shared_slice_known-3-1.given in omega (arith, byte 0, byte 1)
+
+pub overflow_add-result : goal.overflow_add-result
+overflow_add-result c = let byte = c.shared_slice_known-3-1.given in omega (arith, byte 0, byte 1)
+
+pub returns : goal.returns
+returns c =
+    let w = c in
+    let x = w in
+    let a = x.args in
+    rw (c.wide-2.ensures, w.wide.ensures, x.transfer_span-sum.ensures) (sum-at a.s.now a.len (omega arith) (omega arith) a.signature)

@@ -1,0 +1,8 @@
+-- `gathered::lowest` meets its contract.
+use mathlib.Core.Path.{ap, ◌∙◌}
+use lib.Count.{count_trailing_zeros}
+use borrow.Author.Rules.{rules}
+use Rattle.sessions.proofs.gathered.lowest.Goals as goal
+
+pub returns : goal.returns
+returns c = c.lowest.ensures ∙ ap (count_trailing_zeros 64) c.free.ensures

@@ -1,0 +1,64 @@
+-- `place::grow` meets its contract: with the blocks that the session has, or with one more.
+use Prim.Native.Nat.{◌≤◌, ◌<◌, ◌^◌}
+use native.Mathlib.Omega.{arith}
+use Rattle.bits.proofs.Octets.{octets-all}
+use Rattle.rules.specs.Blocks.{need}
+use Rattle.state.specs.Layout.{count_at}
+use Rattle.sessions.proofs.Grow.{kept-fill, kept-done, more-claims, more-fill, more-done}
+use borrow.Author.Rules.{rules}
+use Rattle.sessions.proofs.place.grow.Goals as goal
+
+-- the block is needed, or not
+more : (c : goal.Then-held-needed) → need (count_at c.args.state.now c.args.i) < need c.args.c.len
+more c = omega (arith, c.if-held-needed.true, c.needed-held.ensures, c.needed.ensures, c.requires.len)
+
+enough : (c : goal.Else-held-needed) → need c.args.c.len ≤ need (count_at c.args.state.now c.args.i)
+enough c = omega (arith, c.if-held-needed.false, c.needed-held.ensures, c.needed.ensures, c.requires.len)
+
+time-lt : (c : goal.After-struct_known-1) → c.args.c.time < 2 ^ 64
+time-lt c = search rules
+
+pub overflow_sub-n : goal.overflow_sub-n
+overflow_sub-n c = omega (arith, c.requires.len)
+
+pub needed-held-requires : goal.needed-held-requires
+needed-held-requires c = omega (arith, c.requires.few)
+
+pub needed-requires : goal.needed-requires
+needed-requires c = omega (arith, c.requires.few)
+
+pub claim-requires : goal.claim-requires
+claim-requires c =
+    let a = c.args in
+    let g = c.requires in
+    let o = octets-all a.state.now (λ i. omega (arith, c.slice_known-1.given i)) in
+    let k = more-claims a.state.now a.i a.c a.p.now o g (time-lt c) (more c) in
+    ((g.place, g.ready.long), (omega (arith, k.0, c.needed-held.ensures, g.len), k.1))
+
+pub fill-requires : goal.fill-requires
+fill-requires c =
+    let a = c.args in
+    let g = c.requires in
+    let o = octets-all a.state.now (λ i. omega (arith, c.slice_known-1.given i)) in
+    (more-fill a.state.now a.i a.c a.p.now o g (time-lt c) (more c) _ _ (omega (arith, g.len)) c.needed-held.ensures _ c.claim.ensures, (g.few, (g.expected, g.follows)))
+
+pub returns-then-held-needed : goal.returns-then-held-needed
+returns-then-held-needed c =
+    let a = c.args in
+    let g = c.requires in
+    let o = octets-all a.state.now (λ i. omega (arith, c.slice_known-1.given i)) in
+    more-done a.state.now a.i a.c a.p.now o g (time-lt c) (more c) _ _ (omega (arith, g.len)) c.needed-held.ensures _ _ c.claim.ensures c.fill.ensures
+
+pub fill-requires-2 : goal.fill-requires-2
+fill-requires-2 c =
+    let a = c.args in
+    let g = c.requires in
+    let o = octets-all a.state.now (λ i. omega (arith, c.slice_known-1.given i)) in
+    (kept-fill a.state.now a.i a.c a.p.now o g (time-lt c) (enough c) _ (omega (arith, g.len)), (g.few, (g.expected, g.follows)))
+
+pub returns : goal.returns
+returns c =
+    let a = c.args in
+    let g = c.requires in
+    let o = octets-all a.state.now (λ i. omega (arith, c.slice_known-1.given i)) in
+    kept-done a.state.now a.i a.c a.p.now o g (time-lt c) (enough c) _ (omega (arith, g.len)) _ c.fill-2.ensures

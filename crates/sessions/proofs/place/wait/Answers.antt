@@ -1,0 +1,36 @@
+-- `place::wait` meets its contract: the free blocks, the key, and the session's fields.
+use mathlib.Core.Path.{◌∙◌}
+use native.Mathlib.Omega.{arith}
+use Rattle.bits.proofs.Octets.{octets-all}
+use Rattle.sessions.proofs.Places.{waits}
+use Rattle.sessions.proofs.Waited.{waited}
+use borrow.Author.Rules.{rules}
+use Rattle.sessions.proofs.place.wait.Goals as goal
+
+pub free_after-free-requires : goal.free_after-free-requires
+free_after-free-requires c = (c.requires.ready, c.requires.place)
+
+pub put_u64-requires : goal.put_u64-requires
+put_u64-requires c = omega (arith, c.requires.ready.long)
+
+pub overflow_mul-i : goal.overflow_mul-i
+overflow_mul-i c = omega (arith, c.requires.place)
+
+pub overflow_add-i : goal.overflow_add-i
+overflow_add-i c = omega (arith, c.requires.place)
+
+pub put_u32-requires : goal.put_u32-requires
+put_u32-requires c = omega (arith, c.requires.ready.long, c.requires.place, c.put_u64.auto.0)
+
+pub write-requires : goal.write-requires
+write-requires c =
+    let p = c.requires in
+    ((p.place, omega (arith, p.ready.long, c.put_u32.auto.0, c.put_u64.auto.0)), (omega (arith, p.len), (p.expected, p.follows)))
+
+pub returns : goal.returns
+returns c =
+    let a = c.args in
+    let p = c.requires in
+    let o = octets-all a.state.now (λ i. omega (arith, c.slice_known-1.given i)) in
+    waits a.state.now _ _ _ a.i a.k a.c c.free_after-free.result c.free_after-free.ensures c.put_u64.ensures c.put_u32.ensures c.write.ensures
+    ∙ waited a.state.now a.i a.k a.c o (search rules) (search rules) p

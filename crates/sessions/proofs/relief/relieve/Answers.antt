@@ -1,0 +1,56 @@
+-- `relief::relieve` meets its contract. The invariant: the first i places are relieved.
+use mathlib.Core.Path.{◌≡◌, refl, sym, ap, ◌∙◌}
+use Prim.Native.Nat.{ℕ, ◌-◌, ◌≤◌}
+use native.Mathlib.Numerals.{add-one}
+use native.Mathlib.Omega.{arith}
+use lib.ListN.{length}
+use Rattle.bits.proofs.Octets.{octets-all}
+use Rattle.rules.specs.Limits.{sessions_max}
+use Rattle.state.proofs.Good.{same-table}
+use Rattle.state.specs.Layout.{places_of}
+use Rattle.state.specs.Place.{written}
+use Rattle.sessions.proofs.Eased.{eased_to, one_more, eased-ready, eased-whole}
+use Rattle.sessions.proofs.relief.relieve.Goals as goal
+
+pub loop-i-init : goal.loop-i-init
+unfolding eased_to
+loop-i-init c =
+    let a = c.args in
+    let o = octets-all a.state.now (λ i. omega (arith, c.slice_known-1.given i)) in
+    (omega arith, (refl, sym (same-table a.state.now c.requires o)))
+
+pub relieve_one-requires : goal.relieve_one-requires
+relieve_one-requires c =
+    let l = c in
+    let a = c.args in
+    let o = octets-all a.state.now (λ i. omega (arith, c.slice_known-1.given i)) in
+    (eased-ready a.state.now c.requires o a.t l.loop-i.i l.loop-i.invariant.0 l.loop-i.state l.loop-i.invariant.1.1, omega arith)
+
+pub overflow_add-i : goal.overflow_add-i
+overflow_add-i c = omega arith
+
+pub loop-i-smaller : goal.loop-i-smaller
+loop-i-smaller c = omega arith
+
+pub loop-i-preserved : goal.loop-i-preserved
+loop-i-preserved c =
+    let l = c in
+    let a = c.args in
+    let o = octets-all a.state.now (λ i. omega (arith, c.slice_known-1.given i)) in (
+      omega arith,
+      (
+        c.relieve_one.auto.0 ∙ l.loop-i.invariant.1.0,
+        rw add-one (c.relieve_one.ensures ∙ one_more a.state.now c.requires o a.t l.loop-i.i (omega arith) l.loop-i.state l.loop-i.invariant.1.1),
+      ),
+    )
+
+pub shape_of-state : goal.shape_of-state
+shape_of-state c = c.loop-i.invariant.1.0
+
+pub returns : goal.returns
+returns c =
+    let l = c in
+    let a = c.args in
+    let o = octets-all a.state.now (λ i. omega (arith, c.slice_known-1.given i)) in
+    let e : l.loop-i.i ≡ sessions_max = omega arith in
+    eased-whole a.state.now c.requires o a.t l.loop-i.state (l.loop-i.invariant.1.1 ∙ ap (λ (n : ℕ). written a.state.now (eased_to a.t n (places_of a.state.now))) e)

@@ -1,0 +1,22 @@
+-- `sound::claim_place` meets its contract, case by case.
+use mathlib.Core.Path.{sym, ◌∙◌}
+use Rattle.sessions.proofs.Listed.{none-claimed, no_stream, in-stream}
+use borrow.Author.Rules.{rules}
+use Rattle.sessions.proofs.sound.claim_place.Goals as goal
+
+pub returns-then-k-eq0 : goal.returns-then-k-eq0
+returns-then-k-eq0 c = let s = c in none-claimed s.args.state.now s.args.i s.args.k s.args.seen s.requires.1 c.if-k-eq0.true
+
+pub claim_session-requires : goal.claim_session-requires
+claim_session-requires c = c.requires.0
+
+pub returns-then-stream_fits : goal.returns-then-stream_fits
+returns-then-stream_fits c =
+    let s = c in
+    c.claim_session.ensures
+    ∙ in-stream s.args.state.now s.args.i s.args.k s.args.seen s.requires.1 c.if-k-eq0.false (sym c.stream_fits.ensures ∙ c.if-stream_fits.true)
+
+pub returns : goal.returns
+returns c =
+    let s = c in
+    no_stream s.args.state.now s.args.i s.args.k s.args.seen s.requires.1 c.if-k-eq0.false (sym c.stream_fits.ensures ∙ c.if-stream_fits.false)

@@ -1,0 +1,114 @@
+-- `sound::places_sound` meets its contract. The invariant: where the walk is, the places passed fit (keys, Walk.antt), and their blocks are claimed.
+use mathlib.Core.Path.{◌≡◌, refl, sym, ap, ◌∙◌}
+use mathlib.Core.Bool.{Bool, true, false, ◌&&◌}
+use mathlib.Core.List.{List}
+use mathlib.Core.Option.{some}
+use Prim.Native.Nat.{ℕ, ◌-◌}
+use native.Mathlib.Omega.{arith}
+use borrow.Author.Rules.{rules}
+use borrow.Author.Tests.{eq-eqb}
+use lib.ListN.{length}
+use Rattle.bits.specs.Tabulate.{tabulate, every}
+use Rattle.keys.proofs.Counts.{count-le, rest-empty}
+use Rattle.keys.proofs.Walk.{Tested, here, left-ok, as_long, table_at, begins, place, again, unfit, alike, ends}
+use Rattle.keys.specs.inside.Keys.{distinct}
+use Rattle.rules.specs.Blocks.{used}
+use Rattle.rules.specs.Limits.{sessions_max}
+use Rattle.sessions.specs.inside.Sound.{empty_or_fits, claimed, shares}
+use Rattle.state.specs.Layout.{free_of, key_at, place_at}
+use Rattle.sessions.proofs.Claims.{seen_none, seen_more}
+use Rattle.sessions.proofs.Listed.{both-passed, fault-place, end-share}
+use Rattle.sessions.proofs.sound.places_sound.Goals as goal
+
+-- an empty place fits
+empty : (m : List ℕ) (i : ℕ) → key_at m i ≡ 0 → empty_or_fits m i ≡ true
+unfolding empty_or_fits
+empty m i z = rw (eq-eqb (key_at m i) 0 z)
+
+-- where a test fails
+fails : (y : Bool) {x : Bool} → false ≡ x → false ≡ (x && y)
+fails y e = ap (λ (b : Bool). b && y) e
+
+pub overflow_cast-left : goal.overflow_cast-left
+overflow_cast-left c = omega (arith, as_long _ _ _ c.requires.1)
+
+pub count-requires : goal.count-requires
+count-requires c = omega (arith, as_long _ _ _ c.requires.1)
+
+pub overflow_sub-left : goal.overflow_sub-left
+overflow_sub-left c = omega (arith, as_long _ _ _ c.requires.1, count-le 0 c.args.table.now)
+
+pub free-seen-requires : goal.free-seen-requires
+free-seen-requires c = c.requires.0
+
+pub loop-left-init : goal.loop-left-init
+loop-left-init c =
+    let a = c.args in
+    let t = a.table.now in
+    (begins _ t _ _ refl (omega (arith, count-le 0 t)), seen_none (place_at a.state.now) (free_of a.state.now) ∙ ap (λ (x : ℕ). some x) (sym c.free-seen.ensures))
+
+pub offset_bounds-table-i : goal.offset_bounds-table-i
+offset_bounds-table-i c = omega arith
+
+pub bounds-table-i : goal.bounds-table-i
+bounds-table-i c = here _ _ _ _ c.loop-left.invariant.0.walk (omega arith)
+
+pub mark-first-requires : goal.mark-first-requires
+mark-first-requires c = c.loop-left.invariant.0.walk.marks-long
+
+pub claim_place-requires : goal.claim_place-requires
+claim_place-requires c =
+    let l = c in
+    let s = l in
+    let b = place _ _ _ s.requires.1 _ _ _ _ l.loop-left.invariant.0 (omega arith) in
+    ((b, s.requires.0), table_at (key_at s.args.state.now) sessions_max s.args.table.now s.requires.1 l.loop-left.i b)
+
+pub returns-in-Fault : goal.returns-in-Fault
+returns-in-Fault c =
+    let l = c in
+    let s = l in
+    let b = place _ _ _ s.requires.1 _ _ _ _ l.loop-left.invariant.0 (omega arith) in
+    fault-place s.args.state.now (every (empty_or_fits s.args.state.now) 0 sessions_max && distinct s.args.table.now) l.loop-left.i l.loop-left.seen b l.loop-left.invariant.1
+    (sym c.in-Fault.is ∙ c.claim_place.ensures) (unfit _ _ _ s.requires.1 _ _ _ _ l.loop-left.invariant.0 (omega arith))
+
+pub is_alone-requires : goal.is_alone-requires
+is_alone-requires c = omega (arith, as_long _ _ _ c.requires.1)
+
+pub overflow_cast-left-then-is_alone : goal.overflow_cast-left-then-is_alone
+overflow_cast-left-then-is_alone c = tt
+
+pub overflow_sub-left-then-is_alone : goal.overflow_sub-left-then-is_alone
+overflow_sub-left-then-is_alone c = left-ok _ _ _ _ c.loop-left.invariant.0.walk (omega arith)
+
+pub overflow_add-i : goal.overflow_add-i
+overflow_add-i c = omega (arith, here _ _ _ _ c.loop-left.invariant.0.walk (omega arith))
+
+pub loop-left-smaller : goal.loop-left-smaller
+loop-left-smaller c = omega (arith, here _ _ _ _ c.loop-left.invariant.0.walk (omega arith))
+
+pub loop-left-preserved : goal.loop-left-preserved
+loop-left-preserved c =
+    let l = c in
+    let s = l in
+    let m = c.mark-first in
+    let d = both-passed _ _ _ (sym c.in-Blocks.is ∙ c.claim_place.ensures) in (
+      again _ _ _ s.requires.1 _ _ _ _ l.loop-left.invariant.0 (omega arith) d.0
+          m.result m.ensures.0 (sym c.is_alone.ensures ∙ c.if-is_alone.true) _ m.ensures.1,
+      seen_more (place_at s.args.state.now) (free_of s.args.state.now) l.loop-left.i l.loop-left.seen _ l.loop-left.invariant.1 d.1,
+    )
+
+pub returns-else-is_alone : goal.returns-else-is_alone
+returns-else-is_alone c =
+    let l = c in
+    let m = c.mark-first in
+    fails (shares _) (alike _ _ _ l.requires.1 _ _ _ _ l.loop-left.invariant.0 (omega arith) m.result (sym c.is_alone.ensures ∙ c.if-is_alone.false))
+
+pub returns : goal.returns
+returns c =
+    let l = c in
+    let s = l in
+    let m = s.args.state.now in
+    let w = l.loop-left.invariant.0 in
+    end-share m (every (empty_or_fits m) 0 sessions_max && distinct s.args.table.now) l.loop-left.i l.loop-left.seen (omega (arith, w.walk.inside, as_long _ _ _ s.requires.1))
+    (λ j a b. sym (table_at (key_at m) sessions_max s.args.table.now s.requires.1 j b) ∙ rest-empty s.args.table.now l.loop-left.i (omega (arith, w.walk.to-come)) j a (omega (arith, b, as_long _ _ _ s.requires.1)))
+    l.loop-left.invariant.1 (ends _ _ _ s.requires.1 _ _ _ _ w (omega arith) (empty m))

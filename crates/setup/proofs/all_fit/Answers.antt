@@ -1,0 +1,69 @@
+-- `all_fit` meets its contract: what is left decides.
+use mathlib.Core.Path.{◌≡◌, refl, sym, ap, ◌∙◌}
+use mathlib.Core.Bool.{true, false}
+use Prim.Native.Nat.{ℕ, ◌-◌}
+use native.Mathlib.Nat.{sub-zero}
+use native.Mathlib.Omega.{arith}
+use Rattle.rules.specs.Setup.{type_fits, all_fit}
+use Rattle.setup.specs.Setup.{record_at}
+use Rattle.setup.proofs.Records.{tab-end, same-type, fit-turn}
+use Rattle.bits.specs.Tabulate.{tabulate}
+use borrow.Author.Rules.{rules}
+use Rattle.setup.proofs.all_fit.Goals as goal
+
+-- what the test gave is what the rules ask
+fits : (q : goal.After-type_fits invariant-loop decreases-loop) → let l = q in let a = record_at l.args.records.now l.loop.j in
+    type_fits a.kind a.type ≡ q.type-fits.result
+fits q =
+    let l = q in
+    same-type (record_at l.args.records.now l.loop.j) q.key.result q.key.ensures ∙ sym q.type-fits.ensures
+
+pub loop-j-init : goal.loop-j-init
+loop-j-init c =
+    let a = c.args in
+    ap (λ (k : ℕ). all_fit (tabulate (record_at a.records.now) 0 k)) (sub-zero a.n)
+
+pub key-requires : goal.key-requires
+key-requires c = omega arith
+
+pub key_is_new-requires : goal.key_is_new-requires
+key_is_new-requires c = omega arith
+
+pub overflow_add-j : goal.overflow_add-j
+overflow_add-j c = omega arith
+
+pub loop-j-smaller : goal.loop-j-smaller
+loop-j-smaller c = omega arith
+
+pub loop-j-preserved : goal.loop-j-preserved
+loop-j-preserved c =
+    let u = c in
+    let t = u in
+    let q = t in
+    let l = q in
+    let a = l.args in
+    let f = record_at a.records.now in
+    sym (fit-turn f l.loop-j.j a.n (omega arith) true true (fits q ∙ t.if-type_fits.true) (sym u.key_is_new.ensures ∙ c.if-key_is_new.true)) ∙ l.loop-j.invariant
+
+pub returns-else-key_is_new : goal.returns-else-key_is_new
+returns-else-key_is_new c =
+    let u = c in
+    let t = u in
+    let q = t in
+    let l = q in
+    let a = l.args in
+    let f = record_at a.records.now in
+    sym (fit-turn f l.loop-j.j a.n (omega arith) true false (fits q ∙ t.if-type_fits.true) (sym u.key_is_new.ensures ∙ c.if-key_is_new.false)) ∙ l.loop-j.invariant
+
+pub returns-else-type_fits : goal.returns-else-type_fits
+returns-else-type_fits c =
+    let q = c in
+    let l = q in
+    let a = l.args in
+    sym (fit-turn (record_at a.records.now) l.loop-j.j a.n (omega arith) false _ (fits q ∙ c.if-type_fits.false) refl) ∙ l.loop-j.invariant
+
+pub returns : goal.returns
+returns c =
+    let l = c in
+    let a = l.args in
+    sym (ap all_fit (tab-end (record_at a.records.now) l.loop-j.j a.n (omega arith))) ∙ l.loop-j.invariant

@@ -1,0 +1,55 @@
+-- `key_is_new` meets its contract: what is left decides.
+use mathlib.Core.Path.{◌≡◌, refl, sym, ap, ◌∙◌}
+use mathlib.Core.Bool.{true, false}
+use Prim.Native.Nat.{◌+◌, ◌-◌}
+use native.Mathlib.Omega.{arith}
+use borrow.Author.Tests.{eq-eqb, ne_eqb}
+use Rattle.rules.specs.Setup.{unlike}
+use Rattle.setup.specs.Setup.{record_at}
+use Rattle.setup.proofs.Records.{tab-end, unlike-turn}
+use Rattle.bits.specs.Tabulate.{tabulate}
+use Rattle.setup.proofs.key_is_new.Goals as goal
+
+pub key-k-requires : goal.key-k-requires
+key-k-requires c = omega arith
+
+pub overflow_add-i : goal.overflow_add-i
+overflow_add-i c = omega arith
+
+pub loop-i-init : goal.loop-i-init
+loop-i-init c = refl
+
+pub key-requires : goal.key-requires
+key-requires c = omega arith
+
+pub returns-then-key-k : goal.returns-then-key-k
+returns-then-key-k c =
+    let q = c in
+    let l = q in
+    let k = l in
+    let a = k.args in
+    let r = a.records.now in
+    sym (unlike-turn (record_at r) l.loop-i.i a.n (omega arith) (record_at r a.j) k.key-k.result q.key.result k.key-k.ensures q.key.ensures true
+    (eq-eqb q.key.result k.key-k.result c.if-key-k.true)) ∙ l.loop-i.invariant
+
+pub overflow_add-i-in-loop-i : goal.overflow_add-i-in-loop-i
+overflow_add-i-in-loop-i c = omega arith
+
+pub loop-i-smaller : goal.loop-i-smaller
+loop-i-smaller c = omega arith
+
+pub loop-i-preserved : goal.loop-i-preserved
+loop-i-preserved c =
+    let q = c in
+    let l = q in
+    let k = l in
+    let a = k.args in
+    let r = a.records.now in
+    sym (unlike-turn (record_at r) l.loop-i.i a.n (omega arith) (record_at r a.j) k.key-k.result q.key.result k.key-k.ensures q.key.ensures false
+    (ne_eqb q.key.result k.key-k.result c.if-key-k.false)) ∙ l.loop-i.invariant
+
+pub returns : goal.returns
+returns c =
+    let l = c in
+    let a = l.args in
+    sym (ap (unlike (record_at a.records.now a.j)) (tab-end (record_at a.records.now) l.loop-i.i a.n (omega arith))) ∙ l.loop-i.invariant

@@ -1,0 +1,16 @@
+-- `cast::lowest` meets its contract.
+use mathlib.Core.Path.{ap}
+use native.Mathlib.Omega.{arith}
+use Prim.Native.Nat.{ℕ, ◌%◌}
+use Rattle.shape.proofs.CastFacts.{lowest-all}
+use borrow.Author.Rules.{rules}
+use Rattle.shape.proofs.cast.lowest.Goals as goal
+
+pub returns-then-x-top : goal.returns-then-x-top
+returns-then-x-top c =
+    let o = c in
+    let a = o.args in
+    lowest-all a.w o.ones-top.result (omega arith) o.ones-top.ensures a.x c.if-x-top.true
+
+pub returns : goal.returns
+returns c = let o = c in let a = o.args in ap (λ (k : ℕ). a.x % k) o.ones-top.ensures

@@ -1,0 +1,17 @@
+-- `number::write_signed` meets its contract.
+use mathlib.Core.Path.{ap, ◌∙◌}
+use Prim.Native.Nat.{ℕ}
+use lib.IntN.{ℤ}
+use Rattle.shape.specs.Cast.{signed, saturated, cast_bits}
+use Rattle.shape.proofs.SignedFacts.{is}
+use Rattle.bits.specs.Order.{to_bits, store}
+use borrow.Author.Rules.{rules}
+use Rattle.shape.proofs.number.write_signed.Goals as goal
+
+pub returns : goal.returns
+returns c =
+    let w = c in
+    let u = w in
+    let b = u in
+    let a = b.args in
+    w.write.ensures ∙ ap (λ (n : ℕ). store a.s.now a.at (to_bits a.w n)) (u.signed.ensures ∙ ap (λ (z : ℤ). cast_bits signed saturated a.w z) (is a.v b.ranges.v))

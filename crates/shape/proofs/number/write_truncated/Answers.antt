@@ -1,0 +1,17 @@
+-- `number::write_truncated` meets its contract.
+use mathlib.Core.Path.{ap, ◌∙◌}
+use Prim.Native.Nat.{ℕ}
+use lib.IntN.{ℤ}
+use Rattle.shape.specs.Cast.{low_bits}
+use Rattle.shape.proofs.SignedFacts.{is}
+use Rattle.bits.specs.Order.{to_bits, store}
+use borrow.Author.Rules.{rules}
+use Rattle.shape.proofs.number.write_truncated.Goals as goal
+
+pub returns : goal.returns
+returns c =
+    let w = c in
+    let u = w in
+    let b = u in
+    let a = b.args in
+    w.write.ensures ∙ ap (λ (n : ℕ). store a.s.now a.at (to_bits a.w n)) (u.truncated.ensures ∙ ap (λ (z : ℤ). low_bits a.w z) (is a.v b.ranges.v))

@@ -1,0 +1,14 @@
+-- `tecelume_capture_word` meets its contract: the proved call, its answer as a word.
+use mathlib.Core.Path.{ap, ◌∙◌}
+use Prim.Native.Nat.{ℕ}
+use borrow.Author.Rules.{rules}
+use Rattle.tecelume.specs.Entry.{packed_conversion}
+use Rattle.tecelume.proofs.tecelume_capture_word.Goals as goal
+
+pub of_converted-requires : goal.of_converted-requires
+of_converted-requires c = c.capture.ensures.1
+
+pub returns : goal.returns
+returns c =
+    let s = c in
+    ap (λ (w : ℕ). record { word = w; out = s.capture.new.1.0 }) c.of_converted.ensures ∙ ap packed_conversion s.capture.ensures.0

@@ -1,0 +1,21 @@
+-- `tecelume_receive_word` meets its contract: the proved call, its answer as a word.
+use mathlib.Core.Path.{sym, ap, subst, ◌∙◌}
+use Prim.Native.Nat.{ℕ}
+use Rattle.tecelume.specs.Entry.{entry, packed}
+use Rattle.answers.specs.Word.{Fits}
+use Rattle.batch.proofs.Fits.{received-fits}
+use Rattle.receiver.specs.Receive.{Result, arrival_of}
+use borrow.Author.Rules.{rules}
+use Rattle.tecelume.proofs.tecelume_receive_word.Goals as goal
+
+pub of_answer-requires : goal.of_answer-requires
+of_answer-requires c =
+    let r = c in
+    let a = r.args in
+    let fits = received-fits a.state.now (arrival_of a.id a.frame.now a.interface a.time) a.out.now in
+    subst (λ (x : Result). Fits x.answer) (sym r.receive.ensures) fits
+
+pub returns : goal.returns
+returns c =
+    let r = c in
+    ap (λ (w : ℕ). entry w r.receive.new.state r.receive.new.out.1.1.1.1.0) c.of_answer.ensures ∙ ap packed r.receive.ensures

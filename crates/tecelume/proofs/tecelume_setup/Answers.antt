@@ -1,0 +1,11 @@
+-- `tecelume_setup` meets its contract: the proved call, its outcome as a number.
+use mathlib.Core.Path.{ap, ◌∙◌}
+use Prim.Native.Nat.{ℕ}
+use Rattle.tecelume.specs.Entry.{numbered}
+use borrow.Author.Rules.{rules}
+use Rattle.tecelume.proofs.tecelume_setup.Goals as goal
+
+pub returns : goal.returns
+returns c =
+    let s = c in
+    ap (λ (n : ℕ). record { number = n; state = s.setup.new.state }) c.number.ensures ∙ ap numbered s.setup.ensures

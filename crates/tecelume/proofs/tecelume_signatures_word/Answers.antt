@@ -1,0 +1,11 @@
+-- `tecelume_signatures_word` meets its contract: the proved call, its answer as a word.
+use mathlib.Core.Path.{ap, ◌∙◌}
+use Prim.Native.Nat.{ℕ}
+use Rattle.tecelume.specs.Entry.{signed, packed_signatures}
+use borrow.Author.Rules.{rules}
+use Rattle.tecelume.proofs.tecelume_signatures_word.Goals as goal
+
+pub returns : goal.returns
+returns c =
+    let s = c in
+    ap (λ (w : ℕ). signed w s.signatures.new.records.1.0 s.signatures.new.records.1.1.0) c.of_signatures.ensures ∙ ap packed_signatures s.signatures.ensures
