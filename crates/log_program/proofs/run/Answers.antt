@@ -5,7 +5,7 @@ use mathlib.Core.Bool.{true}
 use Prim.Native.Nat.{◌≤◌}
 use lib.ListN.{length}
 use Rattle.state.specs.Sound.{sound_state}
-use Rattle.log.proofs.run.Goals as goal
+use Rattle.log_program.proofs.run.Goals as goal
 
 pub loop-turns-preserved : goal.loop-turns-preserved
 loop-turns-preserved c =

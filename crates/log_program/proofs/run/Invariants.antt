@@ -4,7 +4,7 @@ use mathlib.Core.Bool.{true}
 use Prim.Native.Nat.{◌≤◌}
 use lib.ListN.{length}
 use Rattle.state.specs.Sound.{sound_state}
-use Rattle.log.proofs.run.Given as goal
+use Rattle.log_program.proofs.run.Given as goal
 
 abbrev pub invariant-loop-turns : goal.invariant-loop-turns
 invariant-loop-turns l = (sound_state l.state ≡ true) × ((l.kept ≤ 48) × ((length l.state ≡ length l.initial.state) × ((length l.block ≡ length l.initial.block) × (length l.out ≡ length l.initial.out))))
