@@ -51,74 +51,49 @@ fields : {n n' f f' : ℕ} {u u' : List ℕ} → n ≡ n' → f ≡ f' → u ≡
 fields a b c = cc
 
 pub returns-then-not-is_sound : goal.returns-then-not-is_sound
-returns-then-not-is_sound c = let k = c in let a = k.args in faulty a.state.now a.q a.payload.now a.out.now (sym k.is_sound.ensures ∙ not-true _ c.if-not-is_sound.true)
+returns-then-not-is_sound c = let a = c.args in faulty a.state.now a.q a.payload.now a.out.now (sym c.is_sound.ensures ∙ not-true _ c.if-not-is_sound.true)
 
 pub returns-then-reserved-eq0 : goal.returns-then-reserved-eq0
 returns-then-reserved-eq0 c =
-    let f = c in
-    let k = f in
-    let a = k.args in
-    own-none a.state.now a.q a.payload.now a.out.now (sym k.is_sound.ensures ∙ not-false _ f.if-not-is_sound.false) c.if-reserved-eq0.true
+    let a = c.args in
+    own-none a.state.now a.q a.payload.now a.out.now (sym c.is_sound.ensures ∙ not-false _ c.if-not-is_sound.false) c.if-reserved-eq0.true
 
 pub returns-then-reserved-gt127 : goal.returns-then-reserved-gt127
 returns-then-reserved-gt127 c =
-    let z = c in
-    let f = z in
-    let k = f in
-    let a = k.args in
-    own-large a.state.now a.q a.payload.now a.out.now (sym k.is_sound.ensures ∙ not-false _ f.if-not-is_sound.false) z.if-reserved-eq0.false c.if-reserved-gt127.true
+    let a = c.args in
+    own-large a.state.now a.q a.payload.now a.out.now (sym c.is_sound.ensures ∙ not-false _ c.if-not-is_sound.false) c.if-reserved-eq0.false c.if-reserved-gt127.true
 
 pub overflow_cast-a : goal.overflow_cast-a
 overflow_cast-a c =
-    let r = c in
-    let d = r in
-    let s = d in
-    let p = s.args.payload.now in
-    let x = r.in-Got.a in
-    casts x.node_id (node-held p d.decode-read.result d.decode-read.ensures (octets-all p (λ i. omega (arith, s.shared_slice_known-1.given i))) x r.in-Got.is)
+    let p = c.args.payload.now in
+    let x = c.in-Got.a in
+    casts x.node_id (node-held p c.decode-read.result c.decode-read.ensures (octets-all p (λ i. omega (arith, c.shared_slice_known-1.given i))) x c.in-Got.is)
 
 pub overflow_cast-a-in-Got : goal.overflow_cast-a-in-Got
 overflow_cast-a-in-Got c =
-    let r = c in
-    let d = r in
-    let s = d in
-    let p = s.args.payload.now in
-    let x = r.in-Got.a in
-    casts x.first_part_of_unique_id (first-held p d.decode-read.result d.decode-read.ensures (octets-all p (λ i. omega (arith, s.shared_slice_known-1.given i))) x r.in-Got.is)
+    let p = c.args.payload.now in
+    let x = c.in-Got.a in
+    casts x.first_part_of_unique_id (first-held p c.decode-read.result c.decode-read.ensures (octets-all p (λ i. omega (arith, c.shared_slice_known-1.given i))) x c.in-Got.is)
 
 pub message-requires : goal.message-requires
-message-requires c = let f = c in let k = f in sym k.is_sound.ensures ∙ not-false _ f.if-not-is_sound.false
+message-requires c = sym c.is_sound.ensures ∙ not-false _ c.if-not-is_sound.false
 
 pub returns-in-Refused : goal.returns-in-Refused
 returns-in-Refused c =
-    let d = c in
-    let l = d in
-    let z = l in
-    let f = z in
-    let k = f in
-    let a = k.args in
+    let a = c.args in
     unread c.in-Refused.n (decoded allocation a.payload.now) a.state.now a.q a.out.now
-    (read-refused a.payload.now d.decode-read.result d.decode-read.ensures c.in-Refused.n c.in-Refused.is)
-    ∙ by-message a.state.now a.q a.payload.now a.out.now (sym k.is_sound.ensures ∙ not-false _ f.if-not-is_sound.false) z.if-reserved-eq0.false (omega arith)
+    (read-refused a.payload.now c.decode-read.result c.decode-read.ensures c.in-Refused.n c.in-Refused.is)
+    ∙ by-message a.state.now a.q a.payload.now a.out.now (sym c.is_sound.ensures ∙ not-false _ c.if-not-is_sound.false) c.if-reserved-eq0.false (omega arith)
 
 pub returns-in-Got : goal.returns-in-Got
 returns-in-Got c =
-    let w = c in
-    let y = w in
-    let r = y in
-    let d = r in
-    let l = d in
-    let z = d in
-    let f = z in
-    let k = f in
-    let s = k in
-    let a = s.args in
+    let a = c.args in
     let p = a.payload.now in
-    let x = r.in-Got.a in
-    let o = octets-all p (λ i. omega (arith, s.shared_slice_known-1.given i)) in
-    let node = cast_is x.node_id (node-held p d.decode-read.result d.decode-read.ensures o x r.in-Got.is) in
-    let first = cast_is x.first_part_of_unique_id (first-held p d.decode-read.result d.decode-read.ensures o x r.in-Got.is) in
-    w.message.ensures
-    ∙ ap (λ (v : Fields). performs (decide a.state.now a.q v) a.state.now a.q.time (joined a.state.now a.q.time v.1.1) a.out.now) (fields node first y.unique_id.ensures)
-    ∙ read (x.node_id, (x.first_part_of_unique_id, unique_id_in p)) (decoded allocation p) a.state.now a.q a.out.now (read-got p d.decode-read.result d.decode-read.ensures o x r.in-Got.is)
-    ∙ by-message a.state.now a.q p a.out.now (sym k.is_sound.ensures ∙ not-false _ f.if-not-is_sound.false) z.if-reserved-eq0.false (omega arith)
+    let x = c.in-Got.a in
+    let o = octets-all p (λ i. omega (arith, c.shared_slice_known-1.given i)) in
+    let node = cast_is x.node_id (node-held p c.decode-read.result c.decode-read.ensures o x c.in-Got.is) in
+    let first = cast_is x.first_part_of_unique_id (first-held p c.decode-read.result c.decode-read.ensures o x c.in-Got.is) in
+    c.message.ensures
+    ∙ ap (λ (v : Fields). performs (decide a.state.now a.q v) a.state.now a.q.time (joined a.state.now a.q.time v.1.1) a.out.now) (fields node first c.unique_id.ensures)
+    ∙ read (x.node_id, (x.first_part_of_unique_id, unique_id_in p)) (decoded allocation p) a.state.now a.q a.out.now (read-got p c.decode-read.result c.decode-read.ensures o x c.in-Got.is)
+    ∙ by-message a.state.now a.q p a.out.now (sym c.is_sound.ensures ∙ not-false _ c.if-not-is_sound.false) c.if-reserved-eq0.false (omega arith)

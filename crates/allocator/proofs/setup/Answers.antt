@@ -24,6 +24,4 @@ returns-then-state-lt-SIZE c = refused c.args.state.now c.if-state-lt-SIZE.true
 
 pub returns : goal.returns
 returns c =
-    let p = c in
-    let e = p in
-    cleared e.args.state.now p.copy_at.new.dst e.if-state-lt-SIZE.false p.copy_at.ensures
+    cleared c.args.state.now c.copy_at.new.dst c.if-state-lt-SIZE.false c.copy_at.ensures

@@ -7,8 +7,6 @@ use Rattle.rules.specs.Tests.{pick}
 use borrow.Author.Rules.{rules}
 use Rattle.batch.proofs.data_length.Goals as goal
 
-pub data-length-spec : {M : Type 1} → statement M
-
 pub returns-then-n-gt-FRAME_DATA : goal.returns-then-n-gt-FRAME_DATA
 returns-then-n-gt-FRAME_DATA c = (ap (λ (b : Bool). pick b 9 c.args.n) (sym (lt-ltb 8 c.args.n (omega arith))), omega arith)
 

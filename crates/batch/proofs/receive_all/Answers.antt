@@ -11,8 +11,7 @@ use Rattle.batch.proofs.receive_all.Goals as goal
 
 pub loop-i-init : goal.loop-i-init
 loop-i-init c =
-    let s = c in
-    at_first s.args.records.now s.args.n s.args.state.now s.args.results.now s.args.out.now s.requires.0
+    at_first c.args.records.now c.args.n c.args.state.now c.args.results.now c.args.out.now c.requires.0
 
 pub slice_bounds-receive_one-count : goal.slice_bounds-receive_one-count
 slice_bounds-receive_one-count c = omega arith
@@ -34,16 +33,13 @@ overflow_add-past c = omega arith
 
 pub returns-then-is_full : goal.returns-then-is_full
 returns-then-is_full c =
-    let o = c in
-    let l = o in
-    let s = l in
-    let a = s.args in
-    let g = l.loop-i.invariant in
-    stopped a.records.now a.n a.state.now a.results.now a.out.now l.loop-i.state l.loop-i.results l.loop-i.out l.loop-i.i l.loop-i.past g (omega arith)
-    o.receive_one-word.new.state (span l.loop-i.out l.loop-i.past (length l.loop-i.out - l.loop-i.past)) o.receive_one-word.new.out.1.1.0 c.put_u64.new.s
-    (put_mid l.loop-i.past (length l.loop-i.out - l.loop-i.past) l.loop-i.out o.receive_one-word.new.out.1.1.0) o.receive_one-word.result
-    (part-lent l.loop-i.out l.loop-i.past g.inside) o.receive_one-word.ensures c.put_u64.ensures
-    (part-back l.loop-i.out o.receive_one-word.new.out.1.1.0 l.loop-i.past g.inside) (omega (arith, s.requires.1.1)) o.receive_one-word.auto.1.1.1.0
+    let a = c.args in
+    let g = c.loop-i.invariant in
+    stopped a.records.now a.n a.state.now a.results.now a.out.now c.loop-i.state c.loop-i.results c.loop-i.out c.loop-i.i c.loop-i.past g (omega arith)
+    c.receive_one-word.new.state (span c.loop-i.out c.loop-i.past (length c.loop-i.out - c.loop-i.past)) c.receive_one-word.new.out.1.1.0 c.put_u64.new.s
+    (put_mid c.loop-i.past (length c.loop-i.out - c.loop-i.past) c.loop-i.out c.receive_one-word.new.out.1.1.0) c.receive_one-word.result
+    (part-lent c.loop-i.out c.loop-i.past g.inside) c.receive_one-word.ensures c.put_u64.ensures
+    (part-back c.loop-i.out c.receive_one-word.new.out.1.1.0 c.loop-i.past g.inside) (omega (arith, c.requires.1.1)) c.receive_one-word.auto.1.1.1.0
     (sym c.is_full.ensures ∙ c.if-is_full.true)
 
 pub loop-i-smaller : goal.loop-i-smaller
@@ -51,21 +47,16 @@ loop-i-smaller c = omega arith
 
 pub loop-i-preserved : goal.loop-i-preserved
 loop-i-preserved c =
-    let o = c in
-    let l = o in
-    let s = l in
-    let a = s.args in
-    let g = l.loop-i.invariant in
-    going a.records.now a.n a.state.now a.results.now a.out.now l.loop-i.state l.loop-i.results l.loop-i.out l.loop-i.i l.loop-i.past g (omega arith)
-    o.receive_one-word.new.state (span l.loop-i.out l.loop-i.past (length l.loop-i.out - l.loop-i.past)) o.receive_one-word.new.out.1.1.0 c.put_u64.new.s
-    (put_mid l.loop-i.past (length l.loop-i.out - l.loop-i.past) l.loop-i.out o.receive_one-word.new.out.1.1.0) o.receive_one-word.result
-    (part-lent l.loop-i.out l.loop-i.past g.inside) o.receive_one-word.ensures c.put_u64.ensures
-    (part-back l.loop-i.out o.receive_one-word.new.out.1.1.0 l.loop-i.past g.inside) (omega (arith, s.requires.1.1)) o.receive_one-word.auto.1.1.1.0
-    (sym c.is_full.ensures ∙ c.if-is_full.false) o.receive_one-word.auto.0 c.put_u64.auto.0
+    let a = c.args in
+    let g = c.loop-i.invariant in
+    going a.records.now a.n a.state.now a.results.now a.out.now c.loop-i.state c.loop-i.results c.loop-i.out c.loop-i.i c.loop-i.past g (omega arith)
+    c.receive_one-word.new.state (span c.loop-i.out c.loop-i.past (length c.loop-i.out - c.loop-i.past)) c.receive_one-word.new.out.1.1.0 c.put_u64.new.s
+    (put_mid c.loop-i.past (length c.loop-i.out - c.loop-i.past) c.loop-i.out c.receive_one-word.new.out.1.1.0) c.receive_one-word.result
+    (part-lent c.loop-i.out c.loop-i.past g.inside) c.receive_one-word.ensures c.put_u64.ensures
+    (part-back c.loop-i.out c.receive_one-word.new.out.1.1.0 c.loop-i.past g.inside) (omega (arith, c.requires.1.1)) c.receive_one-word.auto.1.1.1.0
+    (sym c.is_full.ensures ∙ c.if-is_full.false) c.receive_one-word.auto.0 c.put_u64.auto.0
 
 pub returns : goal.returns
 returns c =
-    let l = c in
-    let s = l in
-    at_last s.args.records.now s.args.n s.args.state.now s.args.results.now s.args.out.now l.loop-i.state l.loop-i.results l.loop-i.out l.loop-i.i l.loop-i.past l.loop-i.invariant
-    (omega (arith, l.loop-i.invariant.within))
+    at_last c.args.records.now c.args.n c.args.state.now c.args.results.now c.args.out.now c.loop-i.state c.loop-i.results c.loop-i.out c.loop-i.i c.loop-i.past c.loop-i.invariant
+    (omega (arith, c.loop-i.invariant.within))

@@ -21,25 +21,20 @@ few a b =
 
 pub receive_all-requires : goal.receive_all-requires
 receive_all-requires c =
-    let n = c in
-    let t = n in
-    let a = t.args in
+    let a = c.args in
     let f = few (length a.records.now) (length a.results.now) in
-    let e = n.least-n.ensures ∙ ap (λ (k : ℕ). min k records_max) n.least.ensures in
-    (sym t.is_sound.ensures ∙ t.if-is_sound.true, (omega (arith, f.0, e), omega (arith, f.1, e)))
+    let e = c.least-n.ensures ∙ ap (λ (k : ℕ). min k records_max) c.least.ensures in
+    (sym c.is_sound.ensures ∙ c.if-is_sound.true, (omega (arith, f.0, e), omega (arith, f.1, e)))
 
 pub returns-then-is_sound : goal.returns-then-is_sound
 unfolding received_many received_many_if
 returns-then-is_sound c =
-    let r = c in
-    let n = r in
-    let t = n in
-    let a = t.args in
+    let a = c.args in
     let m = a.state.now in
-    r.receive_all_lem.ensures
+    c.receive_all_lem.ensures
     ∙ ap (λ (k : ℕ). told (batch m (tabulate (arrival_at a.records.now) 0 k) a.out.now) a.results.now)
-    (n.least-n.ensures ∙ ap (λ (k : ℕ). min k records_max) n.least.ensures)
-    ∙ ap (λ (b : Bool). received_many_if b m a.records.now a.results.now a.out.now) (sym (sym t.is_sound.ensures ∙ t.if-is_sound.true))
+    (c.least-n.ensures ∙ ap (λ (k : ℕ). min k records_max) c.least.ensures)
+    ∙ ap (λ (b : Bool). received_many_if b m a.records.now a.results.now a.out.now) (sym (sym c.is_sound.ensures ∙ c.if-is_sound.true))
 
 pub returns : goal.returns
 unfolding received_many received_many_if

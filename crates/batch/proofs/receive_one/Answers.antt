@@ -45,22 +45,19 @@ module _ (c : goal.After-receive_sound) where
 
 pub data_length-requires : goal.data_length-requires
 
-
 pub overflow_cast-records : goal.overflow_cast-records
 overflow_cast-records c = omega (arith, c.shared_slice_known-3-1.given (c.args.i * 24 + 12))
 
 pub of_answer-requires : goal.of_answer-requires
 of_answer-requires c =
-    let r = c in
-    let a = (s r).args in
-    subst (λ (x : Result). Fits x.answer) (sym (gives r)) (received-fits a.state.now (arrival_at a.records.now a.i) a.out.now)
+    let a = (s c).args in
+    subst (λ (x : Result). Fits x.answer) (sym (gives c)) (received-fits a.state.now (arrival_at a.records.now a.i) a.out.now)
 
 pub returns : goal.returns
 returns c =
-    let r = c in
     record {
-      word = c.of_answer.ensures ∙ ap (λ (x : Result). word_of x.answer) (gives r);
-      state = ap (λ (x : Result). x.state) (gives r);
-      out = ap (λ (x : Result). x.out) (gives r);
-      sound = sound-after r;
+      word = c.of_answer.ensures ∙ ap (λ (x : Result). word_of x.answer) (gives c);
+      state = ap (λ (x : Result). x.state) (gives c);
+      out = ap (λ (x : Result). x.out) (gives c);
+      sound = sound-after c;
     }

@@ -10,4 +10,3 @@ records-requires c κs =
     omega (arith, cut-few (take (n - 0) p), length-take-le (n - 0) p (omega (arith, s.requires.0, s.requires.1.0)), s.requires.0, s.requires.1.1)
 
 pub records-r-requires : goal.records-r-requires
-

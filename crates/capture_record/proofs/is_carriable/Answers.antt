@@ -48,32 +48,20 @@ module _ (r : List ℕ) (time len : ℕ) (t : time ≡ stamp_of r) (n : len ≡ 
 
 pub returns-then-len-gt8 : goal.returns-then-len-gt8
 returns-then-len-gt8 c =
-    let s = c in
-    let a = s.args in
-    long a.r.now a.time a.len s.requires.1.0 s.requires.1.1 c.if-len-gt8.true
+    let a = c.args in
+    long a.r.now a.time a.len c.requires.1.0 c.requires.1.1 c.if-len-gt8.true
 
 pub returns-then-get_at-gt0 : goal.returns-then-get_at-gt0
 returns-then-get_at-gt0 c =
-    let g = c in
-    let e = g in
-    let s = e in
-    let a = s.args in
-    dirty a.r.now a.time a.len s.requires.1.0 s.requires.1.1 e.if-len-gt8.false g.get_at.result g.get_at.ensures c.if-get_at-gt0.true
+    let a = c.args in
+    dirty a.r.now a.time a.len c.requires.1.0 c.requires.1.1 c.if-len-gt8.false c.get_at.result c.get_at.ensures c.if-get_at-gt0.true
 
 pub returns-then-time-gt0 : goal.returns-then-time-gt0
 returns-then-time-gt0 c =
-    let f = c in
-    let g = f in
-    let e = g in
-    let s = e in
-    let a = s.args in
-    part a.r.now a.time a.len s.requires.1.0 s.requires.1.1 e.if-len-gt8.false g.get_at.result g.get_at.ensures f.if-get_at-gt0.false c.if-time-gt0.true
+    let a = c.args in
+    part a.r.now a.time a.len c.requires.1.0 c.requires.1.1 c.if-len-gt8.false c.get_at.result c.get_at.ensures c.if-get_at-gt0.false c.if-time-gt0.true
 
 pub returns : goal.returns
 returns c =
-    let f = c in
-    let g = f in
-    let e = g in
-    let s = e in
-    let a = s.args in
-    last a.r.now a.time a.len s.requires.1.0 s.requires.1.1 e.if-len-gt8.false g.get_at.result g.get_at.ensures f.if-get_at-gt0.false c.if-time-gt0.false
+    let a = c.args in
+    last a.r.now a.time a.len c.requires.1.0 c.requires.1.1 c.if-len-gt8.false c.get_at.result c.get_at.ensures c.if-get_at-gt0.false c.if-time-gt0.false

@@ -11,33 +11,23 @@ returns-then-c-lt48 c = rw (lt-ltb c.args.c 48 c.if-c-lt48.true)
 pub returns-then-c-lt58 : goal.returns-then-c-lt58
 unfolding digit_of
 returns-then-c-lt58 c =
-    let e = c in
-    let x = e.args.c in
-    rw (le-ltb x 48 e.if-c-lt48.false, lt-ltb x 58 c.if-c-lt58.true, c.wide.ensures)
+    let x = c.args.c in
+    rw (le-ltb x 48 c.if-c-lt48.false, lt-ltb x 58 c.if-c-lt58.true, c.wide.ensures)
 
 pub returns-then-c-lt65 : goal.returns-then-c-lt65
 unfolding digit_of
 returns-then-c-lt65 c =
-    let e2 = c in
-    let e1 = e2 in
-    let x = e1.args.c in
-    rw (le-ltb x 48 e1.if-c-lt48.false, le-ltb x 58 e2.if-c-lt58.false, lt-ltb x 65 c.if-c-lt65.true)
+    let x = c.args.c in
+    rw (le-ltb x 48 c.if-c-lt48.false, le-ltb x 58 c.if-c-lt58.false, lt-ltb x 65 c.if-c-lt65.true)
 
 pub returns-then-c-lt71 : goal.returns-then-c-lt71
 unfolding digit_of
 returns-then-c-lt71 c =
-    let t4 = c in
-    let e3 = t4 in
-    let e2 = e3 in
-    let e1 = e2 in
-    let x = e1.args.c in
-    rw (le-ltb x 48 e1.if-c-lt48.false, le-ltb x 58 e2.if-c-lt58.false, le-ltb x 65 e3.if-c-lt65.false, lt-ltb x 71 t4.if-c-lt71.true, c.wide-then-c-lt71.ensures)
+    let x = c.args.c in
+    rw (le-ltb x 48 c.if-c-lt48.false, le-ltb x 58 c.if-c-lt58.false, le-ltb x 65 c.if-c-lt65.false, lt-ltb x 71 c.if-c-lt71.true, c.wide-then-c-lt71.ensures)
 
 pub returns : goal.returns
 unfolding digit_of
 returns c =
-    let e3 = c in
-    let e2 = e3 in
-    let e1 = e2 in
-    let x = e1.args.c in
-    rw (le-ltb x 48 e1.if-c-lt48.false, le-ltb x 58 e2.if-c-lt58.false, le-ltb x 65 e3.if-c-lt65.false, le-ltb x 71 c.if-c-lt71.false)
+    let x = c.args.c in
+    rw (le-ltb x 48 c.if-c-lt48.false, le-ltb x 58 c.if-c-lt58.false, le-ltb x 65 c.if-c-lt65.false, le-ltb x 71 c.if-c-lt71.false)

@@ -16,9 +16,8 @@ bounds-s-i c = omega arith
 
 pub returns-then-s-i : goal.returns-then-s-i
 returns-then-s-i c =
-    let l = c in
-    let a = l.args in
-    (omega (arith, hit a.c a.s.now l.loop-i.i (omega arith) c.if-s-i.true), omega arith)
+    let a = c.args in
+    (omega (arith, hit a.c a.s.now c.loop-i.i (omega arith) c.if-s-i.true), omega arith)
 
 pub overflow_add-i : goal.overflow_add-i
 overflow_add-i c = omega arith
@@ -28,15 +27,14 @@ loop-i-smaller c = omega arith
 
 pub loop-i-preserved : goal.loop-i-preserved
 loop-i-preserved c =
-    let l = c in
-    let a = l.args in (
+    let a = c.args in (
       omega arith,
       (
         omega arith,
         rw add-one (omega (
           arith,
-          l.loop-i.invariant.1.1,
-          miss a.c a.s.now l.loop-i.i (omega arith)
+          c.loop-i.invariant.1.1,
+          miss a.c a.s.now c.loop-i.i (omega arith)
               c.if-s-i.false,
         )),
       ),
@@ -44,6 +42,5 @@ loop-i-preserved c =
 
 pub returns : goal.returns
 returns c =
-    let l = c in
-    let a = l.args in
-    (omega (arith, l.loop-i.invariant.1.1, past a.c a.s.now l.loop-i.i (omega arith)), omega arith)
+    let a = c.args in
+    (omega (arith, c.loop-i.invariant.1.1, past a.c a.s.now c.loop-i.i (omega arith)), omega arith)

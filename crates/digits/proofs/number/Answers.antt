@@ -34,32 +34,26 @@ bounds-s-i c = omega arith
 
 pub returns-then-base-d : goal.returns-then-base-d
 returns-then-base-d c =
-    let d = c in
-    let l = d in
-    let a = l.args in
-    sym (ap as_number (sym l.loop-i.invariant.1.1 ∙ off a.s.now a.base l.loop-i.v l.loop-i.i d.digit-d.result (omega arith)
-    d.digit-d.ensures c.if-base-d.true))
+    let a = c.args in
+    sym (ap as_number (sym c.loop-i.invariant.1.1 ∙ off a.s.now a.base c.loop-i.v c.loop-i.i c.digit-d.result (omega arith)
+    c.digit-d.ensures c.if-base-d.true))
 
 pub overflow_mul-v : goal.overflow_mul-v
 overflow_mul-v c =
-    let d = c in
-    let l = d in
-    let a = l.args in
+    let a = c.args in
     omega (
       arith,
-      grows l.loop-i.v l.loop-i.i a.base d.digit-d.result l.loop-i.invariant.1.0 (omega (arith, l.requires))
-          l.requires.1 c.if-base-d.false,
+      grows c.loop-i.v c.loop-i.i a.base c.digit-d.result c.loop-i.invariant.1.0 (omega (arith, c.requires))
+          c.requires.1 c.if-base-d.false,
     )
 
 pub overflow_add-v : goal.overflow_add-v
 overflow_add-v c =
-    let d = c in
-    let l = d in
-    let a = l.args in
+    let a = c.args in
     omega (
       arith,
-      grows l.loop-i.v l.loop-i.i a.base d.digit-d.result l.loop-i.invariant.1.0 (omega (arith, l.requires))
-          l.requires.1 c.if-base-d.false,
+      grows c.loop-i.v c.loop-i.i a.base c.digit-d.result c.loop-i.invariant.1.0 (omega (arith, c.requires))
+          c.requires.1 c.if-base-d.false,
     )
 
 pub overflow_add-i : goal.overflow_add-i
@@ -70,16 +64,13 @@ loop-i-smaller c = omega arith
 
 pub loop-i-preserved : goal.loop-i-preserved
 loop-i-preserved c =
-    let d = c in
-    let l = d in
-    let a = l.args in
-    let g = grows l.loop-i.v l.loop-i.i a.base d.digit-d.result l.loop-i.invariant.1.0 (omega (arith, l.requires))
-    l.requires.1 c.if-base-d.false in
-    let o = on a.s.now a.base l.loop-i.v l.loop-i.i d.digit-d.result (omega arith) d.digit-d.ensures c.if-base-d.false in
-    (omega arith, rw add-one (g.0, sym o ∙ l.loop-i.invariant.1.1))
+    let a = c.args in
+    let g = grows c.loop-i.v c.loop-i.i a.base c.digit-d.result c.loop-i.invariant.1.0 (omega (arith, c.requires))
+    c.requires.1 c.if-base-d.false in
+    let o = on a.s.now a.base c.loop-i.v c.loop-i.i c.digit-d.result (omega arith) c.digit-d.ensures c.if-base-d.false in
+    (omega arith, rw add-one (g.0, sym o ∙ c.loop-i.invariant.1.1))
 
 pub returns : goal.returns
 returns c =
-    let l = c in
-    let a = l.args in
-    ap as_number (sym (done a.s.now a.base l.loop-i.v l.loop-i.i (omega arith)) ∙ l.loop-i.invariant.1.1)
+    let a = c.args in
+    ap as_number (sym (done a.s.now a.base c.loop-i.v c.loop-i.i (omega arith)) ∙ c.loop-i.invariant.1.1)

@@ -31,14 +31,12 @@ loop-i-smaller c = omega arith
 
 pub loop-i-preserved : goal.loop-i-preserved
 loop-i-preserved c =
-    let t = c in
-    let l = t in
-    let a = l.args in (
+    let a = c.args in (
       omega arith,
       (
-        simp length-set l.loop-i.invariant.1.0,
-        digit-turn 16 l.loop-i.out a.at l.loop-i.i l.loop-i.x _ t.loop-i-test.true (omega arith)
-            c.hex_digit.ensures ∙ l.loop-i.invariant.1.1,
+        simp length-set c.loop-i.invariant.1.0,
+        digit-turn 16 c.loop-i.out a.at c.loop-i.i c.loop-i.x _ c.loop-i-test.true (omega arith)
+            c.hex_digit.ensures ∙ c.loop-i.invariant.1.1,
       ),
     )
 
@@ -47,6 +45,5 @@ shape_of-out c = c.loop-i.invariant.1.0
 
 pub returns : goal.returns
 returns c =
-    let l = c in
-    let a = l.args in
-    digits-done 16 l.loop-i.out _ a.at l.loop-i.i l.loop-i.x (omega arith) l.loop-i.invariant.1.1
+    let a = c.args in
+    digits-done 16 c.loop-i.out _ a.at c.loop-i.i c.loop-i.x (omega arith) c.loop-i.invariant.1.1

@@ -75,17 +75,13 @@ loop-i-smaller c = omega arith
 
 pub loop-i-preserved : goal.loop-i-preserved
 loop-i-preserved c =
-    let h = c in
-    let k = h in
-    let l = k in
-    let s = l in
-    let a = s.args in (
+    let a = c.args in (
       omega arith,
       (
-        simp length-set l.loop-i.invariant.1.0,
-        rw (add-one l.loop-i.i) (turn a.out.now l.loop-i.out a.s.now a.at l.loop-i.i h.hex_digit.result
-            c.hex_digit-in-loop-i.result (omega arith) s.requires l.loop-i.invariant.1.0
-            (omega (arith, k.shared_slice_known-in-loop-i-1.given l.loop-i.i)) h.hex_digit.ensures c.hex_digit-in-loop-i.ensures l.loop-i.invariant.1.1),
+        simp length-set c.loop-i.invariant.1.0,
+        rw (add-one c.loop-i.i) (turn a.out.now c.loop-i.out a.s.now a.at c.loop-i.i c.hex_digit.result
+            c.hex_digit-in-loop-i.result (omega arith) c.requires c.loop-i.invariant.1.0
+            (omega (arith, c.shared_slice_known-in-loop-i-1.given c.loop-i.i)) c.hex_digit.ensures c.hex_digit-in-loop-i.ensures c.loop-i.invariant.1.1),
       ),
     )
 
@@ -100,10 +96,9 @@ shape_of-out c = c.loop-i.invariant.1.0
 
 pub returns : goal.returns
 returns c =
-    let l = c in
-    let a = l.args in
-    let e : l.loop-i.i ≡ length a.s.now = omega arith in
+    let a = c.args in
+    let e : c.loop-i.i ≡ length a.s.now = omega arith in
     record {
-      out = l.loop-i.invariant.1.1 ∙ ap (λ (z : List ℕ). splice a.out.now a.at (hexes z)) (take_all l.loop-i.i a.s.now (omega arith));
+      out = c.loop-i.invariant.1.1 ∙ ap (λ (z : List ℕ). splice a.out.now a.at (hexes z)) (take_all c.loop-i.i a.s.now (omega arith));
       end = omega (arith, length-hexes a.s.now, e);
     }

@@ -34,8 +34,7 @@ bounds-vs-i c = omega arith
 
 pub word-p-requires : goal.word-p-requires
 word-p-requires c =
-    let l = c in
-    omega (arith, l.requires, l.loop-i.invariant)
+    omega (arith, c.requires, c.loop-i.invariant)
 
 pub overflow_add-i : goal.overflow_add-i
 overflow_add-i c = omega arith
@@ -45,20 +44,17 @@ loop-i-smaller c = omega arith
 
 pub loop-i-preserved : goal.loop-i-preserved
 loop-i-preserved c =
-    let w = c in
-    let l = w in
-    let s = l in
-    let a = s.args in
-    let i = l.loop-i.i in
-    let v = l.loop-i.invariant.1 in (
+    let a = c.args in
+    let i = c.loop-i.i in
+    let v = c.loop-i.invariant.1 in (
       omega arith,
       (
-        omega (arith, w.word-p.auto.0, v.0),
+        omega (arith, c.word-p.auto.0, v.0),
         (
-          omega (arith, w.word-p.ensures.1, v.1.0),
-          rw (add-one i) (turn a.out.now l.loop-i.out w.word-p.new.out a.vs.now a.at i l.loop-i.p w.word-p.result
+          omega (arith, c.word-p.ensures.1, v.1.0),
+          rw (add-one i) (turn a.out.now c.loop-i.out c.word-p.new.out a.vs.now a.at i c.loop-i.p c.word-p.result
               (omega arith)
-              (omega (arith, s.requires, v.1.0)) v.1.1 w.word-p.ensures.0),
+              (omega (arith, c.requires, v.1.0)) v.1.1 c.word-p.ensures.0),
         ),
       ),
     )
@@ -68,8 +64,7 @@ shape_of-out c = c.loop-i.invariant.1.0
 
 pub returns : goal.returns
 returns c =
-    let l = c in
-    let a = l.args in
-    let v = l.loop-i.invariant.1.1 in
-    let e : take l.loop-i.i a.vs.now ≡ a.vs.now = take_all l.loop-i.i a.vs.now (omega arith) in
+    let a = c.args in
+    let v = c.loop-i.invariant.1.1 in
+    let e : take c.loop-i.i a.vs.now ≡ a.vs.now = take_all c.loop-i.i a.vs.now (omega arith) in
     (rw e at v.1, omega (arith, v.0))

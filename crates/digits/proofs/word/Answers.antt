@@ -26,26 +26,21 @@ put m m' at w v h e f =
 
 pub put_digits-requires : goal.put_digits-requires
 put_digits-requires c =
-    let n = c in
-    simp length-set (omega (arith, n.count-w.ensures.1, n.requires))
+    simp length-set (omega (arith, c.count-w.ensures.1, c.requires))
 
 pub shape_of-out : goal.shape_of-out
 shape_of-out c =
-    let d = c in
     omega (
       arith,
-      d.put_digits.auto.0,
-      length-set d.args.out.now
-          d.args.at 32,
+      c.put_digits.auto.0,
+      length-set c.args.out.now
+          c.args.at 32,
     )
 
 pub returns : goal.returns
 returns c =
-    let d = c in
-    let n = d in
-    let s = n in
-    let a = s.args in (
-      put a.out.now d.put_digits.new.out a.at n.count-w.result a.v s.requires n.count-w.ensures.0 d.put_digits.ensures,
+    let a = c.args in (
+      put a.out.now c.put_digits.new.out a.at c.count-w.result a.v c.requires c.count-w.ensures.0 c.put_digits.ensures,
       omega
-          (arith, n.count-w.ensures.1),
+          (arith, c.count-w.ensures.1),
     )

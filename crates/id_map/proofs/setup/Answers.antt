@@ -24,6 +24,4 @@ returns-then-map-lt-SIZE c = refused c.args.map.now c.if-map-lt-SIZE.true
 
 pub returns : goal.returns
 returns c =
-    let p = c in
-    let e = p in
-    cleared e.args.map.now p.copy_at.new.dst e.if-map-lt-SIZE.false p.copy_at.ensures
+    cleared c.args.map.now c.copy_at.new.dst c.if-map-lt-SIZE.false c.copy_at.ensures

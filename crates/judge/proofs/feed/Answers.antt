@@ -4,15 +4,10 @@ use Rattle.judge.proofs.feed.Goals as goal
 
 pub overflow_mul-k : goal.overflow_mul-k
 overflow_mul-k c =
-    let n = c in
-    let w = n in
-    let s = w in
-    let h = (rw n.in-Off.is at w.feed.ensures).before.0 in
-    record { fits = omega (arith, s.well-formed.1.1.0.0) }
+    let h = (rw c.in-Off.is at c.feed.ensures).before.0 in
+    record { fits = omega (arith, c.well-formed.1.1.0.0) }
 
 pub copy_span-requires : goal.copy_span-requires
 copy_span-requires c =
-    let n = c in
-    let w = n in
-    let h = (rw n.in-Off.is at w.feed.ensures).before.0 in
+    let h = (rw c.in-Off.is at c.feed.ensures).before.0 in
     search rules

@@ -22,31 +22,26 @@ long = length-replicate {A = ℕ} size 0
 
 pub returns-in-Done : goal.returns-in-Done
 returns-in-Done c =
-    let d = c in
-    let w = d in
-    let k = w in
-    let a = k.args in
+    let a = c.args in
     let s = a.subscriptions.now in
-    let o : Octets s = octets-all s (λ i. omega (arith, k.shared_slice_known-1.given i)) in
-    let t = w.setup in (
+    let o : Octets s = octets-all s (λ i. omega (arith, c.shared_slice_known-1.given i)) in
+    let t = c.setup in (
       c.of_capture.ensures.0
-          ∙ ap (λ (u : Setup). captured u a.capture.now) (subscribes before s t.new.0 t.result long t.ensures d.in-Done.is o)
-          ∙ judged s a.capture.now (taken before s t.new.0 t.result long t.ensures d.in-Done.is).0,
+          ∙ ap (λ (u : Setup). captured u a.capture.now) (subscribes before s t.new.0 t.result long t.ensures c.in-Done.is o)
+          ∙ judged s a.capture.now (taken before s t.new.0 t.result long t.ensures c.in-Done.is).0,
       c.of_capture.ensures.1,
     )
 
 pub returns-in-Unacceptable : goal.returns-in-Unacceptable
 returns-in-Unacceptable c =
-    let w = c in
-    let a = w.args in
-    let t = w.setup in
+    let a = c.args in
+    let t = c.setup in
     let e = c.in-Unacceptable.is in
     (not-acceptable a.subscriptions.now a.capture.now (refused before a.subscriptions.now t.new.0 t.result long t.ensures (λ d. let z : ◌≡◌ {A = ℕ} 0 1 = cc in omega arith)), omega arith)
 
 pub returns-in-Short : goal.returns-in-Short
 returns-in-Short c =
-    let w = c in
-    let a = w.args in
-    let t = w.setup in
+    let a = c.args in
+    let t = c.setup in
     let e = c.in-Short.is in
     (not-acceptable a.subscriptions.now a.capture.now (refused before a.subscriptions.now t.new.0 t.result long t.ensures (λ d. let z : ◌≡◌ {A = ℕ} 0 1 = cc in omega arith)), omega arith)

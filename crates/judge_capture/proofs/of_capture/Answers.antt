@@ -19,9 +19,8 @@ there e =
 
 pub returns-then-not-t : goal.returns-then-not-t
 returns-then-not-t c =
-    let f = c in
-    let a = f.args in
-    (no_capture (setup_of a.state.now) a.capture.now f.find-t.result f.find-t.ensures (not-true f.find-t.result.ok c.if-not-t.true), omega arith)
+    let a = c.args in
+    (no_capture (setup_of a.state.now) a.capture.now c.find-t.result c.find-t.ensures (not-true c.find-t.result.ok c.if-not-t.true), omega arith)
 
 pub overflow_sub-to : goal.overflow_sub-to
 overflow_sub-to c = omega (arith, (there c).end)
@@ -34,16 +33,10 @@ slice_bounds-feed-start c = omega (arith, (there c).end)
 
 pub returns-in-On : goal.returns-in-On
 returns-in-On c =
-    let w = c in
-    let e = w in
-    let f = e in
-    let a = f.args in
-    (passed (setup_of a.state.now) a.capture.now f.find-t.result (octets f) (there e) w.feed.new.1.0 (rw c.in-On.is at w.feed.ensures), omega arith)
+    let a = c.args in
+    (passed (setup_of a.state.now) a.capture.now c.find-t.result (octets c) (there c) c.feed.new.1.0 (rw c.in-On.is at c.feed.ensures), omega arith)
 
 pub returns-in-Off : goal.returns-in-Off
 returns-in-Off c =
-    let w = c in
-    let e = w in
-    let f = e in
-    let a = f.args in
-    failed (setup_of a.state.now) a.capture.now f.find-t.result (octets f) (there e) _ _ w.feed.new.1.0 (rw c.in-Off.is at w.feed.ensures)
+    let a = c.args in
+    failed (setup_of a.state.now) a.capture.now c.find-t.result (octets c) (there c) _ _ c.feed.new.1.0 (rw c.in-Off.is at c.feed.ensures)

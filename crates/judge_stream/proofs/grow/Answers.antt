@@ -8,28 +8,22 @@ returns-then-count-gt-GATHERED c = let a = c.args in too_long a.k a.count a.regi
 
 pub returns-then-count : goal.returns-then-count
 returns-then-count c =
-    let i2 = c in
-    let a = i2.args in
-    too_short a.k a.count a.register a.last i2.if-count-gt-GATHERED.false i2.if-last.true c.if-k-register.true
+    let a = c.args in
+    too_short a.k a.count a.register a.last c.if-count-gt-GATHERED.false c.if-last.true c.if-k-register.true
     c.if-count.true
 
 pub returns-then-k-register : goal.returns-then-k-register
 returns-then-k-register c =
-    let i3 = c in
-    let i2 = i3 in
-    let a = i2.args in
+    let a = c.args in
     rw c.rest.ensures
-    (ended a.k a.count a.register a.last i2.if-count-gt-GATHERED.false i2.if-last.true i3.if-k-register.true c.if-count.false i2.requires.0)
+    (ended a.k a.count a.register a.last c.if-count-gt-GATHERED.false c.if-last.true c.if-k-register.true c.if-count.false c.requires.0)
 
 pub returns-then-last : goal.returns-then-last
 returns-then-last c =
-    let i2 = c in
-    let a = i2.args in
-    differs a.k a.count a.register a.last i2.if-count-gt-GATHERED.false i2.if-last.true c.if-k-register.false
+    let a = c.args in
+    differs a.k a.count a.register a.last c.if-count-gt-GATHERED.false c.if-last.true c.if-k-register.false
 
 pub returns : goal.returns
 returns c =
-    let i2 = c in
-    let s = i2 in
-    let a = s.args in
-    goes-on a.k a.count a.register a.last i2.if-count-gt-GATHERED.false i2.if-last.false s.requires.0 s.requires.1
+    let a = c.args in
+    goes-on a.k a.count a.register a.last c.if-count-gt-GATHERED.false c.if-last.false c.requires.0 c.requires.1

@@ -12,11 +12,8 @@ returns-then-v-k c = rw (ne_eqb _ _ c.if-v-eq2.false, eq-eqb _ _ c.if-v-k.true)
 
 pub returns-then-v-eq0 : goal.returns-then-v-eq0
 returns-then-v-eq0 c =
-    let i3 = c in
-    let i2 = i3 in
-    rw (ne_eqb _ _ i2.if-v-eq2.false, ne_eqb _ _ i2.if-v-k.false, eq-eqb _ _ i3.if-v-eq0.true) c.is_gap.ensures
+    rw (ne_eqb _ _ c.if-v-eq2.false, ne_eqb _ _ c.if-v-k.false, eq-eqb _ _ c.if-v-eq0.true) c.is_gap.ensures
 
 pub returns : goal.returns
 returns c =
-    let i2 = c in
-    rw (ne_eqb _ _ i2.if-v-eq2.false, ne_eqb _ _ i2.if-v-k.false, ne_eqb _ _ c.if-v-eq0.false)
+    rw (ne_eqb _ _ c.if-v-eq2.false, ne_eqb _ _ c.if-v-k.false, ne_eqb _ _ c.if-v-eq0.false)

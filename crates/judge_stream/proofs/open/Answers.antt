@@ -11,9 +11,8 @@ seven c = c.requires.full c.if-v.false
 
 pub returns-then-v : goal.returns-then-v
 returns-then-v c =
-    let s = c in
-    let a = s.args in
-    rw c.rest.ensures (whole a.signature a.v a.p.now c.if-v.true s.requires.transfer)
+    let a = c.args in
+    rw c.rest.ensures (whole a.signature a.v a.p.now c.if-v.true c.requires.transfer)
 
 pub bounds-p-0 : goal.bounds-p-0
 bounds-p-0 c = omega (arith, seven c)
@@ -41,6 +40,5 @@ slice_bounds-transfer-start c = omega (arith, seven c)
 
 pub returns : goal.returns
 returns c =
-    let i1 = c in
-    let a = i1.args in
-    opens a.signature a.v a.p.now (seven i1) i1.if-v.false i1.requires.transfer c.transfer.result c.transfer.ensures
+    let a = c.args in
+    opens a.signature a.v a.p.now (seven c) c.if-v.false c.requires.transfer c.transfer.result c.transfer.ensures

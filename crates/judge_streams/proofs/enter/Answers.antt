@@ -12,40 +12,25 @@ follow-s-requires c =
 
 pub put-requires : goal.put-requires
 put-requires c =
-    let w = c in
-    let i1 = w in
-    let s = i1 in
-    (s.requires.0.long, (omega arith, ranged s.args.signature _ s.args.v s.args.p.now w.follow-s.result w.follow-s.ensures))
+    (c.requires.0.long, (omega arith, ranged c.args.signature _ c.args.v c.args.p.now c.follow-s.result c.follow-s.ensures))
 
 pub returns-then-j-n : goal.returns-then-j-n
 returns-then-j-n c =
-    let w = c in
-    let l = w in
-    let i1 = l in
-    let s = i1 in
-    let a = s.args in
-    known a.signature a.table.now a.v a.p.now s.requires.0 s.requires.1 i1.find-j.result i1.find-j.ensures i1.if-j-n.true
-    w.follow-s.result (rw l.load.ensures at w.follow-s.ensures) c.put.result c.put.new.table c.put.ensures
+    let a = c.args in
+    known a.signature a.table.now a.v a.p.now c.requires.0 c.requires.1 c.find-j.result c.find-j.ensures c.if-j-n.true
+    c.follow-s.result (rw c.load.ensures at c.follow-s.ensures) c.put.result c.put.new.table c.put.ensures
 
 pub returns-then-n-ge-STREAMS : goal.returns-then-n-ge-STREAMS
 returns-then-n-ge-STREAMS c =
-    let f = c in
-    let s = f in
-    let a = s.args in
-    full a.signature a.table.now a.v a.p.now s.requires.0 s.requires.1 f.find-j.result f.find-j.ensures c.if-j-n.false c.if-n-ge-STREAMS.true
+    let a = c.args in
+    full a.signature a.table.now a.v a.p.now c.requires.0 c.requires.1 c.find-j.result c.find-j.ensures c.if-j-n.false c.if-n-ge-STREAMS.true
 
 pub put-requires-2 : goal.put-requires-2
 put-requires-2 c =
-    let w = c in
-    let s = w in
-    (s.requires.0.long, (omega arith, ranged s.args.signature _ s.args.v s.args.p.now w.begin-s.result w.begin-s.ensures))
+    (c.requires.0.long, (omega arith, ranged c.args.signature _ c.args.v c.args.p.now c.begin-s.result c.begin-s.ensures))
 
 pub returns : goal.returns
 returns c =
-    let w = c in
-    let i1 = w in
-    let f = i1 in
-    let s = f in
-    let a = s.args in
-    new a.signature a.table.now a.v a.p.now s.requires.0 s.requires.1 f.find-j.result f.find-j.ensures i1.if-j-n.false w.if-n-ge-STREAMS.false
-    w.begin-s.result w.begin-s.ensures c.put-2.result c.put-2.new.table c.put-2.ensures
+    let a = c.args in
+    new a.signature a.table.now a.v a.p.now c.requires.0 c.requires.1 c.find-j.result c.find-j.ensures c.if-j-n.false c.if-n-ge-STREAMS.false
+    c.begin-s.result c.begin-s.ensures c.put-2.result c.put-2.new.table c.put-2.ensures

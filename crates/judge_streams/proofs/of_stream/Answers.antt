@@ -10,14 +10,12 @@ use Rattle.judge_streams.proofs.of_stream.Goals as goal
 pub returns-then-j-n : goal.returns-then-j-n
 returns-then-j-n c =
     λ named.
-    let f = c in
-    let a = f.args in
+    let a = c.args in
     ap brief_in c.load.ensures
-    ∙ sym (known-state a.table.now a.id named f.find-j.result f.find-j.ensures c.if-j-n.true (rests none))
+    ∙ sym (known-state a.table.now a.id named c.find-j.result c.find-j.ensures c.if-j-n.true (rests none))
 
 pub returns : goal.returns
 returns c =
     λ named.
-    let f = c in
-    let a = f.args in
-    sym (new-state a.table.now a.id named f.find-j.result f.find-j.ensures c.if-j-n.false (rests none))
+    let a = c.args in
+    sym (new-state a.table.now a.id named c.find-j.result c.find-j.ensures c.if-j-n.false (rests none))

@@ -5,6 +5,5 @@ use Rattle.judge_streams.proofs.store.Goals as goal
 
 pub returns : goal.returns
 returns c =
-    let s = c in
-    let a = s.args in
-    stored a.table.now a.j a.n a.k c.progress.result s.requires.0 s.requires.1.0 c.progress.ensures
+    let a = c.args in
+    stored a.table.now a.j a.n a.k c.progress.result c.requires.0 c.requires.1.0 c.progress.ensures

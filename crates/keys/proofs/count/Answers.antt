@@ -35,9 +35,8 @@ overflow_cast-hits c = tt
 
 pub overflow_add-hits : goal.overflow_add-hits
 overflow_add-hits c =
-    let l = c in
-    let a = l.args in
-    omega (arith, byte_le (eqb (get_or a.table.now l.loop-j.j 0) a.k))
+    let a = c.args in
+    omega (arith, byte_le (eqb (get_or a.table.now c.loop-j.j 0) a.k))
 
 pub overflow_add-j : goal.overflow_add-j
 overflow_add-j c = omega arith
@@ -47,13 +46,11 @@ loop-j-smaller c = omega arith
 
 pub loop-j-preserved : goal.loop-j-preserved
 loop-j-preserved c =
-    let l = c in
-    let a = l.args in
-    let b = byte_le (eqb (get_or a.table.now l.loop-j.j 0) a.k) in
-    (omega arith, (omega arith, rw add-one (turn a.k l.loop-j.hits l.loop-j.j a.table.now (omega arith) ∙ l.loop-j.invariant.1.1)))
+    let a = c.args in
+    let b = byte_le (eqb (get_or a.table.now c.loop-j.j 0) a.k) in
+    (omega arith, (omega arith, rw add-one (turn a.k c.loop-j.hits c.loop-j.j a.table.now (omega arith) ∙ c.loop-j.invariant.1.1)))
 
 pub returns : goal.returns
 returns c =
-    let l = c in
-    let a = l.args in
-    done a.k l.loop-j.hits l.loop-j.j a.table.now (omega arith) ∙ l.loop-j.invariant.1.1
+    let a = c.args in
+    done a.k c.loop-j.hits c.loop-j.j a.table.now (omega arith) ∙ c.loop-j.invariant.1.1

@@ -27,11 +27,9 @@ get_u32-requires c = omega arith
 
 pub returns-then-get_u32-k : goal.returns-then-get_u32-k
 returns-then-get_u32-k c =
-    let g = c in
-    let l = g in
-    let a = l.args in
+    let a = c.args in
     let f = has a.s.now a.at a.k in
-    sym (hit f l.loop-i.i a.n (omega arith) (eq-eqb (word_at a.s.now a.at l.loop-i.i) a.k (sym g.get_u32.ensures ∙ c.if-get_u32-k.true))) ∙ l.loop-i.invariant.1
+    sym (hit f c.loop-i.i a.n (omega arith) (eq-eqb (word_at a.s.now a.at c.loop-i.i) a.k (sym c.get_u32.ensures ∙ c.if-get_u32-k.true))) ∙ c.loop-i.invariant.1
 
 pub overflow_add-i : goal.overflow_add-i
 overflow_add-i c = omega arith
@@ -41,16 +39,13 @@ loop-i-smaller c = omega arith
 
 pub loop-i-preserved : goal.loop-i-preserved
 loop-i-preserved c =
-    let g = c in
-    let l = g in
-    let a = l.args in
+    let a = c.args in
     let f = has a.s.now a.at a.k in (
       omega arith,
-      rw add-one (sym (miss f l.loop-i.i a.n (omega arith) (ne_eqb (word_at a.s.now a.at l.loop-i.i) a.k (λ e. c.if-get_u32-k.false (g.get_u32.ensures ∙ e)))) ∙ l.loop-i.invariant.1),
+      rw add-one (sym (miss f c.loop-i.i a.n (omega arith) (ne_eqb (word_at a.s.now a.at c.loop-i.i) a.k (λ e. c.if-get_u32-k.false (c.get_u32.ensures ∙ e)))) ∙ c.loop-i.invariant.1),
     )
 
 pub returns : goal.returns
 returns c =
-    let l = c in
-    let a = l.args in
-    sym (none (has a.s.now a.at a.k) l.loop-i.i a.n (omega arith)) ∙ l.loop-i.invariant.1
+    let a = c.args in
+    sym (none (has a.s.now a.at a.k) c.loop-i.i a.n (omega arith)) ∙ c.loop-i.invariant.1

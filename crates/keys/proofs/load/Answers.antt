@@ -42,11 +42,10 @@ loop-i-smaller c = omega arith
 
 pub loop-i-preserved : goal.loop-i-preserved
 loop-i-preserved c =
-    let l = c in
-    let a = l.args in
-    let v = l.loop-i.invariant.1 in (
+    let a = c.args in
+    let v = c.loop-i.invariant.1 in (
       simp length-set (omega arith),
-      (simp length-set v.0, rw add-one (turn (word_at a.s.now a.at) l.loop-i.table l.loop-i.i c.get_u32.result (omega arith) v.1 c.get_u32.ensures)),
+      (simp length-set v.0, rw add-one (turn (word_at a.s.now a.at) c.loop-i.table c.loop-i.i c.get_u32.result (omega arith) v.1 c.get_u32.ensures)),
     )
 
 pub shape_of-table : goal.shape_of-table
@@ -54,7 +53,6 @@ shape_of-table c = omega arith
 
 pub returns : goal.returns
 returns c =
-    let l = c in
-    let a = l.args in
-    let e : l.loop-i.i ≡ length a.table.now = omega arith in
-    sym (take_all l.loop-i.i l.loop-i.table (omega arith)) ∙ l.loop-i.invariant.1.1 ∙ ap (tabulate (word_at a.s.now a.at) 0) e
+    let a = c.args in
+    let e : c.loop-i.i ≡ length a.table.now = omega arith in
+    sym (take_all c.loop-i.i c.loop-i.table (omega arith)) ∙ c.loop-i.invariant.1.1 ∙ ap (tabulate (word_at a.s.now a.at) 0) e

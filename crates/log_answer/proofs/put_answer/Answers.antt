@@ -46,46 +46,30 @@ whole t pay m m' at r l h = rw (take_all t.len pay l) h
 
 pub returns-then-len-payload : goal.returns-then-len-payload
 returns-then-len-payload c =
-    let w = c in
-    let i = w in
-    let t = i in
-    let n = t in
-    let g = n.args in
-    let p = w.put_transfer in
-    handed g.a g.payload.now g.out.now p.new.0 g.at p.result n.number-n.result n.number-n.ensures.0
-    t.transfer-t.result t.transfer-t.ensures t.if-n-eq1.true
-    (front t.transfer-t.result g.payload.now g.out.now p.new.0 g.at p.result i.if-len-payload.true p.ensures)
+    let g = c.args in
+    let p = c.put_transfer in
+    handed g.a g.payload.now g.out.now p.new.0 g.at p.result c.number-n.result c.number-n.ensures.0
+    c.transfer-t.result c.transfer-t.ensures c.if-n-eq1.true
+    (front c.transfer-t.result g.payload.now g.out.now p.new.0 g.at p.result c.if-len-payload.true p.ensures)
 
 pub returns-then-n-eq1 : goal.returns-then-n-eq1
 returns-then-n-eq1 c =
-    let w = c in
-    let i = w in
-    let t = i in
-    let n = t in
-    let g = n.args in
-    let p = w.put_transfer-then-n-eq1 in
-    handed g.a g.payload.now g.out.now p.new.0 g.at p.result n.number-n.result n.number-n.ensures.0
-    t.transfer-t.result t.transfer-t.ensures t.if-n-eq1.true
-    (whole t.transfer-t.result g.payload.now g.out.now p.new.0 g.at p.result i.if-len-payload.false p.ensures)
+    let g = c.args in
+    let p = c.put_transfer-then-n-eq1 in
+    handed g.a g.payload.now g.out.now p.new.0 g.at p.result c.number-n.result c.number-n.ensures.0
+    c.transfer-t.result c.transfer-t.ensures c.if-n-eq1.true
+    (whole c.transfer-t.result g.payload.now g.out.now p.new.0 g.at p.result c.if-len-payload.false p.ensures)
 
 pub returns-then-n-eq0 : goal.returns-then-n-eq0
 returns-then-n-eq0 c =
-    let w = c in
-    let z = w in
-    let e = z in
-    let n = e in
-    let g = n.args in
-    let p = w.numbered in
-    plain g.a g.payload.now g.out.now p.new.0 g.at p.result n.number-n.result n.number-n.ensures.0 43 e.if-n-eq1.false
-    (rw (eq-eqb n.number-n.result 0 z.if-n-eq0.true)) p.ensures
+    let g = c.args in
+    let p = c.numbered in
+    plain g.a g.payload.now g.out.now p.new.0 g.at p.result c.number-n.result c.number-n.ensures.0 43 c.if-n-eq1.false
+    (rw (eq-eqb c.number-n.result 0 c.if-n-eq0.true)) p.ensures
 
 pub returns : goal.returns
 returns c =
-    let w = c in
-    let z = w in
-    let e = z in
-    let n = e in
-    let g = n.args in
-    let p = w.numbered-2 in
-    plain g.a g.payload.now g.out.now p.new.0 g.at p.result n.number-n.result n.number-n.ensures.0 45 e.if-n-eq1.false
-    (rw (ne_eqb n.number-n.result 0 z.if-n-eq0.false)) p.ensures
+    let g = c.args in
+    let p = c.numbered-2 in
+    plain g.a g.payload.now g.out.now p.new.0 g.at p.result c.number-n.result c.number-n.ensures.0 45 c.if-n-eq1.false
+    (rw (ne_eqb c.number-n.result 0 c.if-n-eq0.false)) p.ensures

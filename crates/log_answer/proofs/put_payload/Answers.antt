@@ -20,17 +20,11 @@ filled (b ∷ bs) e = refl
 
 pub returns-then-payload-eq0 : goal.returns-then-payload-eq0
 returns-then-payload-eq0 c =
-    let r-put = c in
-    let r-if1 = r-put in
-    let s = r-if1 in
-    let e = empty s.args.payload.now r-if1.if-payload-eq0.true in
-    (rw e r-put.put.ensures, omega (arith, r-put.put.ensures.end))
+    let e = empty c.args.payload.now c.if-payload-eq0.true in
+    (rw e c.put.ensures, omega (arith, c.put.ensures.end))
 
 pub returns : goal.returns
 returns c =
-    let r-put-hexes = c in
-    let r-if1 = r-put-hexes in
-    let s = r-if1 in
-    let p = s.args.payload.now in
-    let e = filled p r-if1.if-payload-eq0.false in
-    (rw e r-put-hexes.put_hexes.ensures, omega (arith, r-put-hexes.put_hexes.ensures.end, length-hexes p))
+    let p = c.args.payload.now in
+    let e = filled p c.if-payload-eq0.false in
+    (rw e c.put_hexes.ensures, omega (arith, c.put_hexes.ensures.end, length-hexes p))

@@ -34,48 +34,34 @@ joined t pay m m₁ m₂ m₃ m₄ m₅ m₆ n at a b c d e f l room k k₁ k₂
 
 pub put-requires : goal.put-requires
 put-requires c =
-    let r-put-payload = c in
-    let r-put3 = r-put-payload in
-    let r-put-words = r-put3 in
-    let r-put2 = r-put-words in
-    let r-put = r-put2 in
-    let s = r-put in
     omega (
       arith,
-      s.requires,
-      r-put.put-a.auto.0,
-      r-put2.put-b.auto.0,
-      r-put-words.put_words-c.auto.0,
-      r-put3.put-d.auto.0,
-      r-put-payload.put_payload-e.auto.0,
-      r-put.put-a.ensures.end,
-      r-put2.put-b.ensures.end,
-      r-put-words.put_words-c.ensures.1,
-      r-put3.put-d.ensures.end,
-      r-put-payload.put_payload-e.ensures.1,
+      c.requires,
+      c.put-a.auto.0,
+      c.put-b.auto.0,
+      c.put_words-c.auto.0,
+      c.put-d.auto.0,
+      c.put_payload-e.auto.0,
+      c.put-a.ensures.end,
+      c.put-b.ensures.end,
+      c.put_words-c.ensures.1,
+      c.put-d.ensures.end,
+      c.put_payload-e.ensures.1,
     )
 
 pub returns : goal.returns
 returns c =
-    let r-put4 = c in
-    let r-put-payload = r-put4 in
-    let r-put3 = r-put-payload in
-    let r-put-words = r-put3 in
-    let r-put2 = r-put-words in
-    let r-letter = r-put2 in
-    let r-put = r-letter in
-    let s = r-put in
-    let a = s.args in
+    let a = c.args in
     let m = a.out.now in
-    let w = r-put-words.put_words-c in
-    let y = r-put-payload.put_payload-e in
+    let w = c.put_words-c in
+    let y = c.put_payload-e in
     let n = length m in
-    let k₁ : length r-put.put-a.new.out ≡ n = r-put.put-a.auto.0 in
-    let k₂ : length r-put2.put-b.new.out ≡ n = r-put2.put-b.auto.0 ∙ k₁ in
+    let k₁ : length c.put-a.new.out ≡ n = c.put-a.auto.0 in
+    let k₂ : length c.put-b.new.out ≡ n = c.put-b.auto.0 ∙ k₁ in
     let k₃ : length w.new.0 ≡ n = w.auto.0 ∙ k₂ in
-    let k₄ : length r-put3.put-d.new.out ≡ n = r-put3.put-d.auto.0 ∙ k₃ in
+    let k₄ : length c.put-d.new.out ≡ n = c.put-d.auto.0 ∙ k₃ in
     let k₅ : length y.new.0 ≡ n = y.auto.0 ∙ k₄ in
-    joined a.t a.payload.now m r-put.put-a.new.out r-put2.put-b.new.out w.new.0 r-put3.put-d.new.out y.new.0
-    r-put4.put.new.out n a.at r-put.put-a.result r-put2.put-b.result w.result r-put3.put-d.result y.result
-    r-put4.put.result r-letter.letter.result s.requires refl k₁ k₂ k₃ k₄ k₅ r-letter.letter.ensures r-put.put-a.ensures
-    r-put2.put-b.ensures w.ensures.0 w.ensures.1 r-put3.put-d.ensures y.ensures.0 y.ensures.1 r-put4.put.ensures
+    joined a.t a.payload.now m c.put-a.new.out c.put-b.new.out w.new.0 c.put-d.new.out y.new.0
+    c.put.new.out n a.at c.put-a.result c.put-b.result w.result c.put-d.result y.result
+    c.put.result c.letter.result c.requires refl k₁ k₂ k₃ k₄ k₅ c.letter.ensures c.put-a.ensures
+    c.put-b.ensures w.ensures.0 w.ensures.1 c.put-d.ensures y.ensures.0 y.ensures.1 c.put.ensures

@@ -36,14 +36,11 @@ fed m c b n k r m' out' b' h g kept e =
 
 pub returns : goal.returns
 returns c =
-    let k = c in
-    let l = k in
-    let s = l in
-    let a = s.args in
-    let g = l.lines-l.ensures in
-    let h : Lined a.state.now a.counts (take a.n a.block.now) (length a.out.now) l.lines-l.result l.lines-l.new.state l.lines-l.new.out.1.0 =
+    let a = c.args in
+    let g = c.lines-l.ensures in
+    let h : Lined a.state.now a.counts (take a.n a.block.now) (length a.out.now) c.lines-l.result c.lines-l.new.state c.lines-l.new.out.1.0 =
     rw (sub-zero a.n) at g in (
-      fed a.state.now a.counts a.block.now a.n (length a.out.now) l.lines-l.result l.lines-l.new.state l.lines-l.new.out.1.0
-          k.keep.new.block s.requires.1.0 h k.keep.result k.keep.ensures.0,
-      (h.sound, (k.keep.ensures.1, h.room)),
+      fed a.state.now a.counts a.block.now a.n (length a.out.now) c.lines-l.result c.lines-l.new.state c.lines-l.new.out.1.0
+          c.keep.new.block c.requires.1.0 h c.keep.result c.keep.ensures.0,
+      (h.sound, (c.keep.ensures.1, h.room)),
     )

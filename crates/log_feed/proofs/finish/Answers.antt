@@ -50,25 +50,18 @@ module _ (m kept out m' out₁ out₂ : List ℕ) (c : Counts) (s : Said) (r : �
 
 pub returns-then-kept-eq0 : goal.returns-then-kept-eq0
 returns-then-kept-eq0 c =
-    let r = c in
-    let t = r in
-    let s = t in
-    let a = s.args in (
-      front a.out.now r.end.new.out r.end.result (end_text a.counts) r.end.ensures.0 (omega (arith, r.end.ensures.1, s.requires.1))
-          ∙ only a.state.now a.counts a.kept.now t.if-kept-eq0.true,
-      omega (arith, r.end.ensures.1, s.requires.1),
+    let a = c.args in (
+      front a.out.now c.end.new.out c.end.result (end_text a.counts) c.end.ensures.0 (omega (arith, c.end.ensures.1, c.requires.1))
+          ∙ only a.state.now a.counts a.kept.now c.if-kept-eq0.true,
+      omega (arith, c.end.ensures.1, c.requires.1),
     )
 
 pub returns : goal.returns
 returns c =
-    let r = c in
-    let l = r in
-    let t = l in
-    let s = t in
-    let a = s.args in
-    let k = l.line-s.ensures.1.1 in
-    let n = r.end-2.ensures.1 in (
-      closed a.state.now a.kept.now a.out.now l.line-s.new.state l.line-s.new.out.1.1.0 r.end-2.new.out a.counts l.line-s.result
-          r.end-2.result l.line-s.ensures.0 r.end-2.ensures.0 (omega (arith, k, s.requires.1)) (omega (arith, k, n, s.requires.1)) t.if-kept-eq0.false,
-      omega (arith, k, n, s.requires.1),
+    let a = c.args in
+    let k = c.line-s.ensures.1.1 in
+    let n = c.end-2.ensures.1 in (
+      closed a.state.now a.kept.now a.out.now c.line-s.new.state c.line-s.new.out.1.1.0 c.end-2.new.out a.counts c.line-s.result
+          c.end-2.result c.line-s.ensures.0 c.end-2.ensures.0 (omega (arith, k, c.requires.1)) (omega (arith, k, n, c.requires.1)) c.if-kept-eq0.false,
+      omega (arith, k, n, c.requires.1),
     )

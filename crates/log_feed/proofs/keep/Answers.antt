@@ -11,21 +11,17 @@ use Rattle.log_feed.proofs.keep.Goals as goal
 
 pub returns-then-to-from-lt48 : goal.returns-then-to-from-lt48
 returns-then-to-from-lt48 c =
-    let r = c in
-    let s = r in
-    let a = s.args in
+    let a = c.args in
     let b = a.block.now in
     let n = a.to - a.from in
-    let l = length-take-le n (drop a.from b) (omega (arith, s.requires.0, s.requires.1, length-drop a.from b)) in (
-      r.moved.ensures.0 ∙ sym (take_all 48 (span b a.from n) (omega (arith, l, r.if-to-from-lt48.true))),
-      omega (arith, r.moved.ensures.1, r.if-to-from-lt48.true),
+    let l = length-take-le n (drop a.from b) (omega (arith, c.requires.0, c.requires.1, length-drop a.from b)) in (
+      c.moved.ensures.0 ∙ sym (take_all 48 (span b a.from n) (omega (arith, l, c.if-to-from-lt48.true))),
+      omega (arith, c.moved.ensures.1, c.if-to-from-lt48.true),
     )
 
 pub returns : goal.returns
 returns c =
-    let r = c in
-    let s = r in
-    let a = s.args in (
-      r.moved-2.ensures.0 ∙ sym (take-take 48 (a.to - a.from) (drop a.from a.block.now) (omega (arith, r.if-to-from-lt48.false))),
-      omega (arith, r.moved-2.ensures.1),
+    let a = c.args in (
+      c.moved-2.ensures.0 ∙ sym (take-take 48 (a.to - a.from) (drop a.from a.block.now) (omega (arith, c.if-to-from-lt48.false))),
+      omega (arith, c.moved-2.ensures.1),
     )

@@ -20,11 +20,8 @@ through b z z' b' from n h k e f =
 
 pub returns : goal.returns
 returns c =
-    let w = c in
-    let v = w in
-    let s = v in
-    let a = s.args in (
-      through a.block.now (replicate 48 0) v.copy_span.new.dst w.copy_span-2.new.dst a.from a.n s.requires.1 s.requires.0 v.copy_span.ensures
-          w.copy_span-2.ensures,
+    let a = c.args in (
+      through a.block.now (replicate 48 0) c.copy_span.new.dst c.copy_span-2.new.dst a.from a.n c.requires.1 c.requires.0 c.copy_span.ensures
+          c.copy_span-2.ensures,
       refl,
     )

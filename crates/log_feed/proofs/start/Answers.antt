@@ -61,17 +61,13 @@ module _ (m m' r : List ℕ) (o : Outcome) (h : length m ≡ size) (t : r ≡ su
 
 pub returns : goal.returns
 returns c =
-    let w = c in
-    let u = w in
-    let t = u in
-    let s = t in
-    let a = s.args in (
+    let a = c.args in (
       (
-        ap (λ (x : List ℕ). take 43 x) w.copy_at.ensures ∙ take-splice a.out.now 0 heading s.requires.1 43 refl,
-        is-begun a.state.now u.setup.new.state _ u.setup.result s.requires.0 t.subscriptions-types.ensures u.setup.ensures,
+        ap (λ (x : List ℕ). take 43 x) c.copy_at.ensures ∙ take-splice a.out.now 0 heading c.requires.1 43 refl,
+        is-begun a.state.now c.setup.new.state _ c.setup.result c.requires.0 c.subscriptions-types.ensures c.setup.ensures,
       ),
       (
-        is-sound a.state.now u.setup.new.state _ u.setup.result s.requires.0 t.subscriptions-types.ensures u.setup.ensures,
+        is-sound a.state.now c.setup.new.state _ c.setup.result c.requires.0 c.subscriptions-types.ensures c.setup.ensures,
         omega arith,
       ),
     )

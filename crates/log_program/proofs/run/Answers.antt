@@ -9,6 +9,5 @@ use Rattle.log_program.proofs.run.Goals as goal
 
 pub loop-turns-preserved : goal.loop-turns-preserved
 loop-turns-preserved c =
-    let r = c in
-    let i = r.loop-turns.invariant.1.1 in
-    (r.turn-t.ensures.0, (r.turn-t.ensures.1, (r.turn-t.auto.0 ∙ i.0, (r.turn-t.auto.1.0 ∙ i.1.0, r.turn-t.auto.1.1.1.0 ∙ i.1.1))))
+    let i = c.loop-turns.invariant.1.1 in
+    (c.turn-t.ensures.0, (c.turn-t.ensures.1, (c.turn-t.auto.0 ∙ i.0, (c.turn-t.auto.1.0 ∙ i.1.0, c.turn-t.auto.1.1.1.0 ∙ i.1.1))))

@@ -42,25 +42,18 @@ bounds-out-at-3 c = simp length-set (omega (arith, c.requires))
 
 pub put_words-p-requires : goal.put_words-p-requires
 put_words-p-requires c =
-    let s = c in
-    simp length-set (omega (arith, s.requires))
+    simp length-set (omega (arith, c.requires))
 
 pub bounds-out-p : goal.bounds-out-p
 bounds-out-p c =
-    let r = c in
-    let s = r in
-    let k = simp length-set at r.put_words-p.auto.0 in
-    omega (arith, k, s.requires, r.put_words-p.ensures.1)
+    let k = simp length-set at c.put_words-p.auto.0 in
+    omega (arith, k, c.requires, c.put_words-p.ensures.1)
 
 pub shape_of-out : goal.shape_of-out
 shape_of-out c =
-    let r = c in
-    let s = r in
-    length-set r.put_words-p.new.out r.put_words-p.result 10 ∙ simp length-set at r.put_words-p.auto.0
+    length-set c.put_words-p.new.out c.put_words-p.result 10 ∙ simp length-set at c.put_words-p.auto.0
 
 pub returns : goal.returns
 returns c =
-    let r = c in
-    let s = r in
-    joined s.args.c s.args.out.now r.put_words-p.new.out s.args.at r.put_words-p.result s.requires
-    (simp length-set at r.put_words-p.auto.0) r.put_words-p.ensures.0 r.put_words-p.ensures.1
+    joined c.args.c c.args.out.now c.put_words-p.new.out c.args.at c.put_words-p.result c.requires
+    (simp length-set at c.put_words-p.auto.0) c.put_words-p.ensures.0 c.put_words-p.ensures.1

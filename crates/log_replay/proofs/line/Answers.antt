@@ -31,13 +31,9 @@ ill m l out out' at c s n e f =
 
 pub returns : goal.returns
 returns c =
-    let r-refuse = c in
-    let r-if1 = r-refuse in
-    let r-read = r-if1 in
-    let s = r-read in
-    let a = s.args in
+    let a = c.args in
     let l = a.line.now in (
-      ill a.state.now l a.out.now r-refuse.refuse.new.out a.at a.c r-refuse.refuse.result
-          (unsaid l r-read.read-l.result r-read.read-l.ensures r-if1.if-l.false) r-refuse.refuse.ensures.0 r-refuse.refuse.ensures.1.0,
-      (s.requires.0, omega (arith, r-refuse.refuse.ensures.1.1, s.requires.1.0)),
+      ill a.state.now l a.out.now c.refuse.new.out a.at a.c c.refuse.result
+          (unsaid l c.read-l.result c.read-l.ensures c.if-l.false) c.refuse.ensures.0 c.refuse.ensures.1.0,
+      (c.requires.0, omega (arith, c.refuse.ensures.1.1, c.requires.1.0)),
     )

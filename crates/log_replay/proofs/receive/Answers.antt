@@ -20,81 +20,66 @@ use Rattle.log_replay.proofs.receive.Goals as goal
 
 pub slice_bounds-receive_sound-end : goal.slice_bounds-receive_sound-end
 slice_bounds-receive_sound-end c =
-    let s = c in
-    let k = len-in s.args.line.now s.args.l s.requires.0 s.requires.1.0 in
+    let k = len-in c.args.line.now c.args.l c.requires.0 c.requires.1.0 in
     omega (arith, k)
 
 pub slice_bounds-copy_at-end : goal.slice_bounds-copy_at-end
 slice_bounds-copy_at-end c =
-    let s = c in
-    head_in s.args.line.now s.args.l s.requires.0 s.requires.1.0
+    head_in c.args.line.now c.args.l c.requires.0 c.requires.1.0
 
 pub copy_at-requires : goal.copy_at-requires
 copy_at-requires c =
-    let s = c in
-    let p = s.requires in
-    let l = s.args.line.now in
-    let k = s.args.l.head in
+    let p = c.requires in
+    let l = c.args.line.now in
+    let k = c.args.l.head in
     let n : length (take (k - 0) l) ≡ k = ap (λ (x : ℕ). length (take x l)) (sub-zero k)
-    ∙ length-take-le k l (head_in l s.args.l p.0 p.1.0) in
-    omega (arith, n, head_few l s.args.l p.0 p.1.0, p.1.1.1)
+    ∙ length-take-le k l (head_in l c.args.l p.0 p.1.0) in
+    omega (arith, n, head_few l c.args.l p.0 p.1.0, p.1.1.1)
 
 pub overflow_add-at : goal.overflow_add-at
 overflow_add-at c =
-    let s = c in
-    omega (arith, head_few s.args.line.now s.args.l s.requires.0 s.requires.1.0, s.requires.1.1.1)
+    omega (arith, head_few c.args.line.now c.args.l c.requires.0 c.requires.1.0, c.requires.1.1.1)
 
 pub put_answer-past-requires : goal.put_answer-past-requires
 put_answer-past-requires c =
-    let r-copy-at = c in
-    let r-receive = r-copy-at in
-    let s = r-receive in
     omega (
       arith,
-      r-copy-at.copy_at.auto.0,
-      r-receive.receive_sound-a.auto.1.1.1.1.1.0,
-      head_few s.args.line.now s.args.l s.requires.0 s.requires.1.0,
-      s.requires.1.1.1,
+      c.copy_at.auto.0,
+      c.receive_sound-a.auto.1.1.1.1.1.0,
+      head_few c.args.line.now c.args.l c.requires.0 c.requires.1.0,
+      c.requires.1.1.1,
     )
 
 pub returns : goal.returns
 returns c =
-    let r-counted = c in
-    let r-is-handed = r-counted in
-    let r-put-answer = r-is-handed in
-    let r-copy-at = r-put-answer in
-    let r-receive = r-copy-at in
-    let r-lasts = r-receive in
-    let k = r-lasts in
-    let s = k in
-    let a = s.args in
-    let p = s.requires in
+    let a = c.args in
+    let p = c.requires in
     let l = a.line.now in
     let m = a.state.now in
-    let e : receive.returned r-receive.receive_sound-a.result r-receive.receive_sound-a.new.state r-receive.receive_sound-a.new.out.1.1.1.1.0
+    let e : receive.returned c.receive_sound-a.result c.receive_sound-a.new.state c.receive_sound-a.new.out.1.1.1.1.0
     ≡ receive.received m (logged (frame_said a.l)) (replicate 512 0) =
-    r-receive.receive_sound-a.ensures
+    c.receive_sound-a.ensures
     ∙ ap (λ (n : ℕ). lent m (replicate 512 0) (step (setup_of m) (places_of m) (arriving (arrival_of a.l.id (take n a.l.bytes) 0 a.l.time) (replicate 512 0))))
     (sub-zero a.l.len)
     ∙ sym (tested m (logged (frame_said a.l)) (replicate 512 0) p.1.1.0) in (
-      replied l a.l p.0 p.1.0 m r-receive.receive_sound-a.new.state r-receive.receive_sound-a.new.out.1.1.1.1.0 a.out.now
-          r-copy-at.copy_at.new.dst r-put-answer.put_answer-past.new.out a.c r-counted.counted.result r-receive.receive_sound-a.result a.at
-          r-put-answer.put_answer-past.result
+      replied l a.l p.0 p.1.0 m c.receive_sound-a.new.state c.receive_sound-a.new.out.1.1.1.1.0 a.out.now
+          c.copy_at.new.dst c.put_answer-past.new.out a.c c.counted.result c.receive_sound-a.result a.at
+          c.put_answer-past.result
           (omega (arith, head_few l a.l p.0 p.1.0, p.1.1.1))
           e
-          (r-copy-at.copy_at.ensures ∙ ap (λ (n : ℕ). splice a.out.now a.at (take n l)) (sub-zero a.l.head))
-          r-put-answer.put_answer-past.ensures.0
-          (r-counted.counted.ensures ∙ ap (counted a.c) r-is-handed.is_handed.ensures),
+          (c.copy_at.ensures ∙ ap (λ (n : ℕ). splice a.out.now a.at (take n l)) (sub-zero a.l.head))
+          c.put_answer-past.ensures.0
+          (c.counted.ensures ∙ ap (counted a.c) c.is_handed.ensures),
       (
         ap (λ (x : receive.Result). sound_state x.state) e
-            ∙ (r-lasts.state_lasts.ensures m (logged (frame_said a.l)) (replicate 512 0) p.1.1.0
-            (octets-all m (λ i. omega (arith, k.slice_known-1.given i))) (in-range l a.l p.0 p.1.0)).0,
+            ∙ (c.state_lasts.ensures m (logged (frame_said a.l)) (replicate 512 0) p.1.1.0
+            (octets-all m (λ i. omega (arith, c.slice_known-1.given i))) (in-range l a.l p.0 p.1.0)).0,
         omega (
           arith,
-          r-put-answer.put_answer-past.ensures.1,
+          c.put_answer-past.ensures.1,
           head_few l a.l p.0 p.1.0,
           least l a.l p.0 p.1.0,
-          r-receive.receive_sound-a.auto.1.1.1.1.1.0,
+          c.receive_sound-a.auto.1.1.1.1.1.0,
         ),
       ),
     )

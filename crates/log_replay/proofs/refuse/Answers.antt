@@ -28,18 +28,13 @@ refused m m' at c c' p h f l e =
     (ap₂ (λ (n : ℕ) (k : Counts). record { past = n; counts = k }) g.end e, (g.out, omega arith))
 
 pub numbered-past-requires : goal.numbered-past-requires
-numbered-past-requires c = let s = c in simp length-set (omega (arith, s.requires))
+numbered-past-requires c = simp length-set (omega (arith, c.requires))
 
 pub shape_of-out : goal.shape_of-out
 shape_of-out c =
-    let r-numbered = c in
-    let s = r-numbered in
-    r-numbered.numbered-past.auto.0 ∙ length-set s.args.out.now s.args.at 63
+    c.numbered-past.auto.0 ∙ length-set c.args.out.now c.args.at 63
 
 pub returns : goal.returns
 returns c =
-    let r-counted = c in
-    let r-numbered = r-counted in
-    let s = r-numbered in
-    refused s.args.out.now r-numbered.numbered-past.new.out s.args.at s.args.c r-counted.counted.result r-numbered.numbered-past.result s.requires
-    r-numbered.numbered-past.ensures.0 r-numbered.numbered-past.ensures.1 r-counted.counted.ensures
+    refused c.args.out.now c.numbered-past.new.out c.args.at c.args.c c.counted.result c.numbered-past.result c.requires
+    c.numbered-past.ensures.0 c.numbered-past.ensures.1 c.counted.ensures

@@ -27,12 +27,7 @@ joined m m' m'' m''' at k t h e f g =
 
 pub returns : goal.returns
 returns c =
-    let q = c in
-    let g = q in
-    let p2 = g in
-    let p1 = p2 in
-    let s = p1 in
-    let a = s.args in
-    joined a.out.now p1.put_at.new.s p2.put_at-2.new.s q.put_at-3.new.s (a.j * 13) a.kind a.type-id s.requires
-    p1.put_at.ensures p2.put_at-2.ensures (q.put_at-3.ensures
-    ∙ ap (λ (x : ℕ). splice p2.put_at-2.new.s (a.j * 13 + 5) (le_bytes 8 x)) g.signature.ensures)
+    let a = c.args in
+    joined a.out.now c.put_at.new.s c.put_at-2.new.s c.put_at-3.new.s (a.j * 13) a.kind a.type-id c.requires
+    c.put_at.ensures c.put_at-2.ensures (c.put_at-3.ensures
+    ∙ ap (λ (x : ℕ). splice c.put_at-2.new.s (a.j * 13 + 5) (le_bytes 8 x)) c.signature.ensures)

@@ -32,9 +32,8 @@ loop-j-init c = (omega arith, (refl, refl))
 
 pub loop-j-preserved : goal.loop-j-preserved
 loop-j-preserved c =
-    let p = c in
-    let l = p.loop-j in
-    (omega arith, (p.put.auto.0 ∙ l.invariant.1.0, more _ l.out p.put.new.out l.j l.invariant.1.1 p.put.ensures))
+    let l = c.loop-j in
+    (omega arith, (c.put.auto.0 ∙ l.invariant.1.0, more _ l.out c.put.new.out l.j l.invariant.1.1 c.put.ensures))
 
 pub returns : goal.returns
 returns c = let l = c.loop-j in all _ l.out l.j refl (omega arith) l.invariant.1.1

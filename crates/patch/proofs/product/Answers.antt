@@ -41,18 +41,15 @@ loop-k-init c = let a = c.args in (omega arith, begin a.bits (a.v / 2 ^ a.bits) 
 
 pub overflow_mul-r : goal.overflow_mul-r
 overflow_mul-r c =
-    let l = c in
-    let a = l.args in
-    record { fits = small _ a.w (odd-lt (a.v / 2 ^ (l.loop-k.k - 1))) (search rules) }
+    let a = c.args in
+    record { fits = small _ a.w (odd-lt (a.v / 2 ^ (c.loop-k.k - 1))) (search rules) }
 
 pub loop-k-preserved : goal.loop-k-preserved
 loop-k-preserved c =
-    let l = c in
-    let a = l.args in
-    (omega arith, turn a.bits a.v a.w l.loop-k.k l.loop-k.r c.up.result l.loop-k.invariant.0 (omega arith) l.loop-k.invariant.1 c.up.ensures)
+    let a = c.args in
+    (omega arith, turn a.bits a.v a.w c.loop-k.k c.loop-k.r c.up.result c.loop-k.invariant.0 (omega arith) c.loop-k.invariant.1 c.up.ensures)
 
 pub returns : goal.returns
 returns c =
-    let l = c in
-    let a = l.args in
-    done a.bits a.v a.w l.loop-k.k l.loop-k.r (omega arith) l.loop-k.invariant.1
+    let a = c.args in
+    done a.bits a.v a.w c.loop-k.k c.loop-k.r (omega arith) c.loop-k.invariant.1

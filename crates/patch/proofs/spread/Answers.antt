@@ -23,9 +23,6 @@ both d n a r b s hd hr ea eb er es =
 
 pub returns : goal.returns
 returns c =
-    let f = c in
-    let p = f in
-    let n = p in
-    let a = n.args in
-    both a.d a.n _ p.product-r.result _ c.product.result (search rules) (search rules)
-    (n.near-a.ensures.entry (a.n % 32) (omega arith)) (f.far-b.ensures.entry (a.n / 32) (omega arith)) p.product-r.ensures c.product.ensures
+    let a = c.args in
+    both a.d a.n _ c.product-r.result _ c.product.result (search rules) (search rules)
+    (c.near-a.ensures.entry (a.n % 32) (omega arith)) (c.far-b.ensures.entry (a.n / 32) (omega arith)) c.product-r.ensures c.product.ensures

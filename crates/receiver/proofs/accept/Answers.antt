@@ -47,42 +47,30 @@ called m out bs h q a p f = record {
 pub returns-then-is_anonymous : goal.returns-then-is_anonymous
 unfolding step_anonymous parsed_of
 returns-then-is_anonymous c =
-    let h = c in
-    let t = h in
-    let n = t in
-    let b = n in
-    let s = b in
-    let a = s.args in
+    let a = c.args in
     let m = a.state.now in
     let out = a.out.now in
     let bs = a.frame.now in
     let v = parsed_of a.f (payload_of bs) in
-    let q = h.hand_out.ensures in
-    untouched m s.requires.sound (octets-all m (λ i. omega (arith, b.slice_known-1.given i))) out (step_anonymous true (places_of m) v) h.hand_out.result refl
+    let q = c.hand_out.ensures in
+    untouched m c.requires.sound (octets-all m (λ i. omega (arith, c.slice_known-1.given i))) out (step_anonymous true (places_of m) v) c.hand_out.result refl
     (q.answer ∙ ap (λ p. told (rules.handed p (stream_of a.f) a.f.head.priority a.f.head.transfer)) (before-tail bs)) _
     (q.out ∙ ap (λ p. splice out 0 p) (before-tail bs))
-    ∙ ap (λ (x : Bool). lent m out (step_anonymous x (places_of m) v)) (sym (sym n.is_anonymous.ensures ∙ t.if-is_anonymous.true))
+    ∙ ap (λ (x : Bool). lent m out (step_anonymous x (places_of m) v)) (sym (sym c.is_anonymous.ensures ∙ c.if-is_anonymous.true))
 
 pub arrive-requires : goal.arrive-requires
 arrive-requires c =
-    let e = c in
-    let n = e in
-    let s = n in
-    let a = s.args in
-    called a.state.now a.out.now a.frame.now a.f s.requires (sym n.is_anonymous.ensures ∙ e.if-is_anonymous.false) _ (before-tail a.frame.now)
+    let a = c.args in
+    called a.state.now a.out.now a.frame.now a.f c.requires (sym c.is_anonymous.ensures ∙ c.if-is_anonymous.false) _ (before-tail a.frame.now)
 
 pub returns : goal.returns
 unfolding step_anonymous parsed_of
 returns c =
-    let r = c in
-    let e = r in
-    let n = e in
-    let s = n in
-    let a = s.args in
+    let a = c.args in
     let m = a.state.now in
     let out = a.out.now in
     let bs = a.frame.now in
     let v = parsed_of a.f (payload_of bs) in
-    r.arrive.ensures
+    c.arrive.ensures
     ∙ ap (λ p. lent m out (step_seek (seek (holds (stream_of a.f)) (places_of m)) (places_of m) (parsed_of a.f p))) (before-tail bs)
-    ∙ ap (λ (x : Bool). lent m out (step_anonymous x (places_of m) v)) (sym (sym n.is_anonymous.ensures ∙ e.if-is_anonymous.false))
+    ∙ ap (λ (x : Bool). lent m out (step_anonymous x (places_of m) v)) (sym (sym c.is_anonymous.ensures ∙ c.if-is_anonymous.false))

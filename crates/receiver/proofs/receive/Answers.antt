@@ -6,20 +6,16 @@ use borrow.Author.Rules.{rules}
 use Rattle.receiver.proofs.receive.Goals as goal
 
 pub receive_sound-requires : goal.receive_sound-requires
-receive_sound-requires c = let t = c in sym t.is_sound.ensures ∙ t.if-is_sound.true
+receive_sound-requires c = sym c.is_sound.ensures ∙ c.if-is_sound.true
 
 pub returns-then-is_sound : goal.returns-then-is_sound
 unfolding received received_if
 returns-then-is_sound c =
-    let r = c in
-    let t = r in
-    let n = t in
-    let a = n.args in
-    r.receive_sound.ensures ∙ ap (λ (b : Bool). received_if b a.state.now (arrival_of a.id a.frame.now a.interface a.time) a.out.now) (sym (sym n.is_sound.ensures ∙ t.if-is_sound.true))
+    let a = c.args in
+    c.receive_sound.ensures ∙ ap (λ (b : Bool). received_if b a.state.now (arrival_of a.id a.frame.now a.interface a.time) a.out.now) (sym (sym c.is_sound.ensures ∙ c.if-is_sound.true))
 
 pub returns : goal.returns
 unfolding received received_if
 returns c =
-    let n = c in
-    let a = n.args in
-    ap (λ (b : Bool). received_if b a.state.now (arrival_of a.id a.frame.now a.interface a.time) a.out.now) (sym (sym n.is_sound.ensures ∙ c.if-is_sound.false))
+    let a = c.args in
+    ap (λ (b : Bool). received_if b a.state.now (arrival_of a.id a.frame.now a.interface a.time) a.out.now) (sym (sym c.is_sound.ensures ∙ c.if-is_sound.false))

@@ -122,9 +122,8 @@ accepts s h g i e k r f z room by pass =
 
 pub returns-then-unreadable-gt0 : goal.returns-then-unreadable-gt0
 returns-then-unreadable-gt0 c =
-    let b = c in
-    let a = b.args in
-    refusing a.state.now a.out.now b.requires (octets b) (arrival_of a.id a.frame.now a.interface a.time) c.unreadable-unreadable.result
+    let a = c.args in
+    refusing a.state.now a.out.now c.requires (octets c) (arrival_of a.id a.frame.now a.interface a.time) c.unreadable-unreadable.result
     (read-refuses (setup_of a.state.now) a.id a.interface a.time a.frame.now a.out.now c.unreadable-unreadable.result c.unreadable-unreadable.ensures c.if-unreadable-gt0.true)
 
 pub overflow_sub-n : goal.overflow_sub-n
@@ -137,80 +136,51 @@ pub read-h-requires : goal.read-h-requires
 read-h-requires c = (read_ok c).small
 
 pub bounds-state-0 : goal.bounds-state-0
-bounds-state-0 c = let s = c in omega (arith, long s.args.state.now s.requires)
+bounds-state-0 c = omega (arith, long c.args.state.now c.requires)
 
 pub returns-then-refused-gt0 : goal.returns-then-refused-gt0
 returns-then-refused-gt0 c =
-    let r = c in
-    let e = r in
-    let b = e in
-    let a = b.args in
-    refusing a.state.now a.out.now b.requires (octets b) (arrival_of a.id a.frame.now a.interface a.time) r.refusal-refused.result
-    (head-refuses (setup_of a.state.now) a.id a.interface a.time a.frame.now a.out.now e.unreadable-unreadable.result e.unreadable-unreadable.ensures e.if-unreadable-gt0.false
-    r.refusal-refused.result (heads-number r) c.if-refused-gt0.true)
+    let a = c.args in
+    refusing a.state.now a.out.now c.requires (octets c) (arrival_of a.id a.frame.now a.interface a.time) c.refusal-refused.result
+    (head-refuses (setup_of a.state.now) a.id a.interface a.time a.frame.now a.out.now c.unreadable-unreadable.result c.unreadable-unreadable.ensures c.if-unreadable-gt0.false
+    c.refusal-refused.result (heads-number c) c.if-refused-gt0.true)
 
 pub find-requires : goal.find-requires
-find-requires c =
-    let k = c in
-    let d = k in
-    let s = d in (
-      long s.args.state.now s.requires,
-      (
-        kind-small d.read-h.result.transfer_type k.kind.result k.kind.ensures,
-        subst (λ (h : Head). h.type_id < 65536) (sym d.read-h.ensures) (type-fits s.args.id _),
-      ),
-    )
+find-requires c = (
+  long c.args.state.now c.requires,
+  (
+    kind-small c.read-h.result.transfer_type c.kind.result c.kind.ensures,
+    subst (λ (h : Head). h.type_id < 65536) (sym c.read-h.ensures) (type-fits c.args.id _),
+  ),
+)
 
 pub returns-then-out-lt-PAYLOAD : goal.returns-then-out-lt-PAYLOAD
 returns-then-out-lt-PAYLOAD c =
-    let g = c in
-    let n = g in
-    let i = n in
-    let r = i in
-    let e = r in
-    let b = e in
-    let a = b.args in
+    let a = c.args in
     let u = setup_of a.state.now in
-    refusing a.state.now a.out.now b.requires (octets b) (arrival_of a.id a.frame.now a.interface a.time) 8
-    (no-room u a.id a.interface a.time a.frame.now a.out.now e.unreadable-unreadable.result e.unreadable-unreadable.ensures e.if-unreadable-gt0.false
-    r.refusal-refused.result (heads-number r) i.if-refused-gt0.false _ (under (signature_for u a.id) _ (found n ∙ g.in-Under.is)) c.if-out-lt-PAYLOAD.true)
+    refusing a.state.now a.out.now c.requires (octets c) (arrival_of a.id a.frame.now a.interface a.time) 8
+    (no-room u a.id a.interface a.time a.frame.now a.out.now c.unreadable-unreadable.result c.unreadable-unreadable.ensures c.if-unreadable-gt0.false
+    c.refusal-refused.result (heads-number c) c.if-refused-gt0.false _ (under (signature_for u a.id) _ (found c ∙ c.in-Under.is)) c.if-out-lt-PAYLOAD.true)
 
 pub accept-requires : goal.accept-requires
 accept-requires c =
-    let l = c in
-    let g = l in
-    let n = l in
-    let i = n in
-    let r = i in
-    let d = r in
-    let e = d in
-    let s = e in
-    let u = setup_of s.args.state.now in
-    accepts s d.read-h.result _ _ d.read-h.ensures (read_ok e) r.refusal-refused.result (heads-number r) i.if-refused-gt0.false l.if-out-lt-PAYLOAD.false (omega (arith, (read_ok e).interface))
-    (all-passed u s.args.id s.args.interface s.args.time s.args.frame.now s.args.out.now e.unreadable-unreadable.result e.unreadable-unreadable.ensures e.if-unreadable-gt0.false
-    r.refusal-refused.result (heads-number r) i.if-refused-gt0.false _ (under (signature_for u s.args.id) _ (found n ∙ g.in-Under.is)))
+    let u = setup_of c.args.state.now in
+    accepts c c.read-h.result _ _ c.read-h.ensures (read_ok c) c.refusal-refused.result (heads-number c) c.if-refused-gt0.false c.if-out-lt-PAYLOAD.false (omega (arith, (read_ok c).interface))
+    (all-passed u c.args.id c.args.interface c.args.time c.args.frame.now c.args.out.now c.unreadable-unreadable.result c.unreadable-unreadable.ensures c.if-unreadable-gt0.false
+    c.refusal-refused.result (heads-number c) c.if-refused-gt0.false _ (under (signature_for u c.args.id) _ (found c ∙ c.in-Under.is)))
 
 pub returns-in-Not : goal.returns-in-Not
 returns-in-Not c =
-    let n = c in
-    let i = n in
-    let r = i in
-    let e = r in
-    let b = e in
-    let a = b.args in
+    let a = c.args in
     let u = setup_of a.state.now in
-    refusing a.state.now a.out.now b.requires (octets b) (arrival_of a.id a.frame.now a.interface a.time) 7
-    (not-subscribed u a.id a.interface a.time a.frame.now a.out.now e.unreadable-unreadable.result e.unreadable-unreadable.ensures e.if-unreadable-gt0.false
-    r.refusal-refused.result (heads-number r) i.if-refused-gt0.false (not-asked (signature_for u a.id) (found n ∙ c.in-Not.is)))
+    refusing a.state.now a.out.now c.requires (octets c) (arrival_of a.id a.frame.now a.interface a.time) 7
+    (not-subscribed u a.id a.interface a.time a.frame.now a.out.now c.unreadable-unreadable.result c.unreadable-unreadable.ensures c.if-unreadable-gt0.false
+    c.refusal-refused.result (heads-number c) c.if-refused-gt0.false (not-asked (signature_for u a.id) (found c ∙ c.in-Not.is)))
 
 pub returns-else-out-lt-PAYLOAD : goal.returns-else-out-lt-PAYLOAD
 unfolding head_of
 returns-else-out-lt-PAYLOAD c =
-    let p = c in
-    let l = p in
-    let g = l in
-    let n = g in
-    let i = n in
+    let i = c in
     let r = i in
     let d = r in
     let e = d in
@@ -219,12 +189,12 @@ returns-else-out-lt-PAYLOAD c =
     let out = a.out.now in
     let bs = a.frame.now in
     let u = setup_of m in
-    let q = under (signature_for u a.id) _ (found n ∙ g.in-Under.is) in
+    let q = under (signature_for u a.id) _ (found c ∙ c.in-Under.is) in
     let small : a.interface % 256 ≡ a.interface = omega (arith, (read_ok e).interface) in
-    p.accept.ensures
-    ∙ ap (λ (h : Head). lent m out (step_anonymous (rules.unnamed (head.stream_of h)) (places_of m) (parsed_of (record { head = h; signature = g.in-Under.signature; time = a.time; interface = a.interface % 256 }) (payload_of bs)))) d.read-h.ensures
+    c.accept.ensures
+    ∙ ap (λ (h : Head). lent m out (step_anonymous (rules.unnamed (head.stream_of h)) (places_of m) (parsed_of (record { head = h; signature = c.in-Under.signature; time = a.time; interface = a.interface % 256 }) (payload_of bs)))) d.read-h.ensures
     ∙ ap (λ (v : Parsed). lent m out (step_anonymous (is_anonymous a.id) (places_of m) v))
-    (ap (λ (i : ℕ). parsed_of (record { head = head_of a.id (tail_of bs); signature = g.in-Under.signature; time = a.time; interface = i }) (payload_of bs)) small
-    ∙ parsed-is u a.id a.interface a.time g.in-Under.signature bs q)
+    (ap (λ (i : ℕ). parsed_of (record { head = head_of a.id (tail_of bs); signature = c.in-Under.signature; time = a.time; interface = i }) (payload_of bs)) small
+    ∙ parsed-is u a.id a.interface a.time c.in-Under.signature bs q)
     ∙ ap (lent m out) (sym (step-accepted u (places_of m) (arriving (arrival_of a.id bs a.interface a.time) out)
-    (accepted u a.id a.interface a.time bs out e.unreadable-unreadable.result e.unreadable-unreadable.ensures e.if-unreadable-gt0.false r.refusal-refused.result (heads-number r) i.if-refused-gt0.false _ q l.if-out-lt-PAYLOAD.false)))
+    (accepted u a.id a.interface a.time bs out e.unreadable-unreadable.result e.unreadable-unreadable.ensures e.if-unreadable-gt0.false r.refusal-refused.result (heads-number r) i.if-refused-gt0.false _ q c.if-out-lt-PAYLOAD.false)))

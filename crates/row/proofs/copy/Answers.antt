@@ -34,18 +34,16 @@ loop-i-smaller c = omega arith
 
 pub loop-i-preserved : goal.loop-i-preserved
 loop-i-preserved c =
-    let l = c in
-    let w = l.args.words.now in
-    let m = l.args.fields.now in
-    (omega arith, (simp length-set l.loop-i.invariant.1.0, ap (λ (r : List ℕ). set r l.loop-i.i (get_or w l.loop-i.i 0)) l.loop-i.invariant.1.1 ∙ rw add-one (turn w m l.loop-i.i (omega arith) (omega arith))))
+    let w = c.args.words.now in
+    let m = c.args.fields.now in
+    (omega arith, (simp length-set c.loop-i.invariant.1.0, ap (λ (r : List ℕ). set r c.loop-i.i (get_or w c.loop-i.i 0)) c.loop-i.invariant.1.1 ∙ rw add-one (turn w m c.loop-i.i (omega arith) (omega arith))))
 
 pub shape_of-fields : goal.shape_of-fields
 shape_of-fields c = c.loop-i.invariant.1.0
 
 pub returns : goal.returns
 returns c =
-    let l = c in
-    let w = l.args.words.now in
-    let m = l.args.fields.now in
-    let e : l.loop-i.i ≡ length w = omega arith in
-    l.loop-i.invariant.1.1 ∙ ap (λ (k : ℕ). take k w ++ drop k m) e ∙ ap (λ (r : List ℕ). r ++ drop (length w) m) (take_all (length w) w (omega arith))
+    let w = c.args.words.now in
+    let m = c.args.fields.now in
+    let e : c.loop-i.i ≡ length w = omega arith in
+    c.loop-i.invariant.1.1 ∙ ap (λ (k : ℕ). take k w ++ drop k m) e ∙ ap (λ (r : List ℕ). r ++ drop (length w) m) (take_all (length w) w (omega arith))

@@ -10,9 +10,8 @@ use Rattle.row.proofs.of_written.Goals as goal
 pub overflow_mul-result : goal.overflow_mul-result
 unfolding word_of
 overflow_mul-result c =
-    let s = c in
     let e = ap (λ (a : Written). word_of (answer_of a)) c.in-Wrote.is in
-    record { fits = omega (arith, e, s.requires) }
+    record { fits = omega (arith, e, c.requires) }
 
 pub returns-in-Refused : goal.returns-in-Refused
 unfolding word_of

@@ -9,6 +9,5 @@ returns-then-fields-words c = let a = c.args in row-short a.words.now a.fields.n
 
 pub returns : goal.returns
 returns c =
-    let s = c in
-    let a = s.args in
-    row-placed a.words.now a.fields.now s.copy.new.1.0 (omega arith) s.copy.ensures
+    let a = c.args in
+    row-placed a.words.now a.fields.now c.copy.new.1.0 (omega arith) c.copy.ensures

@@ -38,91 +38,52 @@ roomy e = omega (arith, e.count-frames.ensures)
 pub returns-then-not_sendable : goal.returns-then-not_sendable
 unfolding call
 returns-then-not_sendable c =
-    let e = c in
-    let k = e in
-    let s = k in
-    misfitting s.args.map.now s.requires (octets k) (call s) s.args.out.now (length s.args.out.now) (sym e.not_sendable.ensures ∙ c.if-not_sendable.true)
+    misfitting c.args.map.now c.requires (octets c) (call c) c.args.out.now (length c.args.out.now) (sym c.not_sendable.ensures ∙ c.if-not_sendable.true)
 
 pub returns-then-n-gt-PAYLOAD : goal.returns-then-n-gt-PAYLOAD
 unfolding call
 returns-then-n-gt-PAYLOAD c =
-    let e = c in
-    let k = e in
-    let s = k in
-    too_long s.args.map.now s.requires (octets k) (call s) s.args.out.now (length s.args.out.now) (fit e) c.if-n-gt-PAYLOAD.true
+    too_long c.args.map.now c.requires (octets c) (call c) c.args.out.now (length c.args.out.now) (fit c) c.if-n-gt-PAYLOAD.true
 
 pub overflow_mul-frames : goal.overflow_mul-frames
 overflow_mul-frames c =
-    let g = c in
-    let s = g in
-    omega (arith, c.count-frames.ensures, count_most (length s.args.payload.now) g.if-n-gt-PAYLOAD.false)
+    omega (arith, c.count-frames.ensures, count_most (length c.args.payload.now) c.if-n-gt-PAYLOAD.false)
 
 pub returns-then-out-frames : goal.returns-then-out-frames
 unfolding call
 returns-then-out-frames c =
-    let n = c in
-    let g = n in
-    let e = g in
-    let k = e in
-    let s = k in
-    too_small s.args.map.now s.requires (octets k) (call s) s.args.out.now (length s.args.out.now) (fit e) g.if-n-gt-PAYLOAD.false (omega (arith, n.count-frames.ensures))
+    too_small c.args.map.now c.requires (octets c) (call c) c.args.out.now (length c.args.out.now) (fit c) c.if-n-gt-PAYLOAD.false (omega (arith, c.count-frames.ensures))
 
 pub overflow_cast-transfer : goal.overflow_cast-transfer
 unfolding call
 overflow_cast-transfer c =
-    let t = c in
-    omega (arith, (ranged t).response t.if-c-eq2.true)
+    omega (arith, (ranged c).response c.if-c-eq2.true)
 
 pub id-requires : goal.id-requires
 unfolding call
 id-requires c =
-    let e = c in
-    let s = e in
-    without-payload s.args.c s.args.payload.now (ranged e)
+    without-payload c.args.c c.args.payload.now (ranged c)
 
 pub write-requires : goal.write-requires
 unfolding call
 write-requires c =
-    let t = c in
-    let r = t in
-    let g = r in
-    ((ranged g).response t.if-c-eq2.true, (g.if-n-gt-PAYLOAD.false, roomy r))
+    ((ranged c).response c.if-c-eq2.true, (c.if-n-gt-PAYLOAD.false, roomy c))
 
 pub returns-then-c-eq2 : goal.returns-then-c-eq2
 unfolding call
 returns-then-c-eq2 c =
-    let w = c in
-    let i = w in
-    let t = i in
-    let r = t in
-    let n = r in
-    let g = n in
-    let e = g in
-    let k = e in
-    let s = k in
-    let f : ℕ → List ℕ = λ x. splice s.args.out.now 0 (records_of x (sent s.args.c.signature s.args.c.transfer_id s.args.payload.now)) in
-    let o : w.write.new.out ≡ f i.id.result = w.write.ensures in
-    responded s.args.map.now s.requires (octets k) (call s) s.args.out.now (length s.args.out.now) (fit e) g.if-n-gt-PAYLOAD.false (roomy r) t.if-c-eq2.true
-    n.count-frames.result w.write.new.out n.count-frames.ensures (o ∙ ap f (i.id.ensures ∙ same_id s.args.c s.args.payload.now))
+    let f : ℕ → List ℕ = λ x. splice c.args.out.now 0 (records_of x (sent c.args.c.signature c.args.c.transfer_id c.args.payload.now)) in
+    let o : c.write.new.out ≡ f c.id.result = c.write.ensures in
+    responded c.args.map.now c.requires (octets c) (call c) c.args.out.now (length c.args.out.now) (fit c) c.if-n-gt-PAYLOAD.false (roomy c) c.if-c-eq2.true
+    c.count-frames.result c.write.new.out c.count-frames.ensures (o ∙ ap f (c.id.ensures ∙ same_id c.args.c c.args.payload.now))
 
 pub number-requires : goal.number-requires
 unfolding call
 number-requires c =
-    let t = c in
-    let r = t in
-    let g = r in
-    let e = g in
-    ((e.requires, ranged e), (t.if-c-eq2.false, (g.if-n-gt-PAYLOAD.false, roomy r)))
+    ((c.requires, ranged c), (c.if-c-eq2.false, (c.if-n-gt-PAYLOAD.false, roomy c)))
 
 pub returns : goal.returns
 unfolding call
 returns c =
-    let n = c in
-    let t = n in
-    let r = t in
-    let g = r in
-    let e = g in
-    let k = e in
-    let s = k in
-    numbered s.args.map.now s.requires (octets k) (call s) s.args.out.now (length s.args.out.now) (fit e) g.if-n-gt-PAYLOAD.false (roomy r) t.if-c-eq2.false
-    (returned n.number.result n.number.new.map n.number.new.out.1.1.0) n.number.ensures
+    numbered c.args.map.now c.requires (octets c) (call c) c.args.out.now (length c.args.out.now) (fit c) c.if-n-gt-PAYLOAD.false (roomy c) c.if-c-eq2.false
+    (returned c.number.result c.number.new.map c.number.new.out.1.1.0) c.number.ensures

@@ -58,60 +58,42 @@ small d =
 
 pub key_of-k-requires : goal.key_of-k-requires
 unfolding call
-key_of-k-requires c = let s = c in key_in (call s) s.requires.0.1 s.requires.1.0
+key_of-k-requires c = key_in (call c) c.requires.0.1 c.requires.1.0
 
 pub place-i-requires : goal.place-i-requires
-place-i-requires c = let k = c in (long k, k.key_of-k.ensures.1)
+place-i-requires c = (long c, c.key_of-k.ensures.1)
 
 pub returns-then-i-gt31 : goal.returns-then-i-gt31
 unfolding call
 returns-then-i-gt31 c =
-    let p = c in
-    let k = p in
-    let s = k in
-    no_place s.args.map.now s.requires.0.0 (octets k) (call s) s.args.out.now p.place-i.result (place_is p) c.if-i-gt31.true
+    no_place c.args.map.now c.requires.0.0 (octets c) (call c) c.args.out.now c.place-i.result (place_is c) c.if-i-gt31.true
 
 pub drawn-transfer-requires : goal.drawn-transfer-requires
 drawn-transfer-requires c =
-    let p = c in
-    let k = p in
-    ((omega arith, long k), k.key_of-k.ensures.1)
+    ((omega arith, long c), c.key_of-k.ensures.1)
 
 pub overflow_add-transfer : goal.overflow_add-transfer
 overflow_add-transfer c = omega (arith, small c)
 
 pub store-requires : goal.store-requires
 store-requires c =
-    let p = c in
-    let k = p in
-    ((omega arith, long k), k.key_of-k.ensures.1)
+    ((omega arith, long c), c.key_of-k.ensures.1)
 
 pub id-requires : goal.id-requires
 unfolding call
 id-requires c =
-    let s = c in
-    without-payload s.args.c s.args.payload.now s.requires.0.1
+    without-payload c.args.c c.args.payload.now c.requires.0.1
 
 pub write-requires : goal.write-requires
 write-requires c =
-    let d = c in
-    let s = d in
-    (small d, (s.requires.1.1.0, s.requires.1.1.1))
+    (small c, (c.requires.1.1.0, c.requires.1.1.1))
 
 pub returns : goal.returns
 unfolding call
 returns c =
-    let w = c in
-    let i = w in
-    let t = i in
-    let d = t in
-    let p = d in
-    let y = p in
-    let k = y in
-    let s = k in
-    let r : ℕ → List ℕ = λ x. splice s.args.out.now 0 (records_of x (sent s.args.c.signature d.drawn-transfer.result s.args.payload.now)) in
-    let o : w.write.new.out ≡ r i.id.result = w.write.ensures in
-    stored s.args.map.now s.requires.0.0 (octets k) (call s) s.args.out.now p.place-i.result d.drawn-transfer.result c.count.result t.store.new.map w.write.new.out
-    (place_is p) (omega arith) (drawn-is d)
-    (t.store.ensures ∙ ap (λ x. with_slot s.args.map.now p.place-i.result (used x (next d.drawn-transfer.result) s.args.c.time)) y.key_of-k.ensures.0)
-    c.count.ensures (o ∙ ap r (i.id.ensures ∙ same_id s.args.c s.args.payload.now))
+    let r : ℕ → List ℕ = λ x. splice c.args.out.now 0 (records_of x (sent c.args.c.signature c.drawn-transfer.result c.args.payload.now)) in
+    let o : c.write.new.out ≡ r c.id.result = c.write.ensures in
+    stored c.args.map.now c.requires.0.0 (octets c) (call c) c.args.out.now c.place-i.result c.drawn-transfer.result c.count.result c.store.new.map c.write.new.out
+    (place_is c) (omega arith) (drawn-is c)
+    (c.store.ensures ∙ ap (λ x. with_slot c.args.map.now c.place-i.result (used x (next c.drawn-transfer.result) c.args.c.time)) c.key_of-k.ensures.0)
+    c.count.ensures (o ∙ ap r (c.id.ensures ∙ same_id c.args.c c.args.payload.now))

@@ -4,24 +4,18 @@ use Rattle.session.proofs.awaited.Goals as goal
 
 pub returns-then-f-c-3 : goal.returns-then-f-c-3
 returns-then-f-c-3 c =
-    let g = c in
-    let t = g in
-    let i = t in
-    let a = i.args in
-    awaited-rest a.c a.f i.if-f-c.true t.if-f-c-2.true g.if-f-c-3.true
+    let a = c.args in
+    awaited-rest a.c a.f c.if-f-c.true c.if-f-c-2.true c.if-f-c-3.true
 
 pub returns-else-f-c-3 : goal.returns-else-f-c-3
 returns-else-f-c-3 c =
-    let t = c in
-    let i = t in
-    let a = i.args in
-    awaited-toggle a.c a.f i.if-f-c.true t.if-f-c-2.true c.if-f-c-3.false
+    let a = c.args in
+    awaited-toggle a.c a.f c.if-f-c.true c.if-f-c-2.true c.if-f-c-3.false
 
 pub returns-else-f-c-2 : goal.returns-else-f-c-2
 returns-else-f-c-2 c =
-    let i = c in
-    let a = i.args in
-    awaited-transfer a.c a.f i.if-f-c.true c.if-f-c-2.false
+    let a = c.args in
+    awaited-transfer a.c a.f c.if-f-c.true c.if-f-c-2.false
 
 pub returns-else-f-c : goal.returns-else-f-c
 returns-else-f-c c =

@@ -19,31 +19,24 @@ two c =
 
 pub hand_out-requires : goal.hand_out-requires
 hand_out-requires c =
-    let s = c in
-    let l : s.args.len ≤ 512 = s.requires.1.1.1 c.if-f.true in omega arith
+    let l : c.args.len ≤ 512 = c.requires.1.1.1 c.if-f.true in omega arith
 
 pub returns-then-f : goal.returns-then-f
 returns-then-f c =
-    let o = c in
-    let t = o in
-    let a = t.args in
-    closes-whole a.f (take a.len a.s.now) a.out.now o.hand_out.result o.hand_out.new.1.1.1.1.0 t.if-f.true
-    (rw sub-zero at o.hand_out.ensures)
+    let a = c.args in
+    closes-whole a.f (take a.len a.s.now) a.out.now c.hand_out.result c.hand_out.new.1.1.1.1.0 c.if-f.true
+    (rw sub-zero at c.hand_out.ensures)
 
 pub hand_out-requires-then-sum_ok : goal.hand_out-requires-then-sum_ok
 hand_out-requires-then-sum_ok c = omega (arith, two c)
 
 pub returns-then-sum_ok : goal.returns-then-sum_ok
 returns-then-sum_ok c =
-    let o = c in
-    let t = o in
-    let n = t in
-    let a = n.args in
-    closes-behind a.f (take a.len a.s.now) a.out.now o.hand_out-then-sum_ok.result o.hand_out-then-sum_ok.new.1.1.1.1.0 n.if-f.false
-    t.sum_ok.result t.sum_ok.ensures t.if-sum_ok.true (rw (behind_sum a.s.now a.len (two t) (omega arith)) at o.hand_out-then-sum_ok.ensures)
+    let a = c.args in
+    closes-behind a.f (take a.len a.s.now) a.out.now c.hand_out-then-sum_ok.result c.hand_out-then-sum_ok.new.1.1.1.1.0 c.if-f.false
+    c.sum_ok.result c.sum_ok.ensures c.if-sum_ok.true (rw (behind_sum a.s.now a.len (two c) (omega arith)) at c.hand_out-then-sum_ok.ensures)
 
 pub returns : goal.returns
 returns c =
-    let n = c in
-    let a = n.args in
-    closes-differs a.f (take a.len a.s.now) a.out.now n.if-f.false c.sum_ok.result c.sum_ok.ensures c.if-sum_ok.false
+    let a = c.args in
+    closes-differs a.f (take a.len a.s.now) a.out.now c.if-f.false c.sum_ok.result c.sum_ok.ensures c.if-sum_ok.false

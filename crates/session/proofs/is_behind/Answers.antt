@@ -8,6 +8,5 @@ returns-then-f-c c = let a = c.args in rw (ne_eqb a.f.interface a.c.follows c.if
 
 pub returns : goal.returns
 returns c =
-    let t = c in
-    let a = t.args in
-    rw (eq-eqb a.f.interface a.c.follows t.if-f-c.false)
+    let a = c.args in
+    rw (eq-eqb a.f.interface a.c.follows c.if-f-c.false)

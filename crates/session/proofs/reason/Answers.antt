@@ -5,15 +5,8 @@ use Rattle.session.proofs.reason.Goals as goal
 
 pub returns-then-f : goal.returns-then-f
 returns-then-f c =
-    let n = c in
-    let k = n in
-    let s = k in
-    rw (c.first.ensures, n.first-heard.ensures) (reason-start s.args.c s.args.f s.requires k.if-f.true)
+    rw (c.first.ensures, c.first-heard.ensures) (reason-start c.args.c c.args.f c.requires c.if-f.true)
 
 pub returns : goal.returns
 returns c =
-    let e = c in
-    let n = e in
-    let k = n in
-    let s = k in
-    rw (c.first-2.ensures, e.first-heard-2.ensures, n.first-within.ensures) (reason-other s.args.c s.args.f s.requires k.if-f.false)
+    rw (c.first-2.ensures, c.first-heard-2.ensures, c.first-within.ensures) (reason-other c.args.c c.args.f c.requires c.if-f.false)

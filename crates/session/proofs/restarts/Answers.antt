@@ -6,21 +6,15 @@ use Rattle.session.proofs.restarts.Goals as goal
 
 pub returns-then-age_above : goal.returns-then-age_above
 returns-then-age_above c =
-    let o = c in
-    let a = o.args in
-    restarts-old a.c a.f o.age_above.result o.age_above.ensures c.if-age_above.true
+    let a = c.args in
+    restarts-old a.c a.f c.age_above.result c.age_above.ensures c.if-age_above.true
 
 pub returns-then-f : goal.returns-then-f
 returns-then-f c =
-    let t = c in
-    let n = t in
-    let o = n in
-    let a = o.args in
-    c.begins.ensures ∙ restarts-start a.c a.f o.age_above.result o.age_above.ensures n.if-age_above.false t.if-f.true
+    let a = c.args in
+    c.begins.ensures ∙ restarts-start a.c a.f c.age_above.result c.age_above.ensures c.if-age_above.false c.if-f.true
 
 pub returns : goal.returns
 returns c =
-    let n = c in
-    let o = n in
-    let a = o.args in
-    restarts-not a.c a.f o.age_above.result o.age_above.ensures n.if-age_above.false c.if-f.false
+    let a = c.args in
+    restarts-not a.c a.f c.age_above.result c.age_above.ensures c.if-age_above.false c.if-f.false

@@ -22,7 +22,5 @@ overflow_add-result c = let byte = c.shared_slice_known-3-1.given in omega (arit
 
 pub returns : goal.returns
 returns c =
-    let w = c in
-    let x = w in
-    let a = x.args in
-    rw (c.wide-2.ensures, w.wide.ensures, x.transfer_span-sum.ensures) (sum-at a.s.now a.len (omega arith) (omega arith) a.signature)
+    let a = c.args in
+    rw (c.wide-2.ensures, c.wide.ensures, c.transfer_span-sum.ensures) (sum-at a.s.now a.len (omega arith) (omega arith) a.signature)

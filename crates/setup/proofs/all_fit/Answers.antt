@@ -37,33 +37,22 @@ loop-j-smaller c = omega arith
 
 pub loop-j-preserved : goal.loop-j-preserved
 loop-j-preserved c =
-    let u = c in
-    let t = u in
-    let q = t in
-    let l = q in
-    let a = l.args in
+    let a = c.args in
     let f = record_at a.records.now in
-    sym (fit-turn f l.loop-j.j a.n (omega arith) true true (fits q ∙ t.if-type_fits.true) (sym u.key_is_new.ensures ∙ c.if-key_is_new.true)) ∙ l.loop-j.invariant
+    sym (fit-turn f c.loop-j.j a.n (omega arith) true true (fits c ∙ c.if-type_fits.true) (sym c.key_is_new.ensures ∙ c.if-key_is_new.true)) ∙ c.loop-j.invariant
 
 pub returns-else-key_is_new : goal.returns-else-key_is_new
 returns-else-key_is_new c =
-    let u = c in
-    let t = u in
-    let q = t in
-    let l = q in
-    let a = l.args in
+    let a = c.args in
     let f = record_at a.records.now in
-    sym (fit-turn f l.loop-j.j a.n (omega arith) true false (fits q ∙ t.if-type_fits.true) (sym u.key_is_new.ensures ∙ c.if-key_is_new.false)) ∙ l.loop-j.invariant
+    sym (fit-turn f c.loop-j.j a.n (omega arith) true false (fits c ∙ c.if-type_fits.true) (sym c.key_is_new.ensures ∙ c.if-key_is_new.false)) ∙ c.loop-j.invariant
 
 pub returns-else-type_fits : goal.returns-else-type_fits
 returns-else-type_fits c =
-    let q = c in
-    let l = q in
-    let a = l.args in
-    sym (fit-turn (record_at a.records.now) l.loop-j.j a.n (omega arith) false _ (fits q ∙ c.if-type_fits.false) refl) ∙ l.loop-j.invariant
+    let a = c.args in
+    sym (fit-turn (record_at a.records.now) c.loop-j.j a.n (omega arith) false _ (fits c ∙ c.if-type_fits.false) refl) ∙ c.loop-j.invariant
 
 pub returns : goal.returns
 returns c =
-    let l = c in
-    let a = l.args in
-    sym (ap all_fit (tab-end (record_at a.records.now) l.loop-j.j a.n (omega arith))) ∙ l.loop-j.invariant
+    let a = c.args in
+    sym (ap all_fit (tab-end (record_at a.records.now) c.loop-j.j a.n (omega arith))) ∙ c.loop-j.invariant

@@ -28,15 +28,13 @@ loop-i-smaller c = omega arith
 
 pub loop-i-preserved : goal.loop-i-preserved
 loop-i-preserved c =
-    let l = c in
-    (omega arith, (simp length-set l.loop-i.invariant.1.0, rw add-one (turn l.loop-i.state l.args.state.now l.loop-i.i (omega arith) l.loop-i.invariant.1.1)))
+    (omega arith, (simp length-set c.loop-i.invariant.1.0, rw add-one (turn c.loop-i.state c.args.state.now c.loop-i.i (omega arith) c.loop-i.invariant.1.1)))
 
 pub shape_of-state : goal.shape_of-state
 shape_of-state c = c.loop-i.invariant.1.0
 
 pub returns : goal.returns
 returns c =
-    let l = c in
-    let m = l.args.state.now in
-    let e : l.loop-i.i ≡ l.args.n = omega arith in
-    l.loop-i.invariant.1.1 ∙ ap (λ (i : ℕ). replicate i 0 ++ drop i m) e
+    let m = c.args.state.now in
+    let e : c.loop-i.i ≡ c.args.n = omega arith in
+    c.loop-i.invariant.1.1 ∙ ap (λ (i : ℕ). replicate i 0 ++ drop i m) e

@@ -24,13 +24,10 @@ key-requires c = omega arith
 
 pub returns-then-key-k : goal.returns-then-key-k
 returns-then-key-k c =
-    let q = c in
-    let l = q in
-    let k = l in
-    let a = k.args in
+    let a = c.args in
     let r = a.records.now in
-    sym (unlike-turn (record_at r) l.loop-i.i a.n (omega arith) (record_at r a.j) k.key-k.result q.key.result k.key-k.ensures q.key.ensures true
-    (eq-eqb q.key.result k.key-k.result c.if-key-k.true)) ∙ l.loop-i.invariant
+    sym (unlike-turn (record_at r) c.loop-i.i a.n (omega arith) (record_at r a.j) c.key-k.result c.key.result c.key-k.ensures c.key.ensures true
+    (eq-eqb c.key.result c.key-k.result c.if-key-k.true)) ∙ c.loop-i.invariant
 
 pub overflow_add-i-in-loop-i : goal.overflow_add-i-in-loop-i
 overflow_add-i-in-loop-i c = omega arith
@@ -40,16 +37,12 @@ loop-i-smaller c = omega arith
 
 pub loop-i-preserved : goal.loop-i-preserved
 loop-i-preserved c =
-    let q = c in
-    let l = q in
-    let k = l in
-    let a = k.args in
+    let a = c.args in
     let r = a.records.now in
-    sym (unlike-turn (record_at r) l.loop-i.i a.n (omega arith) (record_at r a.j) k.key-k.result q.key.result k.key-k.ensures q.key.ensures false
-    (ne_eqb q.key.result k.key-k.result c.if-key-k.false)) ∙ l.loop-i.invariant
+    sym (unlike-turn (record_at r) c.loop-i.i a.n (omega arith) (record_at r a.j) c.key-k.result c.key.result c.key-k.ensures c.key.ensures false
+    (ne_eqb c.key.result c.key-k.result c.if-key-k.false)) ∙ c.loop-i.invariant
 
 pub returns : goal.returns
 returns c =
-    let l = c in
-    let a = l.args in
-    sym (ap (unlike (record_at a.records.now a.j)) (tab-end (record_at a.records.now) l.loop-i.i a.n (omega arith))) ∙ l.loop-i.invariant
+    let a = c.args in
+    sym (ap (unlike (record_at a.records.now a.j)) (tab-end (record_at a.records.now) c.loop-i.i a.n (omega arith))) ∙ c.loop-i.invariant

@@ -19,9 +19,5 @@ stored m m' r j k q g e eq eg em = em ∙ ap₂ (with_subscription m j) (eq ∙ 
 
 pub returns : goal.returns
 returns c =
-    let p = c in
-    let s = p in
-    let g = s in
-    let k = g in
-    let a = k.args in
-    stored a.state.now p.put.new.state a.records.now a.j k.key-k.result s.state_key.result g.get_at-signature.result k.key-k.ensures s.state_key.ensures g.get_at-signature.ensures p.put.ensures
+    let a = c.args in
+    stored a.state.now c.put.new.state a.records.now a.j c.key-k.result c.state_key.result c.get_at-signature.result c.key-k.ensures c.state_key.ensures c.get_at-signature.ensures c.put.ensures

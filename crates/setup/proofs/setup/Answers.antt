@@ -38,19 +38,16 @@ returns-then-n-gt-SUBSCRIPTIONS c =
 
 pub returns-then-all_fit : goal.returns-then-all_fit
 returns-then-all_fit c =
-    let w = c in
-    let f = w in
-    let a = f.args in
+    let a = c.args in
     let r = a.subscriptions.now in
     done a.state.now a.own r (omega arith)
     (tests a.own r true true true true (eq-eqb (length r % subscription_record) 0 (omega arith)) (lt-ltb a.own 128 (omega arith)) (le-leb (length r / subscription_record) subscriptions_max (omega arith))
-    (sym f.all_fit.ensures ∙ w.if-all_fit.true)) w.write.new.state w.write.ensures
+    (sym c.all_fit.ensures ∙ c.if-all_fit.true)) c.write.new.state c.write.ensures
 
 pub returns : goal.returns
 returns c =
-    let f = c in
-    let a = f.args in
+    let a = c.args in
     let r = a.subscriptions.now in
     refused a.state.now a.own r (omega arith)
     (tests a.own r true true true false (eq-eqb (length r % subscription_record) 0 (omega arith)) (lt-ltb a.own 128 (omega arith)) (le-leb (length r / subscription_record) subscriptions_max (omega arith))
-    (sym f.all_fit.ensures ∙ c.if-all_fit.false))
+    (sym c.all_fit.ensures ∙ c.if-all_fit.false))

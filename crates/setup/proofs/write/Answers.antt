@@ -52,20 +52,16 @@ bounds-state-1 c = simp length-set (omega (arith, c.put_at.auto.0, c.clear.auto.
 pub loop-j-init : goal.loop-j-init
 unfolding tabulate
 loop-j-init c =
-    let k = c in
-    let l = c in
     let a = c.args in
     let m = a.state.now in
-    let z = l.clear.new.state in
-    let s = k.put_at.new.s in
-    ((omega arith, refl), started m z s a.own a.n l.clear.ensures k.put_at.ensures ∙ ap (laid_out a.own a.n []) (sym (behind m z s a.own a.n l.clear.ensures k.put_at.ensures)))
+    let z = c.clear.new.state in
+    let s = c.put_at.new.s in
+    ((omega arith, refl), started m z s a.own a.n c.clear.ensures c.put_at.ensures ∙ ap (laid_out a.own a.n []) (sym (behind m z s a.own a.n c.clear.ensures c.put_at.ensures)))
 
 pub put-requires : goal.put-requires
 put-requires c =
-    let l = c in
-    let k = c in
     let a = c.args in
-    omega (arith, as_long k.put_at.new.s a.own a.n, k.put_at.auto.0, c.clear.auto.0, l.loop-j.invariant.0.1)
+    omega (arith, as_long c.put_at.new.s a.own a.n, c.put_at.auto.0, c.clear.auto.0, c.loop-j.invariant.0.1)
 
 pub overflow_add-j : goal.overflow_add-j
 overflow_add-j c = omega arith
@@ -75,28 +71,21 @@ loop-j-smaller c = omega arith
 
 pub loop-j-preserved : goal.loop-j-preserved
 loop-j-preserved c =
-    let p = c in
-    let l = c in
     let a = c.args in
     let r = a.records.now in (
-      (omega arith, p.put.auto.0 ∙ l.loop-j.invariant.0.1),
-      p.put.ensures
-          ∙ ap (λ (x : List ℕ). written x l.loop-j.j (record_at r l.loop-j.j)) l.loop-j.invariant.1
-          ∙ laid-turn a.own a.n (record_at r) _ l.loop-j.j (omega (arith, c.loop-j-test.true, c.requires.1.0)),
+      (omega arith, c.put.auto.0 ∙ c.loop-j.invariant.0.1),
+      c.put.ensures
+          ∙ ap (λ (x : List ℕ). written x c.loop-j.j (record_at r c.loop-j.j)) c.loop-j.invariant.1
+          ∙ laid-turn a.own a.n (record_at r) _ c.loop-j.j (omega (arith, c.loop-j-test.true, c.requires.1.0)),
     )
 
 pub shape_of-state : goal.shape_of-state
 shape_of-state c =
-    let l = c in
-    let k = c in
     let a = c.args in
-    l.loop-j.invariant.0.1 ∙ as_long k.put_at.new.s a.own a.n ∙ k.put_at.auto.0 ∙ c.clear.auto.0
+    c.loop-j.invariant.0.1 ∙ as_long c.put_at.new.s a.own a.n ∙ c.put_at.auto.0 ∙ c.clear.auto.0
 
 pub returns : goal.returns
 returns c =
-    let l = c in
-    let k = c in
-    let q = c in
     let a = c.args in
-    finished a.own a.n l.loop-j.j a.records.now l.loop-j.state _ (drop size a.state.now) l.loop-j.invariant.1 (omega arith) (omega arith)
-    (behind a.state.now q.clear.new.state k.put_at.new.s a.own a.n q.clear.ensures k.put_at.ensures)
+    finished a.own a.n c.loop-j.j a.records.now c.loop-j.state _ (drop size a.state.now) c.loop-j.invariant.1 (omega arith) (omega arith)
+    (behind a.state.now c.clear.new.state c.put_at.new.s a.own a.n c.clear.ensures c.put_at.ensures)

@@ -131,16 +131,15 @@ unfolding subscription_key_at
 loop-j-preserved c =
     let k = c.get_u32-k in
     let m = c.mark-first in
-    let l = c in
-    let s = l.args.state.now in
-    let v = l.loop-j.invariant.1 in
+    let s = c.args.state.now in
+    let v = c.loop-j.invariant.1 in
     let t = sym c.key_fits.ensures ∙ c.if-key_fits.true in (
       (omega arith, omega arith),
       (
         ap length m.ensures.1 ∙ simp length-set v.0,
         (
-          rw add-one (marks-more s l.loop-j.j k.result k.ensures l.loop-j.marks v.0 v.1.0 _ m.ensures.1),
-          below_more _ _ v.1.1 (good s l.loop-j.j k.result k.ensures l.loop-j.marks v.0 v.1.0 m.result m.ensures.0 t),
+          rw add-one (marks-more s c.loop-j.j k.result k.ensures c.loop-j.marks v.0 v.1.0 _ m.ensures.1),
+          below_more _ _ v.1.1 (good s c.loop-j.j k.result k.ensures c.loop-j.marks v.0 v.1.0 m.result m.ensures.0 t),
         ),
       ),
     )
@@ -149,14 +148,12 @@ pub returns-else-key_fits : goal.returns-else-key_fits
 unfolding subscription_key_at
 returns-else-key_fits c =
     let k = c.get_u32-k in
-    let l = c in
-    let s = l.args.state.now in
-    sym (refused s l.loop-j.j k.result k.ensures (omega arith) c.mark-first.result (sym c.key_fits.ensures ∙ c.if-key_fits.false))
+    let s = c.args.state.now in
+    sym (refused s c.loop-j.j k.result k.ensures (omega arith) c.mark-first.result (sym c.key_fits.ensures ∙ c.if-key_fits.false))
 
 pub returns : goal.returns
 returns c =
-    let l = c in
-    let s = l.args.state.now in
-    let e : l.loop-j.j ≡ get_or s subscription_count_at 0 = omega arith in
-    let all = l.loop-j.invariant.1.1.1 in
+    let s = c.args.state.now in
+    let e : c.loop-j.j ≡ get_or s subscription_count_at 0 = omega arith in
+    let all = c.loop-j.invariant.1.1.1 in
     sym (whole s (subst (λ (n : ℕ). (i : ℕ) → i < n → Good s i) e all))

@@ -16,7 +16,5 @@ stored m m₁ m₂ j k g e₁ e₂ = e₂ ∙ ap (λ (x : List ℕ). splice x (s
 
 pub returns : goal.returns
 returns c =
-    let p = c in
-    let q = p in
-    let a = q.args in
-    stored a.state.now q.put_at.new.s p.put_at-2.new.s a.j a.k a.signature q.put_at.ensures p.put_at-2.ensures
+    let a = c.args in
+    stored a.state.now c.put_at.new.s c.put_at-2.new.s a.j a.k a.signature c.put_at.ensures c.put_at-2.ensures

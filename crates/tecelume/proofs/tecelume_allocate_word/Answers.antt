@@ -11,17 +11,15 @@ use Rattle.tecelume.proofs.tecelume_allocate_word.Goals as goal
 
 pub of_allocation-requires : goal.of_allocation-requires
 of_allocation-requires c =
-    let s = c in
-    let a = s.args in
+    let a = c.args in
     let call : Call =
     record {
       request = record { reserved = record { own = a.own; low = a.marks-low; high = a.marks-high }; source = a.source; time = a.time };
       payload = a.payload.now;
       out = a.out.now;
     } in
-    subst (λ (r : Result). Range r.answer) (sym s.allocate.ensures) (answers-in-range a.state.now call)
+    subst (λ (r : Result). Range r.answer) (sym c.allocate.ensures) (answers-in-range a.state.now call)
 
 pub returns : goal.returns
 returns c =
-    let s = c in
-    ap (λ (w : ℕ). entry w s.allocate.new.state s.allocate.new.out.1.1.0) c.of_allocation.ensures ∙ ap packed_allocation s.allocate.ensures
+    ap (λ (w : ℕ). entry w c.allocate.new.state c.allocate.new.out.1.1.0) c.of_allocation.ensures ∙ ap packed_allocation c.allocate.ensures

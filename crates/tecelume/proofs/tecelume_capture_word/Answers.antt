@@ -10,5 +10,4 @@ of_converted-requires c = c.capture.ensures.1
 
 pub returns : goal.returns
 returns c =
-    let s = c in
-    ap (λ (w : ℕ). record { word = w; out = s.capture.new.1.0 }) c.of_converted.ensures ∙ ap packed_conversion s.capture.ensures.0
+    ap (λ (w : ℕ). record { word = w; out = c.capture.new.1.0 }) c.of_converted.ensures ∙ ap packed_conversion c.capture.ensures.0

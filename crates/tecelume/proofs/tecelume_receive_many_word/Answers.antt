@@ -11,13 +11,11 @@ use Rattle.tecelume.proofs.tecelume_receive_many_word.Goals as goal
 
 pub of_progress-requires : goal.of_progress-requires
 of_progress-requires c =
-    let r = c in
-    let a = r.args in
+    let a = c.args in
     let few = used-few a.state.now a.records.now a.results.now a.out.now in
-    subst (λ (x : Called). used_in x.answer ≤ records_max) (sym r.receive_many.ensures) few
+    subst (λ (x : Called). used_in x.answer ≤ records_max) (sym c.receive_many.ensures) few
 
 pub returns : goal.returns
 returns c =
-    let r = c in
-    ap (λ (w : ℕ). record { word = w; state = r.receive_many.new.state; results = r.receive_many.new.results.1.0; out = r.receive_many.new.results.1.1.0 })
-    c.of_progress.ensures ∙ ap packed_many r.receive_many.ensures
+    ap (λ (w : ℕ). record { word = w; state = c.receive_many.new.state; results = c.receive_many.new.results.1.0; out = c.receive_many.new.results.1.1.0 })
+    c.of_progress.ensures ∙ ap packed_many c.receive_many.ensures

@@ -10,12 +10,10 @@ use Rattle.tecelume.proofs.tecelume_receive_word.Goals as goal
 
 pub of_answer-requires : goal.of_answer-requires
 of_answer-requires c =
-    let r = c in
-    let a = r.args in
+    let a = c.args in
     let fits = received-fits a.state.now (arrival_of a.id a.frame.now a.interface a.time) a.out.now in
-    subst (λ (x : Result). Fits x.answer) (sym r.receive.ensures) fits
+    subst (λ (x : Result). Fits x.answer) (sym c.receive.ensures) fits
 
 pub returns : goal.returns
 returns c =
-    let r = c in
-    ap (λ (w : ℕ). entry w r.receive.new.state r.receive.new.out.1.1.1.1.0) c.of_answer.ensures ∙ ap packed r.receive.ensures
+    ap (λ (w : ℕ). entry w c.receive.new.state c.receive.new.out.1.1.1.1.0) c.of_answer.ensures ∙ ap packed c.receive.ensures

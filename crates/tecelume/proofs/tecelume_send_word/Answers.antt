@@ -33,8 +33,7 @@ fits m c out = go (sound_map m) refl
 
 pub of_sent-requires : goal.of_sent-requires
 of_sent-requires c =
-    let s = c in
-    let a = s.args in
+    let a = c.args in
     let call : Call =
     record {
       own_val = a.own;
@@ -48,9 +47,8 @@ of_sent-requires c =
       transfer = a.transfer-id;
       discriminator = a.discriminator;
     } in
-    subst (λ (r : Result). ((dispatch_in r.answer).frames ≤ 74) × ((dispatch_in r.answer).transfer < 32)) (sym s.send.ensures) (fits a.map.now call a.out.now)
+    subst (λ (r : Result). ((dispatch_in r.answer).frames ≤ 74) × ((dispatch_in r.answer).transfer < 32)) (sym c.send.ensures) (fits a.map.now call a.out.now)
 
 pub returns : goal.returns
 returns c =
-    let s = c in
-    ap (λ (w : ℕ). entry w s.send.new.map s.send.new.out.1.1.0) c.of_sent.ensures ∙ ap packed_send s.send.ensures
+    ap (λ (w : ℕ). entry w c.send.new.map c.send.new.out.1.1.0) c.of_sent.ensures ∙ ap packed_send c.send.ensures

@@ -7,5 +7,4 @@ use Rattle.tecelume.proofs.tecelume_setup.Goals as goal
 
 pub returns : goal.returns
 returns c =
-    let s = c in
-    ap (λ (n : ℕ). record { number = n; state = s.setup.new.state }) c.number.ensures ∙ ap numbered s.setup.ensures
+    ap (λ (n : ℕ). record { number = n; state = c.setup.new.state }) c.number.ensures ∙ ap numbered c.setup.ensures

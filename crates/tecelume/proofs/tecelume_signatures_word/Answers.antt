@@ -7,5 +7,4 @@ use Rattle.tecelume.proofs.tecelume_signatures_word.Goals as goal
 
 pub returns : goal.returns
 returns c =
-    let s = c in
-    ap (λ (w : ℕ). signed w s.signatures.new.records.1.0 s.signatures.new.records.1.1.0) c.of_signatures.ensures ∙ ap packed_signatures s.signatures.ensures
+    ap (λ (w : ℕ). signed w c.signatures.new.records.1.0 c.signatures.new.records.1.1.0) c.of_signatures.ensures ∙ ap packed_signatures c.signatures.ensures

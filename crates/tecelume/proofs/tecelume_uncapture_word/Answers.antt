@@ -10,5 +10,4 @@ of_converted-requires c = c.uncapture.ensures.1
 
 pub returns : goal.returns
 returns c =
-    let s = c in
-    ap (λ (w : ℕ). record { word = w; out = s.uncapture.new.1.0 }) c.of_converted.ensures ∙ ap packed_conversion s.uncapture.ensures.0
+    ap (λ (w : ℕ). record { word = w; out = c.uncapture.new.1.0 }) c.of_converted.ensures ∙ ap packed_conversion c.uncapture.ensures.0

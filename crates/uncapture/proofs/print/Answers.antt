@@ -6,8 +6,5 @@ use Rattle.uncapture.proofs.print.Goals as goal
 
 pub lines-len-requires : goal.lines-len-requires
 lines-len-requires c =
-    let e = c in
-    let m = e in
-    let s = m in
-    prints s.args.records.now m.measure-m.result (length s.args.out.now) m.measure-m.ensures
-    (not-false m.measure-m.result.ok e.if-not-m.false) (omega (arith, s.requires.0, s.requires.1))
+    prints c.args.records.now c.measure-m.result (length c.args.out.now) c.measure-m.ensures
+    (not-false c.measure-m.result.ok c.if-not-m.false) (omega (arith, c.requires.0, c.requires.1))

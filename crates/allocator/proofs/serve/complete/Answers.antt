@@ -24,32 +24,24 @@ looked-up m g x u l e h = h ∙ ap (λ (k : ℕ). or_zero (node_of k (table_of m
 
 pub confirm-requires : goal.confirm-requires
 confirm-requires c =
-    let k = c in
-    let s = k in
-    let a = s.args in
-    let x = looked-up a.state.now a.g.now k.node_of-known.result _ s.requires.1 k.read.ensures k.node_of-known.ensures in
-    (long-enough a.state.now s.requires.0, known-low a.state.now a.q a.g.now a.p s.requires.0 k.node_of-known.result x)
+    let a = c.args in
+    let x = looked-up a.state.now a.g.now c.node_of-known.result _ c.requires.1 c.read.ensures c.node_of-known.ensures in
+    (long-enough a.state.now c.requires.0, known-low a.state.now a.q a.g.now a.p c.requires.0 c.node_of-known.result x)
 
 pub returns-then-known-ne0 : goal.returns-then-known-ne0
 returns-then-known-ne0 c =
-    let w = c in
-    let f = w in
-    let k = f in
-    let s = k in
-    let a = s.args in
-    let x = looked-up a.state.now a.g.now k.node_of-known.result _ s.requires.1 k.read.ensures k.node_of-known.ensures in
-    w.confirm.ensures
-    ∙ ap (λ (v : Verdict). performs v a.state.now a.q.time a.g.now a.out.now) (sym (is_known a.state.now a.q a.g.now a.p s.requires.0 k.node_of-known.result x f.if-known-ne0.true))
+    let a = c.args in
+    let x = looked-up a.state.now a.g.now c.node_of-known.result _ c.requires.1 c.read.ensures c.node_of-known.ensures in
+    c.confirm.ensures
+    ∙ ap (λ (v : Verdict). performs v a.state.now a.q.time a.g.now a.out.now) (sym (is_known a.state.now a.q a.g.now a.p c.requires.0 c.node_of-known.result x c.if-known-ne0.true))
 
 pub gathered_count-requires : goal.gathered_count-requires
-gathered_count-requires c = let s = c in let l = long-enough s.args.state.now s.requires.0 in (omega arith, omega arith)
+gathered_count-requires c = let l = long-enough c.args.state.now c.requires.0 in (omega arith, omega arith)
 
 pub returns-then-node-eq0 : goal.returns-then-node-eq0
 unfolding performs
 returns-then-node-eq0 c =
-    let w = c in
-    let f = w in
-    let v = f in
+    let v = c in
     let n = v in
     let i = n in
     let k = i in
@@ -57,28 +49,20 @@ returns-then-node-eq0 c =
     let a = s.args in
     let x = looked-up a.state.now a.g.now k.node_of-known.result _ s.requires.1 k.read.ensures k.node_of-known.ensures in
     let y = v.given-node.ensures.0 ∙ ap (λ (p : ℕ). or_zero (given (is_free a.q.reserved (table_of a.state.now)) p)) n.preferred.ensures.0 in
-    ap (λ (m : List ℕ). returned Exhausted m a.out.now) w.gathered_count.ensures
+    ap (λ (m : List ℕ). returned Exhausted m a.out.now) c.gathered_count.ensures
     ∙ ap (λ (v : Verdict). performs v a.state.now a.q.time a.g.now a.out.now)
-    (sym (none_left a.state.now a.q a.g.now a.p s.requires.0 (sym x ∙ i.if-known-ne0.false) v.given-node.result y f.if-node-eq0.true))
+    (sym (none_left a.state.now a.q a.g.now a.p s.requires.0 (sym x ∙ i.if-known-ne0.false) v.given-node.result y c.if-node-eq0.true))
 
 pub enter-requires : goal.enter-requires
 enter-requires c =
-    let f = c in
-    let v = f in
-    let n = v in
-    let i = n in
-    let k = i in
-    let s = k in
-    let a = s.args in
-    let x = looked-up a.state.now a.g.now k.node_of-known.result _ s.requires.1 k.read.ensures k.node_of-known.ensures in
-    let y = v.given-node.ensures.0 ∙ ap (λ (p : ℕ). or_zero (given (is_free a.q.reserved (table_of a.state.now)) p)) n.preferred.ensures.0 in
-    (s.requires.0, (room-left a.state.now a.q a.g.now a.p s.requires.0 (sym x ∙ i.if-known-ne0.false) v.given-node.result y f.if-node-eq0.false, (s.requires.1, v.given-node.ensures.1)))
+    let a = c.args in
+    let x = looked-up a.state.now a.g.now c.node_of-known.result _ c.requires.1 c.read.ensures c.node_of-known.ensures in
+    let y = c.given-node.ensures.0 ∙ ap (λ (p : ℕ). or_zero (given (is_free a.q.reserved (table_of a.state.now)) p)) c.preferred.ensures.0 in
+    (c.requires.0, (room-left a.state.now a.q a.g.now a.p c.requires.0 (sym x ∙ c.if-known-ne0.false) c.given-node.result y c.if-node-eq0.false, (c.requires.1, c.given-node.ensures.1)))
 
 pub returns : goal.returns
 returns c =
-    let w = c in
-    let f = w in
-    let v = f in
+    let v = c in
     let n = v in
     let i = n in
     let k = i in
@@ -86,6 +70,6 @@ returns c =
     let a = s.args in
     let x = looked-up a.state.now a.g.now k.node_of-known.result _ s.requires.1 k.read.ensures k.node_of-known.ensures in
     let y = v.given-node.ensures.0 ∙ ap (λ (p : ℕ). or_zero (given (is_free a.q.reserved (table_of a.state.now)) p)) n.preferred.ensures.0 in
-    w.enter.ensures
+    c.enter.ensures
     ∙ ap (λ (v : Verdict). performs v a.state.now a.q.time a.g.now a.out.now)
-    (sym (one_left a.state.now a.q a.g.now a.p s.requires.0 (sym x ∙ i.if-known-ne0.false) v.given-node.result y f.if-node-eq0.false))
+    (sym (one_left a.state.now a.q a.g.now a.p s.requires.0 (sym x ∙ i.if-known-ne0.false) v.given-node.result y c.if-node-eq0.false))

@@ -25,11 +25,9 @@ module _ (z s : List ℕ) (u g₁ g₂ : List ℕ) (n : ℕ) (e : g₁ ≡ splic
 
 pub returns : goal.returns
 returns c =
-    let k = c in
-    let s = k in
-    let a = s.args in
+    let a = c.args in
     let l = length-span a.state.now gathered_at a.n (omega arith) in
     let z : List ℕ = replicate 16 0 in
-    let b = both z (span a.state.now gathered_at a.n) a.u.now s.copy_span.new.dst k.copy_at.new.dst a.n s.copy_span.ensures k.copy_at.ensures l (omega arith) in
-    let b' = both_long z (span a.state.now gathered_at a.n) a.u.now s.copy_span.new.dst k.copy_at.new.dst a.n s.copy_span.ensures k.copy_at.ensures l (omega arith) in
+    let b = both z (span a.state.now gathered_at a.n) a.u.now c.copy_span.new.dst c.copy_at.new.dst a.n c.copy_span.ensures c.copy_at.ensures l (omega arith) in
+    let b' = both_long z (span a.state.now gathered_at a.n) a.u.now c.copy_span.new.dst c.copy_at.new.dst a.n c.copy_span.ensures c.copy_at.ensures l (omega arith) in
     (b, b')

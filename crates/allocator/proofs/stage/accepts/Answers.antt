@@ -6,18 +6,14 @@ use borrow.Author.Rules.{rules}
 use Rattle.allocator.proofs.stage.accepts.Goals as goal
 
 pub returns-then-stage-eq0 : goal.returns-then-stage-eq0
-returns-then-stage-eq0 c = let k = c in let a = k.args in refuses-none a.first a.k a.n (sym k.of-stage.ensures ∙ c.if-stage-eq0.true)
+returns-then-stage-eq0 c = let a = c.args in refuses-none a.first a.k a.n (sym c.of-stage.ensures ∙ c.if-stage-eq0.true)
 
 pub returns-then-stage-expected : goal.returns-then-stage-expected
 returns-then-stage-expected c =
-    let e = c in
-    let k = e in
-    let a = k.args in
-    refuses-other a.first a.k a.n (λ z. e.if-stage-eq0.false (k.of-stage.ensures ∙ z)) (λ z. c.if-stage-expected.true (k.of-stage.ensures ∙ z ∙ sym e.expected.ensures))
+    let a = c.args in
+    refuses-other a.first a.k a.n (λ z. c.if-stage-eq0.false (c.of-stage.ensures ∙ z)) (λ z. c.if-stage-expected.true (c.of-stage.ensures ∙ z ∙ sym c.expected.ensures))
 
 pub returns : goal.returns
 returns c =
-    let e = c in
-    let k = e in
-    let a = k.args in
-    by-room a.first a.k a.n (λ z. e.if-stage-eq0.false (k.of-stage.ensures ∙ z)) (sym k.of-stage.ensures ∙ c.if-stage-expected.false ∙ e.expected.ensures) (omega arith)
+    let a = c.args in
+    by-room a.first a.k a.n (λ z. c.if-stage-eq0.false (c.of-stage.ensures ∙ z)) (sym c.of-stage.ensures ∙ c.if-stage-expected.false ∙ c.expected.ensures) (omega arith)

@@ -8,10 +8,10 @@ pub returns-then-n-eq0 : goal.returns-then-n-eq0
 returns-then-n-eq0 c = expects-first c.args.n c.if-n-eq0.true
 
 pub returns-then-n : goal.returns-then-n
-returns-then-n c = let s = c in expects-third s.args.n s.if-n-eq0.false (omega arith)
+returns-then-n c = expects-third c.args.n c.if-n-eq0.false (omega arith)
 
 pub returns-then-n-ge-STAGE : goal.returns-then-n-ge-STAGE
-returns-then-n-ge-STAGE c = let s = c in expects-second s.args.n s.if-n-eq0.false (omega arith) (omega arith)
+returns-then-n-ge-STAGE c = expects-second c.args.n c.if-n-eq0.false (omega arith) (omega arith)
 
 pub returns : goal.returns
-returns c = let s = c in expects-none s.args.n s.if-n-eq0.false (omega arith) (omega arith)
+returns c = expects-none c.args.n c.if-n-eq0.false (omega arith) (omega arith)

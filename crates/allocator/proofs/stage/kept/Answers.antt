@@ -6,10 +6,10 @@ use borrow.Author.Rules.{rules}
 use Rattle.allocator.proofs.stage.kept.Goals as goal
 
 pub returns-then-t-since : goal.returns-then-t-since
-returns-then-t-since c = let k = c in let a = k.args in c.gathered_count.ensures ∙ kept-all a.state.now a.t (omega (arith, k.time-since.ensures))
+returns-then-t-since c = let a = c.args in c.gathered_count.ensures ∙ kept-all a.state.now a.t (omega (arith, c.time-since.ensures))
 
 pub returns-then-t-since-gt-FOLLOWUP_TIMEOUT : goal.returns-then-t-since-gt-FOLLOWUP_TIMEOUT
-returns-then-t-since-gt-FOLLOWUP_TIMEOUT c = let k = c in let a = k.args in kept-none a.state.now a.t (omega (arith, k.time-since.ensures))
+returns-then-t-since-gt-FOLLOWUP_TIMEOUT c = let a = c.args in kept-none a.state.now a.t (omega (arith, c.time-since.ensures))
 
 pub returns : goal.returns
-returns c = let k = c in let a = k.args in c.gathered_count-2.ensures ∙ kept-all a.state.now a.t (omega (arith, k.time-since.ensures))
+returns c = let a = c.args in c.gathered_count-2.ensures ∙ kept-all a.state.now a.t (omega (arith, c.time-since.ensures))

@@ -7,7 +7,7 @@ pub returns-then-p-eq0 : goal.returns-then-p-eq0
 returns-then-p-eq0 c = (prefers-any c.args.p c.if-p-eq0.true, omega arith)
 
 pub returns-then-p : goal.returns-then-p
-returns-then-p c = let s = c in (prefers-last s.args.p s.if-p-eq0.false (omega arith), omega arith)
+returns-then-p c = (prefers-last c.args.p c.if-p-eq0.false (omega arith), omega arith)
 
 pub returns : goal.returns
-returns c = let s = c in (prefers-it s.args.p s.if-p-eq0.false (omega arith), omega arith)
+returns c = (prefers-it c.args.p c.if-p-eq0.false (omega arith), omega arith)

@@ -8,6 +8,5 @@ returns-then-a-b c = less-low _ _ _ _ c.if-a-b.true
 
 pub returns : goal.returns
 returns c =
-    let t = c in
-    let a = t.args in
-    less-high a.a.low a.a.high a.b.low a.b.high (omega arith) (omega arith) t.if-a-b.false
+    let a = c.args in
+    less-high a.a.low a.a.high a.b.low a.b.high (omega arith) (omega arith) c.if-a-b.false

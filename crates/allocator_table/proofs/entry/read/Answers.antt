@@ -8,6 +8,5 @@ use Rattle.allocator_table.proofs.entry.read.Goals as goal
 
 pub returns : goal.returns
 returns c =
-    let k = c in
-    let a = k.args in
-    ap₂ (λ (x y : ℕ). x + 2 ^ 64 * y) k.get_at.ensures c.get_at-2.ensures ∙ halves a.s.now a.at (omega arith)
+    let a = c.args in
+    ap₂ (λ (x y : ℕ). x + 2 ^ 64 * y) c.get_at.ensures c.get_at-2.ensures ∙ halves a.s.now a.at (omega arith)

@@ -17,19 +17,15 @@ loop-i-init c = (omega arith, refl)
 
 pub node-requires : goal.node-requires
 node-requires c =
-    let k = c in
-    let p = k in
-    let l = long-enough p.args.state.now p.requires in
-    omega (arith, k.count-n.ensures, entries-few p.args.state.now p.requires)
+    let l = long-enough c.args.state.now c.requires in
+    omega (arith, c.count-n.ensures, entries-few c.args.state.now c.requires)
 
 pub returns-then-node : goal.returns-then-node
 returns-then-node c =
-    let l = c in
-    let k = l in
-    let a = k.args in
+    let a = c.args in
     let x = a.node in
     let e = eq-eqb _ x (sym c.node.ensures ∙ c.if-node.true) in
-    sym (held-hit a.state.now l.loop-i.i k.count-n.result (omega arith) x e) ∙ l.loop-i.invariant.1 ∙ ap (holds x) (by_count a.state.now k.count-n.result k.count-n.ensures)
+    sym (held-hit a.state.now c.loop-i.i c.count-n.result (omega arith) x e) ∙ c.loop-i.invariant.1 ∙ ap (holds x) (by_count a.state.now c.count-n.result c.count-n.ensures)
 
 pub overflow_add-i : goal.overflow_add-i
 overflow_add-i c = omega arith
@@ -39,17 +35,13 @@ loop-i-smaller c = omega arith
 
 pub loop-i-preserved : goal.loop-i-preserved
 loop-i-preserved c =
-    let l = c in
-    let k = l in
-    let a = k.args in
+    let a = c.args in
     let x = a.node in
     let e = ne_eqb _ x (λ z. c.if-node.false (c.node.ensures ∙ z)) in
-    (omega arith, rw add-one (sym (held-miss a.state.now l.loop-i.i k.count-n.result (omega arith) x e) ∙ l.loop-i.invariant.1))
+    (omega arith, rw add-one (sym (held-miss a.state.now c.loop-i.i c.count-n.result (omega arith) x e) ∙ c.loop-i.invariant.1))
 
 pub returns : goal.returns
 returns c =
-    let l = c in
-    let k = l in
-    let a = k.args in
+    let a = c.args in
     let x = a.node in
-    sym (held_none a.state.now l.loop-i.i k.count-n.result x (omega arith)) ∙ l.loop-i.invariant.1 ∙ ap (holds x) (by_count a.state.now k.count-n.result k.count-n.ensures)
+    sym (held_none a.state.now c.loop-i.i c.count-n.result x (omega arith)) ∙ c.loop-i.invariant.1 ∙ ap (holds x) (by_count a.state.now c.count-n.result c.count-n.ensures)

@@ -19,27 +19,20 @@ loop-i-init c = (omega arith, refl)
 
 pub unique_id-requires : goal.unique_id-requires
 unique_id-requires c =
-    let k = c in
-    let p = k in
-    let l = long-enough p.args.state.now p.requires in
-    omega (arith, k.count-n.ensures, entries-few p.args.state.now p.requires)
+    let l = long-enough c.args.state.now c.requires in
+    omega (arith, c.count-n.ensures, entries-few c.args.state.now c.requires)
 
 pub node-requires : goal.node-requires
 node-requires c =
-    let k = c in
-    let p = k in
-    let l = long-enough p.args.state.now p.requires in
-    omega (arith, k.count-n.ensures, entries-few p.args.state.now p.requires)
+    let l = long-enough c.args.state.now c.requires in
+    omega (arith, c.count-n.ensures, entries-few c.args.state.now c.requires)
 
 pub returns-then-is_same : goal.returns-then-is_same
 returns-then-is_same c =
-    let s = c in
-    let l = s in
-    let k = l in
-    let a = k.args in
+    let a = c.args in
     let u = number_of a.u in
-    let e = ap (λ (x : ℕ). eqb x u) (sym s.unique_id.ensures) ∙ sym s.is_same.ensures ∙ c.if-is_same.true in
-    c.node.ensures ∙ ap or_zero (sym (node-hit a.state.now l.loop-i.i k.count-n.result (omega arith) u e) ∙ l.loop-i.invariant.1 ∙ ap (node_of u) (by_count a.state.now k.count-n.result k.count-n.ensures))
+    let e = ap (λ (x : ℕ). eqb x u) (sym c.unique_id.ensures) ∙ sym c.is_same.ensures ∙ c.if-is_same.true in
+    c.node.ensures ∙ ap or_zero (sym (node-hit a.state.now c.loop-i.i c.count-n.result (omega arith) u e) ∙ c.loop-i.invariant.1 ∙ ap (node_of u) (by_count a.state.now c.count-n.result c.count-n.ensures))
 
 pub overflow_add-i : goal.overflow_add-i
 overflow_add-i c = omega arith
@@ -49,18 +42,13 @@ loop-i-smaller c = omega arith
 
 pub loop-i-preserved : goal.loop-i-preserved
 loop-i-preserved c =
-    let s = c in
-    let l = s in
-    let k = l in
-    let a = k.args in
+    let a = c.args in
     let u = number_of a.u in
-    let e = ap (λ (x : ℕ). eqb x u) (sym s.unique_id.ensures) ∙ sym s.is_same.ensures ∙ c.if-is_same.false in
-    (omega arith, rw add-one (sym (node-miss a.state.now l.loop-i.i k.count-n.result (omega arith) u e) ∙ l.loop-i.invariant.1))
+    let e = ap (λ (x : ℕ). eqb x u) (sym c.unique_id.ensures) ∙ sym c.is_same.ensures ∙ c.if-is_same.false in
+    (omega arith, rw add-one (sym (node-miss a.state.now c.loop-i.i c.count-n.result (omega arith) u e) ∙ c.loop-i.invariant.1))
 
 pub returns : goal.returns
 returns c =
-    let l = c in
-    let k = l in
-    let a = k.args in
+    let a = c.args in
     let u = number_of a.u in
-    ap or_zero (sym (node-none a.state.now l.loop-i.i k.count-n.result u (omega arith)) ∙ l.loop-i.invariant.1 ∙ ap (node_of u) (by_count a.state.now k.count-n.result k.count-n.ensures))
+    ap or_zero (sym (node-none a.state.now c.loop-i.i c.count-n.result u (omega arith)) ∙ c.loop-i.invariant.1 ∙ ap (node_of u) (by_count a.state.now c.count-n.result c.count-n.ensures))

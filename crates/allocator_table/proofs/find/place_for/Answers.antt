@@ -20,21 +20,16 @@ loop-i-init c = (omega arith, omega arith)
 
 pub unique_id-requires : goal.unique_id-requires
 unique_id-requires c =
-    let k = c in
-    let p = k in
-    let l = long-enough p.args.state.now p.requires in
-    omega (arith, k.count-n.ensures, entries-few p.args.state.now p.requires)
+    let l = long-enough c.args.state.now c.requires in
+    omega (arith, c.count-n.ensures, entries-few c.args.state.now c.requires)
 
 pub returns-then-not-is_less : goal.returns-then-not-is_less
 returns-then-not-is_less c =
-    let s = c in
-    let l = s in
-    let k = l in
-    let a = k.args in
+    let a = c.args in
     let u = number_of a.u in
-    let e = ap (λ (x : ℕ). ltb x u) (sym s.unique_id.ensures) ∙ sym s.is_less.ensures ∙ not-true _ c.if-not-is_less.true in
-    let z = place-hit a.state.now l.loop-i.i k.count-n.result (omega arith) u e in
-    omega (arith, l.loop-i.invariant.1, ap (place_for u) (by_count a.state.now k.count-n.result k.count-n.ensures))
+    let e = ap (λ (x : ℕ). ltb x u) (sym c.unique_id.ensures) ∙ sym c.is_less.ensures ∙ not-true _ c.if-not-is_less.true in
+    let z = place-hit a.state.now c.loop-i.i c.count-n.result (omega arith) u e in
+    omega (arith, c.loop-i.invariant.1, ap (place_for u) (by_count a.state.now c.count-n.result c.count-n.ensures))
 
 pub overflow_add-i : goal.overflow_add-i
 overflow_add-i c = omega arith
@@ -44,19 +39,14 @@ loop-i-smaller c = omega arith
 
 pub loop-i-preserved : goal.loop-i-preserved
 loop-i-preserved c =
-    let s = c in
-    let l = s in
-    let k = l in
-    let a = k.args in
+    let a = c.args in
     let u = number_of a.u in
-    let e = ap (λ (x : ℕ). ltb x u) (sym s.unique_id.ensures) ∙ sym s.is_less.ensures ∙ not-false _ c.if-not-is_less.false in
-    (omega arith, rw add-one (omega (arith, place-miss a.state.now l.loop-i.i k.count-n.result (omega arith) u e, l.loop-i.invariant.1)))
+    let e = ap (λ (x : ℕ). ltb x u) (sym c.unique_id.ensures) ∙ sym c.is_less.ensures ∙ not-false _ c.if-not-is_less.false in
+    (omega arith, rw add-one (omega (arith, place-miss a.state.now c.loop-i.i c.count-n.result (omega arith) u e, c.loop-i.invariant.1)))
 
 pub returns : goal.returns
 returns c =
-    let l = c in
-    let k = l in
-    let a = k.args in
+    let a = c.args in
     let u = number_of a.u in
-    let z = place_none a.state.now l.loop-i.i k.count-n.result u (omega arith) in
-    omega (arith, l.loop-i.invariant.1, ap (place_for u) (by_count a.state.now k.count-n.result k.count-n.ensures))
+    let z = place_none a.state.now c.loop-i.i c.count-n.result u (omega arith) in
+    omega (arith, c.loop-i.invariant.1, ap (place_for u) (by_count a.state.now c.count-n.result c.count-n.ensures))

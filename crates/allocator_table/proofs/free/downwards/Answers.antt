@@ -23,23 +23,20 @@ is_free-requires c = (c.requires.0, omega arith)
 
 pub returns-then-is_free : goal.returns-then-is_free
 returns-then-is_free c =
-    let l = c in
-    let a = l.args in
+    let a = c.args in
     let e = sym c.is_free.ensures ∙ c.if-is_free.true in
-    (ap or_zero (sym (high-hit (free a.state.now a.r) l.loop-n.n (l.loop-n.n - 1) (omega arith) e) ∙ l.loop-n.invariant.1), omega arith)
+    (ap or_zero (sym (high-hit (free a.state.now a.r) c.loop-n.n (c.loop-n.n - 1) (omega arith) e) ∙ c.loop-n.invariant.1), omega arith)
 
 pub loop-n-smaller : goal.loop-n-smaller
 loop-n-smaller c = omega arith
 
 pub loop-n-preserved : goal.loop-n-preserved
 loop-n-preserved c =
-    let l = c in
-    let a = l.args in
+    let a = c.args in
     let e = sym c.is_free.ensures ∙ c.if-is_free.false in
-    (omega arith, sym (high-miss (free a.state.now a.r) l.loop-n.n (l.loop-n.n - 1) (omega arith) e) ∙ l.loop-n.invariant.1)
+    (omega arith, sym (high-miss (free a.state.now a.r) c.loop-n.n (c.loop-n.n - 1) (omega arith) e) ∙ c.loop-n.invariant.1)
 
 pub returns : goal.returns
 returns c =
-    let l = c in
-    let a = l.args in
-    (ap or_zero (sym (high-none (free a.state.now a.r) l.loop-n.n (omega arith)) ∙ l.loop-n.invariant.1), omega arith)
+    let a = c.args in
+    (ap or_zero (sym (high-none (free a.state.now a.r) c.loop-n.n (omega arith)) ∙ c.loop-n.invariant.1), omega arith)

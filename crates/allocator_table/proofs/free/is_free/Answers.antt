@@ -17,13 +17,11 @@ returns-then-n-r c =
 
 pub returns-then-is_marked : goal.returns-then-is_marked
 returns-then-is_marked c =
-    let k = c in
-    let a = k.args in
-    free-marked a.r (table_of a.state.now) a.n (omega arith) (omega arith) k.if-n-r.false (sym k.is_marked.ensures ∙ c.if-is_marked.true)
+    let a = c.args in
+    free-marked a.r (table_of a.state.now) a.n (omega arith) (omega arith) c.if-n-r.false (sym c.is_marked.ensures ∙ c.if-is_marked.true)
 
 pub returns : goal.returns
 returns c =
-    let k = c in
-    let a = k.args in
+    let a = c.args in
     ap not c.is_held.ensures
-    ∙ free-held a.r (table_of a.state.now) a.n (omega arith) (omega arith) k.if-n-r.false (sym k.is_marked.ensures ∙ c.if-is_marked.false)
+    ∙ free-held a.r (table_of a.state.now) a.n (omega arith) (omega arith) c.if-n-r.false (sym c.is_marked.ensures ∙ c.if-is_marked.false)

@@ -30,10 +30,9 @@ overflow_sub-i c = omega arith
 
 pub entry_fits-requires : goal.entry_fits-requires
 entry_fits-requires c =
-    let l = c in
-    let a = l.args in
-    let e : l.loop-i.i ≡ suc (l.loop-i.i - 1) = omega arith in
-    (((omega arith, omega arith), omega arith), subst (λ (k : ℕ). Seen l.loop-i.seen (rest a.state.now k a.n)) e l.loop-i.invariant.1)
+    let a = c.args in
+    let e : c.loop-i.i ≡ suc (c.loop-i.i - 1) = omega arith in
+    (((omega arith, omega arith), omega arith), subst (λ (k : ℕ). Seen c.loop-i.seen (rest a.state.now k a.n)) e c.loop-i.invariant.1)
 
 pub returns-then-not-entry_fits : goal.returns-then-not-entry_fits
 returns-then-not-entry_fits c =
@@ -50,34 +49,29 @@ node-node-requires c = omega arith
 
 pub bounds-seen-node : goal.bounds-seen-node
 bounds-seen-node c =
-    let k = c in
-    let l = k in
-    let a = l.args in
-    let w = node-small (entry_at a.state.now (l.loop-i.i - 1)) _ (sym k.entry_fits.ensures ∙ not-false _ c.if-not-entry_fits.false) in
-    omega (arith, c.node-node.ensures, l.loop-i.invariant.1.long)
+    let a = c.args in
+    let w = node-small (entry_at a.state.now (c.loop-i.i - 1)) _ (sym c.entry_fits.ensures ∙ not-false _ c.if-not-entry_fits.false) in
+    omega (arith, c.node-node.ensures, c.loop-i.invariant.1.long)
 
 pub loop-i-smaller : goal.loop-i-smaller
 loop-i-smaller c = omega arith
 
 pub loop-i-preserved : goal.loop-i-preserved
 loop-i-preserved c =
-    let k = c in
-    let l = k in
-    let a = l.args in
+    let a = c.args in
     let m = a.state.now in
-    let j = l.loop-i.i - 1 in
-    let e : l.loop-i.i ≡ suc j = omega arith in
-    let f = sym k.entry_fits.ensures ∙ not-false _ c.if-not-entry_fits.false in
-    let s = ap (λ (i : ℕ). sound (rest m i a.n)) (sym e) ∙ l.loop-i.invariant.0.1 in
+    let j = c.loop-i.i - 1 in
+    let e : c.loop-i.i ≡ suc j = omega arith in
+    let f = sym c.entry_fits.ensures ∙ not-false _ c.if-not-entry_fits.false in
+    let s = ap (λ (i : ℕ). sound (rest m i a.n)) (sym e) ∙ c.loop-i.invariant.0.1 in
     let q = rest-step m j a.n (omega arith) in
-    let w = seen_more l.loop-i.seen (entry_at m j) (rest m (suc j) a.n) (omega (arith, node-small (entry_at m j) _ f)) (subst (λ (i : ℕ). Seen l.loop-i.seen (rest m i a.n)) e l.loop-i.invariant.1) in (
+    let w = seen_more c.loop-i.seen (entry_at m j) (rest m (suc j) a.n) (omega (arith, node-small (entry_at m j) _ f)) (subst (λ (i : ℕ). Seen c.loop-i.seen (rest m i a.n)) e c.loop-i.invariant.1) in (
       (omega arith, sound-step m j a.n (omega arith) ∙ ap₂ ◌&&◌ f s),
-      subst (λ (t : List ℕ). Seen t (rest m j a.n)) (ap (λ (x : ℕ). set l.loop-i.seen x 1) (sym c.node-node.ensures)) (subst (λ (t : List Entry). Seen (set l.loop-i.seen (node_at m j) 1) t) (sym q) w),
+      subst (λ (t : List ℕ). Seen t (rest m j a.n)) (ap (λ (x : ℕ). set c.loop-i.seen x 1) (sym c.node-node.ensures)) (subst (λ (t : List Entry). Seen (set c.loop-i.seen (node_at m j) 1) t) (sym q) w),
     )
 
 pub returns : goal.returns
 returns c =
-    let l = c in
-    let a = l.args in
-    let z : l.loop-i.i ≡ 0 = omega arith in
-    sym (ap (λ (i : ℕ). sound (rest a.state.now i a.n)) (sym z) ∙ l.loop-i.invariant.0.1) ∙ ap (λ (k : ℕ). sound (tabulate (entry_at a.state.now) 0 k)) (sub-zero a.n)
+    let a = c.args in
+    let z : c.loop-i.i ≡ 0 = omega arith in
+    sym (ap (λ (i : ℕ). sound (rest a.state.now i a.n)) (sym z) ∙ c.loop-i.invariant.0.1) ∙ ap (λ (k : ℕ). sound (tabulate (entry_at a.state.now) 0 k)) (sub-zero a.n)

@@ -14,20 +14,15 @@ returns-then-state-lt-SIZE c = fault-short c.args.state.now c.if-state-lt-SIZE.t
 
 pub returns-then-gathered_count-ge-UNIQUE_ID : goal.returns-then-gathered_count-ge-UNIQUE_ID
 returns-then-gathered_count-ge-UNIQUE_ID c =
-    let g = c in
-    fault-gathered g.args.state.now (omega arith) (omega (arith, g.gathered_count.ensures))
+    fault-gathered c.args.state.now (omega arith) (omega (arith, c.gathered_count.ensures))
 
 pub returns-then-n-gt-NODES : goal.returns-then-n-gt-NODES
 returns-then-n-gt-NODES c =
-    let k = c in
-    let g = k in
-    fault-entries g.args.state.now (omega arith) (omega (arith, g.gathered_count.ensures)) (omega (arith, k.count-n.ensures))
+    fault-entries c.args.state.now (omega arith) (omega (arith, c.gathered_count.ensures)) (omega (arith, c.count-n.ensures))
 
 pub returns : goal.returns
 unfolding table_of
 returns c =
-    let k = c in
-    let g = k in
-    let m = g.args.state.now in
-    c.entries_sound.ensures ∙ ap (λ (n : ℕ). sound (tabulate (entry_at m) 0 n)) k.count-n.ensures
-    ∙ by-table m (omega arith) (omega (arith, g.gathered_count.ensures)) (omega (arith, k.count-n.ensures))
+    let m = c.args.state.now in
+    c.entries_sound.ensures ∙ ap (λ (n : ℕ). sound (tabulate (entry_at m) 0 n)) c.count-n.ensures
+    ∙ by-table m (omega arith) (omega (arith, c.gathered_count.ensures)) (omega (arith, c.count-n.ensures))

@@ -27,16 +27,10 @@ count-n-requires c = long-enough _ c.requires.0.0
 
 pub entry_at-requires : goal.entry_at-requires
 entry_at-requires c =
-    let f = c in
-    let k = f in
-    let s = k in
-    let l = long-enough s.args.state.now s.requires.0.0 in
-    let q = place_in s.args.state.now (number_of f.read.result) in
-    ((l, (omega (arith, q, f.place_for-p.ensures, k.count-n.ensures), omega (arith, k.count-n.ensures))), (s.requires.1, k.count-n.ensures))
+    let l = long-enough c.args.state.now c.requires.0.0 in
+    let q = place_in c.args.state.now (number_of c.read.result) in
+    ((l, (omega (arith, q, c.place_for-p.ensures, c.count-n.ensures), omega (arith, c.count-n.ensures))), (c.requires.1, c.count-n.ensures))
 
 pub returns : goal.returns
 returns c =
-    let w = c in
-    let f = w in
-    let s = f in
-    placed s.args.state.now s.args.u.now w.entry_at.new.state f.place_for-p.result _ s.args.node f.place_for-p.ensures f.read.ensures s.requires.1 w.entry_at.ensures
+    placed c.args.state.now c.args.u.now c.entry_at.new.state c.place_for-p.result _ c.args.node c.place_for-p.ensures c.read.ensures c.requires.1 c.entry_at.ensures

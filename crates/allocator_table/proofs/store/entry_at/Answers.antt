@@ -31,11 +31,6 @@ module _ (m : List ℕ) (p n node : ℕ) (u m₁ m₂ m₃ m₄ : List ℕ) (is 
 
 pub returns : goal.returns
 returns c =
-    let w₄ = c in
-    let w₃ = w₄ in
-    let w₂ = w₃ in
-    let w₁ = w₂ in
-    let s = w₁ in
-    let a = s.args in
-    stored a.state.now a.p a.n a.node a.u.now w₁.move_up.new.state w₂.copy_at.new.dst w₃.put_at.new.s w₄.put_at-2.new.s s.requires.1.1
-    w₁.move_up.ensures w₂.copy_at.ensures w₃.put_at.ensures w₄.put_at-2.ensures
+    let a = c.args in
+    stored a.state.now a.p a.n a.node a.u.now c.move_up.new.state c.copy_at.new.dst c.put_at.new.s c.put_at-2.new.s c.requires.1.1
+    c.move_up.ensures c.copy_at.ensures c.put_at.ensures c.put_at-2.ensures

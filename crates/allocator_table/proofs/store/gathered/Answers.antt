@@ -10,6 +10,4 @@ use Rattle.allocator_table.proofs.store.gathered.Goals as goal
 pub returns : goal.returns
 unfolding with_gathered
 returns c =
-    let w = c in
-    let g = w in
-    w.copy_at.ensures ∙ ap (λ (x : List ℕ). splice x gathered_at g.args.g.now) g.gathered_count.ensures
+    c.copy_at.ensures ∙ ap (λ (x : List ℕ). splice x gathered_at c.args.g.now) c.gathered_count.ensures

@@ -35,14 +35,13 @@ loop-i-smaller c = omega arith
 
 pub loop-i-preserved : goal.loop-i-preserved
 loop-i-preserved c =
-    let l = c in
-    let a = l.args in
-    let j = l.loop-i.i - 1 in (
+    let a = c.args in
+    let j = c.loop-i.i - 1 in (
       omega arith,
       (
-        simp length-set l.loop-i.invariant.1.0,
-        ap (λ (x : List ℕ). set x (a.at + entry_size + j) (get_or x (a.at + j) 0)) l.loop-i.invariant.1.1
-            ∙ moved_more a.state.now a.at entry_size a.n (omega arith) l.loop-i.i j (omega arith) (omega arith) (lit< tt),
+        simp length-set c.loop-i.invariant.1.0,
+        ap (λ (x : List ℕ). set x (a.at + entry_size + j) (get_or x (a.at + j) 0)) c.loop-i.invariant.1.1
+            ∙ moved_more a.state.now a.at entry_size a.n (omega arith) c.loop-i.i j (omega arith) (omega arith) (lit< tt),
       ),
     )
 
@@ -51,6 +50,5 @@ shape_of-state c = c.loop-i.invariant.1.0
 
 pub returns : goal.returns
 returns c =
-    let l = c in
-    let a = l.args in
-    l.loop-i.invariant.1.1 ∙ moved_all a.state.now a.at entry_size a.n (omega arith) l.loop-i.i (omega arith)
+    let a = c.args in
+    c.loop-i.invariant.1.1 ∙ moved_all a.state.now a.at entry_size a.n (omega arith) c.loop-i.i (omega arith)

@@ -35,40 +35,36 @@ returns-then-k-eq0 c =
 
 pub patch-x-requires : goal.patch-x-requires
 patch-x-requires c =
-    let l = c in
-    let a = l.args in
-    (omega (arith, c.wide.ensures, l.slice_known-1.given (a.at / 8)), (omega arith, low l.lowest-low.result a.v a.k l.lowest-low.ensures))
+    let a = c.args in
+    (omega (arith, c.wide.ensures, c.slice_known-1.given (a.at / 8)), (omega arith, low c.lowest-low.result a.v a.k c.lowest-low.ensures))
 
 pub returns-then-end-le8 : goal.returns-then-end-le8
 returns-then-end-le8 c =
-    let l = c in
-    let a = l.args in
+    let a = c.args in
     let s = a.s.now in
-    let o : Octets s = octets-all s (λ i. omega (arith, l.slice_known-1.given i)) in
-    patch-one s a.at a.k l.lowest-low.result o (omega arith) (omega arith) (omega arith) (low l.lowest-low.result a.v a.k l.lowest-low.ensures) c.patch-x.result
-    (c.patch-x.ensures ∙ ap (λ (b : ℕ). patched b (8 - (a.at % 8 + a.k)) a.k l.lowest-low.result) c.wide.ensures)
-    ∙ ap (λ (d : List Bool). store s a.at d) (digits_low l.lowest-low.result a.v a.k l.lowest-low.ensures)
+    let o : Octets s = octets-all s (λ i. omega (arith, c.slice_known-1.given i)) in
+    patch-one s a.at a.k c.lowest-low.result o (omega arith) (omega arith) (omega arith) (low c.lowest-low.result a.v a.k c.lowest-low.ensures) c.patch-x.result
+    (c.patch-x.ensures ∙ ap (λ (b : ℕ). patched b (8 - (a.at % 8 + a.k)) a.k c.lowest-low.result) c.wide.ensures)
+    ∙ ap (λ (d : List Bool). store s a.at d) (digits_low c.lowest-low.result a.v a.k c.lowest-low.ensures)
 
 pub patch-x-requires-2 : goal.patch-x-requires-2
 patch-x-requires-2 c =
-    let l = c in
-    let a = l.args in
-    let g = l.slice_known-1.given in
-    (omega (arith, c.pair.ensures, g (a.at / 8), g (a.at / 8 + 1)), (omega arith, low l.lowest-low.result a.v a.k l.lowest-low.ensures))
+    let a = c.args in
+    let g = c.slice_known-1.given in
+    (omega (arith, c.pair.ensures, g (a.at / 8), g (a.at / 8 + 1)), (omega arith, low c.lowest-low.result a.v a.k c.lowest-low.ensures))
 
 pub bounds-s-j : goal.bounds-s-j
 bounds-s-j c = simp length-set (omega arith)
 
 pub returns : goal.returns
 returns c =
-    let l = c in
-    let a = l.args in
+    let a = c.args in
     let s = a.s.now in
     let i = a.at / 8 in
-    let g = l.slice_known-1.given in
+    let g = c.slice_known-1.given in
     let o : Octets s = octets-all s (λ j. omega (arith, g j)) in
     ap (λ (j : ℕ). set (set s i (c.patch-x-2.result / 256 % 256)) j (c.patch-x-2.result % 256)) (add-one i)
-    ∙ patch-two s a.at a.k l.lowest-low.result o (omega arith) (omega arith) (omega arith) (low l.lowest-low.result a.v a.k l.lowest-low.ensures) c.patch-x-2.result
-    (c.patch-x-2.ensures ∙ ap (λ (b : ℕ). patched b (16 - (a.at % 8 + a.k)) a.k l.lowest-low.result) (c.pair.ensures ∙ ap (λ (n : ℕ). get_or s i 0 * 256 + get_or s n 0) (add-one i)))
+    ∙ patch-two s a.at a.k c.lowest-low.result o (omega arith) (omega arith) (omega arith) (low c.lowest-low.result a.v a.k c.lowest-low.ensures) c.patch-x-2.result
+    (c.patch-x-2.ensures ∙ ap (λ (b : ℕ). patched b (16 - (a.at % 8 + a.k)) a.k c.lowest-low.result) (c.pair.ensures ∙ ap (λ (n : ℕ). get_or s i 0 * 256 + get_or s n 0) (add-one i)))
     (omega (arith, g (suc i)))
-    ∙ ap (λ (d : List Bool). store s a.at d) (digits_low l.lowest-low.result a.v a.k l.lowest-low.ensures)
+    ∙ ap (λ (d : List Bool). store s a.at d) (digits_low c.lowest-low.result a.v a.k c.lowest-low.ensures)

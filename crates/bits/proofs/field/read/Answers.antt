@@ -58,8 +58,7 @@ octet-v-requires c = omega arith
 
 pub loop-i-init : goal.loop-i-init
 loop-i-init c =
-    let o = c in
-    let a = o.args in
+    let a = c.args in
     (omega arith, start (a.w / 8) (a.w % 8) c.octet-v.result (drop (a.at + a.w / 8 * 8) (unpack a.s.now)) c.octet-v.ensures)
 
 pub overflow_sub-i : goal.overflow_sub-i
@@ -67,9 +66,8 @@ overflow_sub-i c = omega arith
 
 pub overflow_mul-v : goal.overflow_mul-v
 overflow_mul-v c =
-    let l = c in
-    let a = l.args in
-    let b : l.loop-i.v < 2 ^ 56 = below (unpack a.s.now) a.at (a.w / 8) l.loop-i.i (a.w % 8) l.loop-i.v (omega arith) (omega arith) (omega arith) (rw length-unpack (omega arith)) l.loop-i.invariant.1 in
+    let a = c.args in
+    let b : c.loop-i.v < 2 ^ 56 = below (unpack a.s.now) a.at (a.w / 8) c.loop-i.i (a.w % 8) c.loop-i.v (omega arith) (omega arith) (omega arith) (rw length-unpack (omega arith)) c.loop-i.invariant.1 in
     omega arith
 
 pub overflow_mul-i : goal.overflow_mul-i
@@ -83,11 +81,10 @@ octet-requires c = omega arith
 
 pub overflow_add-v : goal.overflow_add-v
 overflow_add-v c =
-    let l = c in
-    let a = l.args in
+    let a = c.args in
     let u = unpack a.s.now in
-    let b : l.loop-i.v < 2 ^ 56 = below u a.at (a.w / 8) l.loop-i.i (a.w % 8) l.loop-i.v (omega arith) (omega arith) (omega arith) (rw length-unpack (omega arith)) l.loop-i.invariant.1 in
-    let o : c.octet.result < 256 = octet-lt u (a.at + (l.loop-i.i - 1) * 8) c.octet.result (rw length-unpack (omega arith)) c.octet.ensures in
+    let b : c.loop-i.v < 2 ^ 56 = below u a.at (a.w / 8) c.loop-i.i (a.w % 8) c.loop-i.v (omega arith) (omega arith) (omega arith) (rw length-unpack (omega arith)) c.loop-i.invariant.1 in
+    let o : c.octet.result < 256 = octet-lt u (a.at + (c.loop-i.i - 1) * 8) c.octet.result (rw length-unpack (omega arith)) c.octet.ensures in
     omega arith
 
 pub loop-i-smaller : goal.loop-i-smaller
@@ -95,12 +92,10 @@ loop-i-smaller c = omega arith
 
 pub loop-i-preserved : goal.loop-i-preserved
 loop-i-preserved c =
-    let l = c in
-    let a = l.args in
-    (omega arith, turn (unpack a.s.now) a.at (a.w / 8) l.loop-i.i (a.w % 8) l.loop-i.v (omega arith) (omega arith) (omega arith) (rw length-unpack (omega arith)) l.loop-i.invariant.1 c.octet.result c.octet.ensures)
+    let a = c.args in
+    (omega arith, turn (unpack a.s.now) a.at (a.w / 8) c.loop-i.i (a.w % 8) c.loop-i.v (omega arith) (omega arith) (omega arith) (rw length-unpack (omega arith)) c.loop-i.invariant.1 c.octet.result c.octet.ensures)
 
 pub returns : goal.returns
 returns c =
-    let l = c in
-    let a = l.args in
-    end (unpack a.s.now) a.at a.w l.loop-i.i l.loop-i.v (omega arith) l.loop-i.invariant.1
+    let a = c.args in
+    end (unpack a.s.now) a.at a.w c.loop-i.i c.loop-i.v (omega arith) c.loop-i.invariant.1

@@ -55,15 +55,13 @@ loop-i-smaller c = omega arith
 
 pub loop-i-preserved : goal.loop-i-preserved
 loop-i-preserved c =
-    let p = c in
-    let l = p in
-    let a = l.args in
-    let n = l.loop-i.invariant.1 in
-    let e = p.put_octet.ensures in (
+    let a = c.args in
+    let n = c.loop-i.invariant.1 in
+    let e = c.put_octet.ensures in (
       omega arith,
       (
-        ap (λ (z : List ℕ). length z) e ∙ length-store l.loop-i.s (a.at + l.loop-i.i * 8) (digits 8 l.loop-i.x) ∙ n.0,
-        turn l.loop-i.s p.put_octet.new.s (store a.s.now a.at (octets (a.w / 8) (a.w % 8) a.v)) a.at (a.w / 8) l.loop-i.i (a.w % 8) l.loop-i.x (omega arith) (omega arith) e n.1,
+        ap (λ (z : List ℕ). length z) e ∙ length-store c.loop-i.s (a.at + c.loop-i.i * 8) (digits 8 c.loop-i.x) ∙ n.0,
+        turn c.loop-i.s c.put_octet.new.s (store a.s.now a.at (octets (a.w / 8) (a.w % 8) a.v)) a.at (a.w / 8) c.loop-i.i (a.w % 8) c.loop-i.x (omega arith) (omega arith) e n.1,
       ),
     )
 
@@ -78,15 +76,11 @@ put_octet-requires-2 c = omega arith
 
 pub shape_of-s : goal.shape_of-s
 shape_of-s c =
-    let p = c in
-    let l = p in
-    let a = l.args in
-    ap (λ (z : List ℕ). length z) p.put_octet-2.ensures ∙ length-store l.loop-i.s (a.at + a.w / 8 * 8) (digits (a.w % 8) l.loop-i.x) ∙ l.loop-i.invariant.1.0
+    let a = c.args in
+    ap (λ (z : List ℕ). length z) c.put_octet-2.ensures ∙ length-store c.loop-i.s (a.at + a.w / 8 * 8) (digits (a.w % 8) c.loop-i.x) ∙ c.loop-i.invariant.1.0
 
 pub returns : goal.returns
 unfolding to_bits
 returns c =
-    let p = c in
-    let l = p in
-    let a = l.args in
-    last l.loop-i.s p.put_octet-2.new.s (store a.s.now a.at (octets (a.w / 8) (a.w % 8) a.v)) a.at (a.w / 8) l.loop-i.i (a.w % 8) l.loop-i.x (omega arith) p.put_octet-2.ensures l.loop-i.invariant.1.1
+    let a = c.args in
+    last c.loop-i.s c.put_octet-2.new.s (store a.s.now a.at (octets (a.w / 8) (a.w % 8) a.v)) a.at (a.w / 8) c.loop-i.i (a.w % 8) c.loop-i.x (omega arith) c.put_octet-2.ensures c.loop-i.invariant.1.1

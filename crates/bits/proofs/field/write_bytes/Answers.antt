@@ -8,8 +8,6 @@ use Rattle.bits.proofs.field.write_bytes.Goals as goal
 
 pub returns : goal.returns
 returns c =
-    let o = c in
-    let k = o in
-    let a = k.args in
-    o.copy_at.ensures ∙ splice-store a.s.now a.at a.src.now (octets-all a.s.now (λ i. omega (arith, k.slice_known-1.given i)))
-    (octets-all a.src.now (λ i. omega (arith, k.shared_slice_known-1.given i))) (omega arith)
+    let a = c.args in
+    c.copy_at.ensures ∙ splice-store a.s.now a.at a.src.now (octets-all a.s.now (λ i. omega (arith, c.slice_known-1.given i)))
+    (octets-all a.src.now (λ i. omega (arith, c.shared_slice_known-1.given i))) (omega arith)

@@ -46,9 +46,8 @@ overflow_sub-i c = omega arith
 
 pub overflow_mul-v : goal.overflow_mul-v
 overflow_mul-v c =
-    let l = c in
-    let p = l.args.s.now in
-    let r : l.loop-i.v * 256 + 0 < 2 ^ 64 = room p l.loop-i.i l.loop-i.v 0 (omega arith) (omega arith) l.loop-i.invariant.1.1 (lit< tt) (omega arith) in
+    let p = c.args.s.now in
+    let r : c.loop-i.v * 256 + 0 < 2 ^ 64 = room p c.loop-i.i c.loop-i.v 0 (omega arith) (omega arith) c.loop-i.invariant.1.1 (lit< tt) (omega arith) in
     omega arith
 
 pub bounds-s-i : goal.bounds-s-i
@@ -56,10 +55,9 @@ bounds-s-i c = omega arith
 
 pub overflow_add-v : goal.overflow_add-v
 overflow_add-v c =
-    let l = c in
-    let p = l.args.s.now in
-    let b : c.wide.result < 256 = omega (arith, c.wide.ensures, c.shared_slice_known-in-loop-i-1.given (l.loop-i.i - 1)) in
-    let r : l.loop-i.v * 256 + c.wide.result < 2 ^ 64 = room p l.loop-i.i l.loop-i.v c.wide.result (omega arith) (omega arith) l.loop-i.invariant.1.1 b (omega arith) in
+    let p = c.args.s.now in
+    let b : c.wide.result < 256 = omega (arith, c.wide.ensures, c.shared_slice_known-in-loop-i-1.given (c.loop-i.i - 1)) in
+    let r : c.loop-i.v * 256 + c.wide.result < 2 ^ 64 = room p c.loop-i.i c.loop-i.v c.wide.result (omega arith) (omega arith) c.loop-i.invariant.1.1 b (omega arith) in
     omega arith
 
 pub loop-i-smaller : goal.loop-i-smaller
@@ -67,18 +65,16 @@ loop-i-smaller c = omega arith
 
 pub loop-i-preserved : goal.loop-i-preserved
 loop-i-preserved c =
-    let l = c in
-    let p = l.args.s.now in
-    let b : c.wide.result < 256 = omega (arith, c.wide.ensures, c.shared_slice_known-in-loop-i-1.given (l.loop-i.i - 1)) in (
+    let p = c.args.s.now in
+    let b : c.wide.result < 256 = omega (arith, c.wide.ensures, c.shared_slice_known-in-loop-i-1.given (c.loop-i.i - 1)) in (
       omega arith,
       (
-        number p l.loop-i.i l.loop-i.v c.wide.result (omega arith) (omega arith) l.loop-i.invariant.1.1 b l.loop-i.invariant.1.0 c.wide.ensures,
-        below p l.loop-i.i l.loop-i.v c.wide.result (omega arith) (omega arith) l.loop-i.invariant.1.1 b,
+        number p c.loop-i.i c.loop-i.v c.wide.result (omega arith) (omega arith) c.loop-i.invariant.1.1 b c.loop-i.invariant.1.0 c.wide.ensures,
+        below p c.loop-i.i c.loop-i.v c.wide.result (omega arith) (omega arith) c.loop-i.invariant.1.1 b,
       ),
     )
 
 pub returns : goal.returns
 returns c =
-    let l = c in
-    let z : l.loop-i.i ≡ 0 = omega arith in
-    l.loop-i.invariant.1.0 ∙ ap (λ (n : ℕ). le (drop n l.args.s.now)) z
+    let z : c.loop-i.i ≡ 0 = omega arith in
+    c.loop-i.invariant.1.0 ∙ ap (λ (n : ℕ). le (drop n c.args.s.now)) z

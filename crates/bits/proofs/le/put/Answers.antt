@@ -43,19 +43,17 @@ pub loop-i-smaller : goal.loop-i-smaller
 loop-i-smaller c = omega arith
 
 pub loop-i-preserved : goal.loop-i-preserved
-loop-i-preserved c =
-    let l = c in (
-      omega arith,
-      (
-        simp length-set l.loop-i.invariant.1.0,
-        rw add-one (turn l.loop-i.s (length l.args.s.now) l.loop-i.i l.loop-i.x (omega arith) l.loop-i.invariant.1.0 ∙ l.loop-i.invariant.1.1),
-      ),
-    )
+loop-i-preserved c = (
+  omega arith,
+  (
+    simp length-set c.loop-i.invariant.1.0,
+    rw add-one (turn c.loop-i.s (length c.args.s.now) c.loop-i.i c.loop-i.x (omega arith) c.loop-i.invariant.1.0 ∙ c.loop-i.invariant.1.1),
+  ),
+)
 
 pub shape_of-s : goal.shape_of-s
 shape_of-s c = c.loop-i.invariant.1.0
 
 pub returns : goal.returns
 returns c =
-    let l = c in
-    last l.loop-i.s (length l.args.s.now) l.loop-i.i l.loop-i.x l.args.v (omega arith) l.loop-i.invariant.1.0 l.loop-i.invariant.1.1
+    last c.loop-i.s (length c.args.s.now) c.loop-i.i c.loop-i.x c.args.v (omega arith) c.loop-i.invariant.1.0 c.loop-i.invariant.1.1

@@ -12,10 +12,8 @@ use Rattle.bits.proofs.le.put_u64.Goals as goal
 
 pub returns : goal.returns
 returns c =
-    let two = c in
-    let one = two in
-    let a = one.args in
+    let a = c.args in
     let m = a.s.now in
-    splice-next m one.put_u32.new.s two.put_u32-2.new.s a.at 4 (le_bytes 4 (a.v % 4294967296)) (le_bytes 4 (a.v / 4294967296)) (omega arith)
-    (length-le_bytes 4 (a.v % 4294967296)) one.put_u32.ensures two.put_u32-2.ensures
+    splice-next m c.put_u32.new.s c.put_u32-2.new.s a.at 4 (le_bytes 4 (a.v % 4294967296)) (le_bytes 4 (a.v / 4294967296)) (omega arith)
+    (length-le_bytes 4 (a.v % 4294967296)) c.put_u32.ensures c.put_u32-2.ensures
     ∙ ap (λ (x : List ℕ). splice m a.at x) (sym (le_bytes-four 4 a.v))

@@ -29,13 +29,11 @@ loop-i-smaller c = omega arith
 
 pub loop-i-preserved : goal.loop-i-preserved
 loop-i-preserved c =
-    let l = c in
-    (omega arith, (simp length-set l.loop-i.invariant.1.0, rw add-one (turn l.loop-i.dst l.args.src.now l.loop-i.i (omega arith) (omega arith) l.loop-i.invariant.1.1)))
+    (omega arith, (simp length-set c.loop-i.invariant.1.0, rw add-one (turn c.loop-i.dst c.args.src.now c.loop-i.i (omega arith) (omega arith) c.loop-i.invariant.1.1)))
 
 pub shape_of-dst : goal.shape_of-dst
 shape_of-dst c = c.loop-i.invariant.1.0
 
 pub returns : goal.returns
 returns c =
-    let l = c in
-    sym (take_all l.loop-i.i l.loop-i.dst (omega arith)) ∙ l.loop-i.invariant.1.1 ∙ take_all l.loop-i.i l.args.src.now (omega arith)
+    sym (take_all c.loop-i.i c.loop-i.dst (omega arith)) ∙ c.loop-i.invariant.1.1 ∙ take_all c.loop-i.i c.args.src.now (omega arith)

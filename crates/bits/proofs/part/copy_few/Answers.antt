@@ -10,6 +10,5 @@ use Rattle.bits.proofs.part.copy_few.Goals as goal
 
 pub returns-then-src-eq7 : goal.returns-then-src-eq7
 returns-then-src-eq7 c =
-    let w = c in
-    let a = w.args in
-    w.copy_span.ensures ∙ ap (λ (x : List ℕ). splice a.dst.now a.at x) (take_all 7 a.src.now (omega arith))
+    let a = c.args in
+    c.copy_span.ensures ∙ ap (λ (x : List ℕ). splice a.dst.now a.at x) (take_all 7 a.src.now (omega arith))

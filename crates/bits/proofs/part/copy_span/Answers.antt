@@ -8,6 +8,5 @@ use Rattle.bits.proofs.part.copy_span.Goals as goal
 
 pub returns : goal.returns
 returns c =
-    let w = c in
-    let a = w.args in
-    w.copy_at.ensures ∙ ap (λ (k : ℕ). splice a.dst.now a.at (span a.src.now a.from k)) (add-sub_cancel_left a.from a.n)
+    let a = c.args in
+    c.copy_at.ensures ∙ ap (λ (k : ℕ). splice a.dst.now a.at (span a.src.now a.from k)) (add-sub_cancel_left a.from a.n)

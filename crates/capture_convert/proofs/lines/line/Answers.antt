@@ -16,31 +16,22 @@ use Rattle.capture_convert.proofs.lines.line.Goals as goal
 
 pub overflow_add-to : goal.overflow_add-to
 overflow_add-to c =
-    let r = c in
-    let s = r in
-    omega (arith, r.read-s.ensures.len, (carriable-fit s.args.r.now s.requires.1.0).few)
+    omega (arith, c.read-s.ensures.len, (carriable-fit c.args.r.now c.requires.1.0).few)
 
 pub slice_bounds-put-end : goal.slice_bounds-put-end
 slice_bounds-put-end c =
-    let r = c in
-    let s = r in
-    omega (arith, r.read-s.ensures.len, (carriable-fit s.args.r.now s.requires.1.0).few)
+    omega (arith, c.read-s.ensures.len, (carriable-fit c.args.r.now c.requires.1.0).few)
 
 pub put-requires : goal.put-requires
 put-requires c =
-    let r = c in
-    let s = r in
-    let x = s.args.r.now in
-    let n = r.read-s.result.len in
-    let e = frame_is x r.read-s.result.time r.read-s.result.id n r.read-s.ensures.time r.read-s.ensures.id r.read-s.ensures.len in
-    omega (arith, s.requires.1.1, line-length (frame_of x), ap (λ (f : Frame). length f.bytes) e, ap (λ (f : Frame). count_of (f.time / 1000000)) e)
+    let x = c.args.r.now in
+    let n = c.read-s.result.len in
+    let e = frame_is x c.read-s.result.time c.read-s.result.id n c.read-s.ensures.time c.read-s.ensures.id c.read-s.ensures.len in
+    omega (arith, c.requires.1.1, line-length (frame_of x), ap (λ (f : Frame). length f.bytes) e, ap (λ (f : Frame). count_of (f.time / 1000000)) e)
 
 pub returns : goal.returns
 returns c =
-    let q = c in
-    let r = q in
-    let s = r in
-    let a = s.args in
-    let e = frame_is a.r.now r.read-s.result.time r.read-s.result.id r.read-s.result.len r.read-s.ensures.time r.read-s.ensures.id
-    r.read-s.ensures.len in
-    subst (λ (f : Frame). Puts a.out.now q.put.new.out a.p q.put.result (line_of f)) e q.put.ensures
+    let a = c.args in
+    let e = frame_is a.r.now c.read-s.result.time c.read-s.result.id c.read-s.result.len c.read-s.ensures.time c.read-s.ensures.id
+    c.read-s.ensures.len in
+    subst (λ (f : Frame). Puts a.out.now c.put.new.out a.p c.put.result (line_of f)) e c.put.ensures

@@ -29,17 +29,14 @@ slice_bounds-line-end c = omega arith
 
 pub line-p-requires : goal.line-p-requires
 line-p-requires c =
-    let t = c in
-    let l = t in
-    let s = l in
-    let b = s.args.records.now in
-    let o = s.args.out.now in (
-      length-span b (l.loop-count.count * 21) (l.loop-count.count * 21 + 21 - l.loop-count.count * 21) (omega arith) ∙ omega arith,
+    let b = c.args.records.now in
+    let o = c.args.out.now in (
+      length-span b (c.loop-count.count * 21) (c.loop-count.count * 21 + 21 - c.loop-count.count * 21) (omega arith) ∙ omega arith,
       (
-        carriable-next b o l.loop-count.out (length b / 21) l.loop-count.count l.loop-count.p l.loop-count.invariant s.requires.frames s.requires.carried s.requires.room
-            t.loop-count-test.true,
-        line-fits b o l.loop-count.out (length b / 21) l.loop-count.count l.loop-count.p l.loop-count.invariant s.requires.frames s.requires.carried s.requires.room
-            t.loop-count-test.true,
+        carriable-next b o c.loop-count.out (length b / 21) c.loop-count.count c.loop-count.p c.loop-count.invariant c.requires.frames c.requires.carried c.requires.room
+            c.loop-count-test.true,
+        line-fits b o c.loop-count.out (length b / 21) c.loop-count.count c.loop-count.p c.loop-count.invariant c.requires.frames c.requires.carried c.requires.room
+            c.loop-count-test.true,
       ),
     )
 
@@ -51,19 +48,13 @@ loop-count-smaller c = omega arith
 
 pub loop-count-preserved : goal.loop-count-preserved
 loop-count-preserved c =
-    let w = c in
-    let t = w in
-    let l = t in
-    let s = l in
-    let b = s.args.records.now in
-    next-lining b s.args.out.now l.loop-count.out (length b / 21) l.loop-count.count l.loop-count.p l.loop-count.invariant s.requires.frames s.requires.carried
-    s.requires.room t.loop-count-test.true w.line-p.new.1.0 w.line-p.result w.line-p.ensures w.line-p.auto.1.0
+    let b = c.args.records.now in
+    next-lining b c.args.out.now c.loop-count.out (length b / 21) c.loop-count.count c.loop-count.p c.loop-count.invariant c.requires.frames c.requires.carried
+    c.requires.room c.loop-count-test.true c.line-p.new.1.0 c.line-p.result c.line-p.ensures c.line-p.auto.1.0
 
 pub shape_of-out : goal.shape_of-out
 shape_of-out c = c.loop-count.invariant.long
 
 pub returns : goal.returns
 returns c =
-    let l = c in
-    let s = l in
-    lined s.args.records.now s.args.out.now l.loop-count.out l.loop-count.count l.loop-count.p l.loop-count.invariant c.loop-count-test.false s.requires
+    lined c.args.records.now c.args.out.now c.loop-count.out c.loop-count.count c.loop-count.p c.loop-count.invariant c.loop-count-test.false c.requires

@@ -31,34 +31,26 @@ slice_bounds-read-end c = omega arith
 
 pub read-s-requires : goal.read-s-requires
 read-s-requires c =
-    let t = c in
-    let l = t in
-    let p = l.args.records.now in
-    length-span p (l.loop-count.count * 21) (l.loop-count.count * 21 + 21 - l.loop-count.count * 21) (omega arith) ∙ omega arith
+    let p = c.args.records.now in
+    length-span p (c.loop-count.count * 21) (c.loop-count.count * 21 + 21 - c.loop-count.count * 21) (omega arith) ∙ omega arith
 
 pub returns-then-not-s : goal.returns-then-not-s
 returns-then-not-s c =
-    let r = c in
-    let t = r in
-    let l = t in
-    let p = l.args.records.now in
-    broken (halt p (length p / 21) l.loop-count.count l.loop-count.invariant.gone t.loop-count-test.true
-    (sym r.read-s.ensures.ok ∙ not-true r.read-s.result.ok c.if-not-s.true)) refl
+    let p = c.args.records.now in
+    broken (halt p (length p / 21) c.loop-count.count c.loop-count.invariant.gone c.loop-count-test.true
+    (sym c.read-s.ensures.ok ∙ not-true c.read-s.result.ok c.if-not-s.true)) refl
 
 pub line_length-len-requires : goal.line_length-len-requires
 line_length-len-requires c =
-    let r = c in
     omega (
       arith,
-      r.read-s.ensures.len,
-      (carriable-fit _ (sym r.read-s.ensures.ok ∙ not-false r.read-s.result.ok c.if-not-s.false)).few,
+      c.read-s.ensures.len,
+      (carriable-fit _ (sym c.read-s.ensures.ok ∙ not-false c.read-s.result.ok c.if-not-s.false)).few,
     )
 
 pub overflow_add-len : goal.overflow_add-len
 overflow_add-len c =
-    let e = c in
-    let l = e in
-    omega (arith, c.line_length-len.ensures.1, l.loop-count.invariant.few, l.requires)
+    omega (arith, c.line_length-len.ensures.1, c.loop-count.invariant.few, c.requires)
 
 pub overflow_add-count : goal.overflow_add-count
 overflow_add-count c = omega arith
@@ -68,20 +60,15 @@ loop-count-smaller c = omega arith
 
 pub loop-count-preserved : goal.loop-count-preserved
 loop-count-preserved c =
-    let e = c in
-    let r = e in
-    let t = r in
-    let l = t in
-    let p = l.args.records.now in
-    let x = span p (l.loop-count.count * 21) (l.loop-count.count * 21 + 21 - l.loop-count.count * 21) in
-    let k : length x ≡ 21 = length-span p (l.loop-count.count * 21) (l.loop-count.count * 21 + 21 - l.loop-count.count * 21) (omega arith) ∙ omega arith in
-    let o = sym r.read-s.ensures.ok ∙ not-false r.read-s.result.ok e.if-not-s.false in
-    next-measuring p (length p / 21) l.loop-count.count l.loop-count.len l.loop-count.invariant t.loop-count-test.true o r.read-s.result.time r.read-s.result.len
-    c.line_length-len.result r.read-s.ensures.time (r.read-s.ensures.len ∙ sym (size_is x (carriable-fit x o) k)) c.line_length-len.ensures.0
+    let p = c.args.records.now in
+    let x = span p (c.loop-count.count * 21) (c.loop-count.count * 21 + 21 - c.loop-count.count * 21) in
+    let k : length x ≡ 21 = length-span p (c.loop-count.count * 21) (c.loop-count.count * 21 + 21 - c.loop-count.count * 21) (omega arith) ∙ omega arith in
+    let o = sym c.read-s.ensures.ok ∙ not-false c.read-s.result.ok c.if-not-s.false in
+    next-measuring p (length p / 21) c.loop-count.count c.loop-count.len c.loop-count.invariant c.loop-count-test.true o c.read-s.result.time c.read-s.result.len
+    c.line_length-len.result c.read-s.ensures.time (c.read-s.ensures.len ∙ sym (size_is x (carriable-fit x o) k)) c.line_length-len.ensures.0
     c.line_length-len.ensures.1
 
 pub returns : goal.returns
 returns c =
-    let l = c in
-    let p = l.args.records.now in
-    whole l.loop-count.invariant.gone.done (passed p (length p / 21) l.loop-count.count l.loop-count.invariant.gone c.loop-count-test.false) refl l.loop-count.invariant.sum
+    let p = c.args.records.now in
+    whole c.loop-count.invariant.gone.done (passed p (length p / 21) c.loop-count.count c.loop-count.invariant.gone c.loop-count-test.false) refl c.loop-count.invariant.sum

@@ -9,8 +9,6 @@ use Rattle.capture_convert.specs.inside.Walks.{whole, broken}
 use Rattle.capture_convert.proofs.Walking.{well, ill, stop, all_said, left, Storing, begin-storing, so_far, one-fits, next-storing}
 use Rattle.capture_convert.proofs.records.records.Goals as goal
 
-pub records-spec : {M : Type 1} → statement M
-
 pub loop-end-init : goal.loop-end-init
 loop-end-init c =
     let a = c.args in
@@ -33,37 +31,25 @@ shape_of-out-then-not-l c = c.loop-end.invariant.long
 
 pub returns-then-not-l : goal.returns-then-not-l
 returns-then-not-l c =
-    let r = c in
-    let t = r in
-    let l = t in
-    let s = l in
-    let a = s.args in
-    let g = l.loop-end.invariant in
+    let a = c.args in
+    let g = c.loop-end.invariant in
     record {
-      told = broken (stop a.block.now l.loop-end.count l.loop-end.from l.loop-end.end g.walk t.loop-end-test.true
-          (ill _ r.read-l.result r.read-l.ensures (not-true r.read-l.result.ok c.if-not-l.true))) refl;
+      told = broken (stop a.block.now c.loop-end.count c.loop-end.from c.loop-end.end g.walk c.loop-end-test.true
+          (ill _ c.read-l.result c.read-l.ensures (not-true c.read-l.result.ok c.if-not-l.true))) refl;
       from = g.walk.start;
-      room = so_far a.block.now a.out.now l.loop-end.out l.loop-end.count l.loop-end.from l.loop-end.end g s.requires;
+      room = so_far a.block.now a.out.now c.loop-end.out c.loop-end.count c.loop-end.from c.loop-end.end g c.requires;
     }
 
 pub overflow_mul-count : goal.overflow_mul-count
 overflow_mul-count c =
-    let t = c in
-    let l = t in
-    let s = l in
-    let a = s.args in
-    omega (arith, one-fits a.block.now a.out.now l.loop-end.out l.loop-end.count l.loop-end.from l.loop-end.end l.loop-end.invariant s.requires t.loop-end-test.true)
+    let a = c.args in
+    omega (arith, one-fits a.block.now a.out.now c.loop-end.out c.loop-end.count c.loop-end.from c.loop-end.end c.loop-end.invariant c.requires c.loop-end-test.true)
 
 pub put-requires : goal.put-requires
 put-requires c =
-    let e = c in
-    let r = e in
-    let t = r in
-    let l = t in
-    let s = l in
-    let a = s.args in
-    let w = well _ r.read-l.result r.read-l.ensures (not-false r.read-l.result.ok e.if-not-l.false) in (
-      one-fits a.block.now a.out.now l.loop-end.out l.loop-end.count l.loop-end.from l.loop-end.end l.loop-end.invariant s.requires t.loop-end-test.true,
+    let a = c.args in
+    let w = well _ c.read-l.result c.read-l.ensures (not-false c.read-l.result.ok c.if-not-l.false) in (
+      one-fits a.block.now a.out.now c.loop-end.out c.loop-end.count c.loop-end.from c.loop-end.end c.loop-end.invariant c.requires c.loop-end-test.true,
       (w.few, (w.full, w.octets)),
     )
 
@@ -85,16 +71,10 @@ loop-end-smaller c =
 
 pub loop-end-preserved : goal.loop-end-preserved
 loop-end-preserved c =
-    let q = c in
-    let e = q in
-    let r = e in
-    let t = r in
-    let l = t in
-    let s = l in
-    let a = s.args in
-    let w = well _ r.read-l.result r.read-l.ensures (not-false r.read-l.result.ok e.if-not-l.false) in
-    next-storing a.block.now a.out.now l.loop-end.out l.loop-end.count l.loop-end.from l.loop-end.end l.loop-end.invariant s.requires t.loop-end-test.true
-    w.frame w.said w.carried _ q.put.new.out w.text q.put.ensures q.put.auto.0 c.find-end-in-loop-end.result c.find-end-in-loop-end.ensures.0
+    let a = c.args in
+    let w = well _ c.read-l.result c.read-l.ensures (not-false c.read-l.result.ok c.if-not-l.false) in
+    next-storing a.block.now a.out.now c.loop-end.out c.loop-end.count c.loop-end.from c.loop-end.end c.loop-end.invariant c.requires c.loop-end-test.true
+    w.frame w.said w.carried _ c.put.new.out w.text c.put.ensures c.put.auto.0 c.find-end-in-loop-end.result c.find-end-in-loop-end.ensures.0
     c.find-end-in-loop-end.ensures.1
 
 pub shape_of-out : goal.shape_of-out
@@ -102,13 +82,11 @@ shape_of-out c = c.loop-end.invariant.long
 
 pub returns : goal.returns
 returns c =
-    let l = c in
-    let s = l in
-    let a = s.args in
-    let g = l.loop-end.invariant in
+    let a = c.args in
+    let g = c.loop-end.invariant in
     record {
-      told = whole g.walk.done (all_said a.block.now l.loop-end.count l.loop-end.from l.loop-end.end g.walk c.loop-end-test.false) refl g.walk.counted
-          (left a.block.now l.loop-end.count l.loop-end.from l.loop-end.end g.walk c.loop-end-test.false) g.text;
+      told = whole g.walk.done (all_said a.block.now c.loop-end.count c.loop-end.from c.loop-end.end g.walk c.loop-end-test.false) refl g.walk.counted
+          (left a.block.now c.loop-end.count c.loop-end.from c.loop-end.end g.walk c.loop-end-test.false) g.text;
       from = g.walk.start;
-      room = so_far a.block.now a.out.now l.loop-end.out l.loop-end.count l.loop-end.from l.loop-end.end g s.requires;
+      room = so_far a.block.now a.out.now c.loop-end.out c.loop-end.count c.loop-end.from c.loop-end.end g c.requires;
     }

@@ -29,12 +29,9 @@ slice_bounds-read-end c = omega arith
 
 pub returns-then-not-l : goal.returns-then-not-l
 returns-then-not-l c =
-    let r = c in
-    let t = r in
-    let l = t in
-    let p = l.args.log.now in
-    broken (broken-frames p (stop p l.loop-end.count l.loop-end.from l.loop-end.end l.loop-end.invariant t.loop-end-test.true
-    (ill _ r.read-l.result r.read-l.ensures (not-true r.read-l.result.ok c.if-not-l.true)))) refl
+    let p = c.args.log.now in
+    broken (broken-frames p (stop p c.loop-end.count c.loop-end.from c.loop-end.end c.loop-end.invariant c.loop-end-test.true
+    (ill _ c.read-l.result c.read-l.ensures (not-true c.read-l.result.ok c.if-not-l.true)))) refl
 
 pub overflow_add-count : goal.overflow_add-count
 overflow_add-count c =
@@ -54,17 +51,12 @@ loop-end-smaller c =
 
 pub loop-end-preserved : goal.loop-end-preserved
 loop-end-preserved c =
-    let e = c in
-    let r = e in
-    let t = r in
-    let l = t in
-    let p = l.args.log.now in
-    let w = well _ r.read-l.result r.read-l.ensures (not-false r.read-l.result.ok e.if-not-l.false) in
-    next p l.loop-end.count l.loop-end.from l.loop-end.end l.loop-end.invariant t.loop-end-test.true w.frame w.said w.carried c.find-end-in-loop-end.result
+    let p = c.args.log.now in
+    let w = well _ c.read-l.result c.read-l.ensures (not-false c.read-l.result.ok c.if-not-l.false) in
+    next p c.loop-end.count c.loop-end.from c.loop-end.end c.loop-end.invariant c.loop-end-test.true w.frame w.said w.carried c.find-end-in-loop-end.result
     c.find-end-in-loop-end.ensures.0 c.find-end-in-loop-end.ensures.1
 
 pub returns : goal.returns
 returns c =
-    let l = c in
-    let p = l.args.log.now in
-    finish p l.loop-end.count l.loop-end.from l.loop-end.end l.loop-end.invariant c.loop-end-test.false _ refl refl
+    let p = c.args.log.now in
+    finish p c.loop-end.count c.loop-end.from c.loop-end.end c.loop-end.invariant c.loop-end-test.false _ refl refl

@@ -10,48 +10,35 @@ use Rattle.capture_convert.proofs.trailer.find.Goals as goal
 
 pub returns-then-n-lt-SIZE : goal.returns-then-n-lt-SIZE
 returns-then-n-lt-SIZE c =
-    let t = c in
-    let p = t.args.c.now in
-    missing (too_short p t.if-n-lt-SIZE.true) (ap (λ (r : Place). r.ok) c.nowhere.ensures)
+    let p = c.args.c.now in
+    missing (too_short p c.if-n-lt-SIZE.true) (ap (λ (r : Place). r.ok) c.nowhere.ensures)
 
 pub returns-then-not-t : goal.returns-then-not-t
 returns-then-not-t c =
-    let t = c in
-    let r = t in
+    let r = c in
     let e = r in
     let p = e.args.c.now in
-    unformed p e.if-n-lt-SIZE.false r.read-t.result r.read-t.ensures (not-true r.read-t.result.ok t.if-not-t.true) c.nowhere-then-not-t.result
+    unformed p e.if-n-lt-SIZE.false r.read-t.result r.read-t.ensures (not-true r.read-t.result.ok c.if-not-t.true) c.nowhere-then-not-t.result
     (ap (λ (r : Place). r.ok) c.nowhere-then-not-t.ensures)
 
 pub returns-then-end-size : goal.returns-then-end-size
 returns-then-end-size c =
-    let t = c in
-    let f = t in
-    let r = f in
+    let r = c in
     let e = r in
     let p = e.args.c.now in
-    outside p e.if-n-lt-SIZE.false r.read-t.result r.read-t.ensures (not-false r.read-t.result.ok f.if-not-t.false) t.if-end-size.true c.nowhere-then-end-size.result
+    outside p e.if-n-lt-SIZE.false r.read-t.result r.read-t.ensures (not-false r.read-t.result.ok c.if-not-t.false) c.if-end-size.true c.nowhere-then-end-size.result
     (ap (λ (r : Place). r.ok) c.nowhere-then-end-size.ensures)
 
 pub returns-then-sum-t : goal.returns-then-sum-t
 returns-then-sum-t c =
-    let m = c in
-    let g = m in
-    let f = g in
-    let r = f in
-    let e = r in
-    let p = e.args.c.now in
-    matched p e.if-n-lt-SIZE.false r.read-t.result r.read-t.ensures (not-false r.read-t.result.ok f.if-not-t.false) g.if-end-size.false m.sum.result
-    m.sum.ensures c.if-sum-t.true _ refl refl
+    let p = c.args.c.now in
+    matched p c.if-n-lt-SIZE.false c.read-t.result c.read-t.ensures (not-false c.read-t.result.ok c.if-not-t.false) c.if-end-size.false c.sum.result
+    c.sum.ensures c.if-sum-t.true _ refl refl
 
 pub returns : goal.returns
 returns c =
-    let t = c in
-    let m = t in
-    let g = m in
-    let f = g in
-    let r = f in
+    let r = c in
     let e = r in
     let p = e.args.c.now in
-    mismatched p e.if-n-lt-SIZE.false r.read-t.result r.read-t.ensures (not-false r.read-t.result.ok f.if-not-t.false) g.if-end-size.false m.sum.result
-    m.sum.ensures t.if-sum-t.false c.nowhere-2.result (ap (λ (r : Place). r.ok) c.nowhere-2.ensures)
+    mismatched p e.if-n-lt-SIZE.false r.read-t.result r.read-t.ensures (not-false r.read-t.result.ok c.if-not-t.false) c.if-end-size.false c.sum.result
+    c.sum.ensures c.if-sum-t.false c.nowhere-2.result (ap (λ (r : Place). r.ok) c.nowhere-2.ensures)

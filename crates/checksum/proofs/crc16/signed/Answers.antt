@@ -32,10 +32,8 @@ loop-k-smaller c = omega arith
 
 pub loop-k-preserved : goal.loop-k-preserved
 loop-k-preserved c =
-    let l = c in
-    (omega arith, turn l.loop-k.r c.step-r.result l.loop-k.x l.loop-k.k (omega arith) c.step-r.ensures ∙ l.loop-k.invariant.1)
+    (omega arith, turn c.loop-k.r c.step-r.result c.loop-k.x c.loop-k.k (omega arith) c.step-r.ensures ∙ c.loop-k.invariant.1)
 
 pub returns : goal.returns
 returns c =
-    let l = c in
-    sym (done l.loop-k.r l.loop-k.x l.loop-k.k (omega arith)) ∙ l.loop-k.invariant.1
+    sym (done c.loop-k.r c.loop-k.x c.loop-k.k (omega arith)) ∙ c.loop-k.invariant.1

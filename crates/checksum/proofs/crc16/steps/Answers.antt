@@ -23,11 +23,9 @@ loop-i-smaller c = omega arith
 
 pub loop-i-preserved : goal.loop-i-preserved
 loop-i-preserved c =
-    let l = c in
-    let a = l.args in
-    (omega arith, over-turn ccitt l.loop-i.r c.step-r.result l.loop-i.i a.s.now (omega arith) c.step-r.ensures ∙ l.loop-i.invariant.1)
+    let a = c.args in
+    (omega arith, over-turn ccitt c.loop-i.r c.step-r.result c.loop-i.i a.s.now (omega arith) c.step-r.ensures ∙ c.loop-i.invariant.1)
 
 pub returns : goal.returns
 returns c =
-    let l = c in
-    sym (over_done ccitt l.loop-i.r l.loop-i.i l.args.s.now (omega arith)) ∙ l.loop-i.invariant.1
+    sym (over_done ccitt c.loop-i.r c.loop-i.i c.args.s.now (omega arith)) ∙ c.loop-i.invariant.1

@@ -26,7 +26,5 @@ whole h v r z x y l e f g =
 
 pub returns : goal.returns
 returns c =
-    let p2 = c in
-    let p1 = p2 in
-    let a = p1.args in
-    whole a.h a.nested c.hash_from.result _ p1.put_at.new.s p2.put_at-2.new.s refl p1.put_at.ensures p2.put_at-2.ensures c.hash_from.ensures
+    let a = c.args in
+    whole a.h a.nested c.hash_from.result _ c.put_at.new.s c.put_at-2.new.s refl c.put_at.ensures c.put_at-2.ensures c.hash_from.ensures

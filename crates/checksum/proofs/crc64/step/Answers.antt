@@ -35,8 +35,7 @@ loop-k-smaller c = omega arith
 
 pub loop-k-preserved : goal.loop-k-preserved
 loop-k-preserved c =
-    let l = c in
-    (omega arith, turn l.loop-k.r c.up-r.result l.loop-k.k _ (omega arith) c.up-r.ensures l.loop-k.invariant.1)
+    (omega arith, turn c.loop-k.r c.up-r.result c.loop-k.k _ (omega arith) c.up-r.ensures c.loop-k.invariant.1)
 
 pub returns : goal.returns
-returns c = let l = c in done l.loop-k.r l.loop-k.k _ (omega arith) l.loop-k.invariant.1
+returns c = done c.loop-k.r c.loop-k.k _ (omega arith) c.loop-k.invariant.1

@@ -6,5 +6,4 @@ use Rattle.codec_text.proofs.signed.number.Goals as goal
 
 pub overflow_add-size : goal.overflow_add-size
 overflow_add-size c =
-    let s = c in
-    omega (arith, size_of s.args.v s.ranges.v c.size.result c.size.ensures, s.ranges.v.sfits)
+    omega (arith, size_of c.args.v c.ranges.v c.size.result c.size.ensures, c.ranges.v.sfits)

@@ -14,112 +14,75 @@ use Rattle.dsdl.proofs.fault.after.Goals as goal
 
 pub named-requires : goal.named-requires
 named-requires c =
-    let g = c in
-    let p = g in
-    let k = p in
-    let s = k in
-    let a = s.args in
-    let v = p.p-1.given.0 in
-    let m = long-field a.t.now a.at a.end k.read-p.result v.0 v.1.0 v.1.1.0 k.read-p.ensures p.in-Field.is in
-    let r = s.requires.0 in
+    let a = c.args in
+    let v = c.p-1.given.0 in
+    let m = long-field a.t.now a.at a.end c.read-p.result v.0 v.1.0 v.1.1.0 c.read-p.ensures c.in-Field.is in
+    let r = c.requires.0 in
     let b = r.bounded in
     ((r.room, (omega arith, (b, (omega arith, omega arith)))), (omega arith, (omega arith, omega arith)))
 
 pub returns-then-not-holds : goal.returns-then-not-holds
 returns-then-not-holds c =
-    let f = c in
-    let d = f in
-    let p = d in
-    let k = p in
-    let s = k in
-    let a = s.args in
+    let a = c.args in
     let l = part a.t.now a.at a.end in
-    let v = p.p-in-Constant-1.given.0 in
-    wrong-read a.t.now a.seen.now a.marks.now a.at a.end a.n a.s s.requires.0 s.requires.1.0 c.at_fault.result c.at_fault.ensures
-    (next _ _ _ _ (by d.holds.ensures (not-true _ f.if-not-holds.true)) refl ∙ read-line l k.read-p.result (Constant v.0 v.1.0 v.1.1.0) k.read-p.ensures p.in-Constant.is)
+    let v = c.p-in-Constant-1.given.0 in
+    wrong-read a.t.now a.seen.now a.marks.now a.at a.end a.n a.s c.requires.0 c.requires.1.0 c.at_fault.result c.at_fault.ensures
+    (next _ _ _ _ (by c.holds.ensures (not-true _ c.if-not-holds.true)) refl ∙ read-line l c.read-p.result (Constant v.0 v.1.0 v.1.1.0) c.read-p.ensures c.in-Constant.is)
 
 pub named-requires-in-Constant : goal.named-requires-in-Constant
 named-requires-in-Constant c =
-    let g = c in
-    let p = g in
-    let k = p in
-    let s = k in
-    let a = s.args in
-    let v = p.p-in-Constant-1.given.0 in
-    let m = long-constant a.t.now a.at a.end k.read-p.result v.0 v.1.0 v.1.1.0 k.read-p.ensures p.in-Constant.is in
-    let r = s.requires.0 in
+    let a = c.args in
+    let v = c.p-in-Constant-1.given.0 in
+    let m = long-constant a.t.now a.at a.end c.read-p.result v.0 v.1.0 v.1.1.0 c.read-p.ensures c.in-Constant.is in
+    let r = c.requires.0 in
     let b = r.bounded in
     ((r.room, (omega arith, (b, (omega arith, omega arith)))), (omega arith, (omega arith, omega arith)))
 
 pub returns-in-Nothing : goal.returns-in-Nothing
 returns-in-Nothing c =
-    let k = c in
-    let s = k in
-    let a = s.args in
-    nothing_read a.t.now a.seen.now a.marks.now a.at a.end a.n a.s s.requires.0 s.requires.1.0
-    (read-line (part a.t.now a.at a.end) k.read-p.result Nothing k.read-p.ensures c.in-Nothing.is)
+    let a = c.args in
+    nothing_read a.t.now a.seen.now a.marks.now a.at a.end a.n a.s c.requires.0 c.requires.1.0
+    (read-line (part a.t.now a.at a.end) c.read-p.result Nothing c.read-p.ensures c.in-Nothing.is)
 
 pub returns-in-Marker : goal.returns-in-Marker
 returns-in-Marker c =
-    let m = c in
-    let k = m in
-    let s = k in
-    let a = s.args in
-    marker-read a.t.now a.seen.now a.marks.now a.at a.end a.n a.s s.requires.0 s.requires.1.0 c.marker.result c.marker.ensures
-    (read-line (part a.t.now a.at a.end) k.read-p.result Marker k.read-p.ensures m.in-Marker.is)
+    let a = c.args in
+    marker-read a.t.now a.seen.now a.marks.now a.at a.end a.n a.s c.requires.0 c.requires.1.0 c.marker.result c.marker.ensures
+    (read-line (part a.t.now a.at a.end) c.read-p.result Marker c.read-p.ensures c.in-Marker.is)
 
 pub returns-in-Union : goal.returns-in-Union
 returns-in-Union c =
-    let m = c in
-    let k = m in
-    let s = k in
-    let a = s.args in
-    union-read a.t.now a.seen.now a.marks.now a.at a.end a.n a.s s.requires.0 s.requires.1.0 c.directive.result c.directive.ensures
-    (read-line (part a.t.now a.at a.end) k.read-p.result Union k.read-p.ensures m.in-Union.is)
+    let a = c.args in
+    union-read a.t.now a.seen.now a.marks.now a.at a.end a.n a.s c.requires.0 c.requires.1.0 c.directive.result c.directive.ensures
+    (read-line (part a.t.now a.at a.end) c.read-p.result Union c.read-p.ensures c.in-Union.is)
 
 pub returns-in-Padding : goal.returns-in-Padding
 returns-in-Padding c =
-    let m = c in
-    let k = m in
-    let s = k in
-    let a = s.args in
+    let a = c.args in
     let l = part a.t.now a.at a.end in
-    padding-read a.t.now a.seen.now a.marks.now a.at a.end a.n a.s s.requires.0 s.requires.1.0 c.padding.result (word_of l m.in-Padding.field-0) c.padding.ensures
-    (read-line l k.read-p.result (Padding m.in-Padding.field-0) k.read-p.ensures m.in-Padding.is)
+    padding-read a.t.now a.seen.now a.marks.now a.at a.end a.n a.s c.requires.0 c.requires.1.0 c.padding.result (word_of l c.in-Padding.field-0) c.padding.ensures
+    (read-line l c.read-p.result (Padding c.in-Padding.field-0) c.read-p.ensures c.in-Padding.is)
 
 pub returns-in-Field : goal.returns-in-Field
 returns-in-Field c =
-    let g = c in
-    let p = g in
-    let k = p in
-    let s = k in
-    let a = s.args in
+    let a = c.args in
     let l = part a.t.now a.at a.end in
-    let v = p.p-1.given.0 in
-    field-read a.t.now a.seen.now a.marks.now a.at a.end a.n a.s s.requires.0 s.requires.1.0 c.named.new.marks.1.1.1.1.0 c.named.new.marks.1.1.1.1.1.0 c.named.result (a.s.fields + 1) (word_of l v.1.1.0) (word_of a.t.now g.placed.result)
-    g.placed.ensures.0 (long-field a.t.now a.at a.end k.read-p.result v.0 v.1.0 v.1.1.0 k.read-p.ensures p.in-Field.is) c.named.ensures
-    v.0 (word_of l v.1.0) (add-one a.s.fields) (read-line l k.read-p.result (Field v.0 v.1.0 v.1.1.0) k.read-p.ensures p.in-Field.is)
+    let v = c.p-1.given.0 in
+    field-read a.t.now a.seen.now a.marks.now a.at a.end a.n a.s c.requires.0 c.requires.1.0 c.named.new.marks.1.1.1.1.0 c.named.new.marks.1.1.1.1.1.0 c.named.result (a.s.fields + 1) (word_of l v.1.1.0) (word_of a.t.now c.placed.result)
+    c.placed.ensures.0 (long-field a.t.now a.at a.end c.read-p.result v.0 v.1.0 v.1.1.0 c.read-p.ensures c.in-Field.is) c.named.ensures
+    v.0 (word_of l v.1.0) (add-one a.s.fields) (read-line l c.read-p.result (Field v.0 v.1.0 v.1.1.0) c.read-p.ensures c.in-Field.is)
 
 pub returns-else-not-holds : goal.returns-else-not-holds
 returns-else-not-holds c =
-    let g = c in
-    let o = g in
-    let d = o in
-    let p = d in
-    let k = p in
-    let s = k in
-    let a = s.args in
+    let a = c.args in
     let l = part a.t.now a.at a.end in
-    let v = p.p-in-Constant-1.given.0 in
-    constant-read a.t.now a.seen.now a.marks.now a.at a.end a.n a.s s.requires.0 s.requires.1.0 c.named-in-Constant.new.marks.1.1.1.1.0 c.named-in-Constant.new.marks.1.1.1.1.1.0 c.named-in-Constant.result a.s.fields (word_of l v.1.0) (word_of a.t.now g.placed-in-Constant.result)
-    g.placed-in-Constant.ensures.0 (long-constant a.t.now a.at a.end k.read-p.result v.0 v.1.0 v.1.1.0 k.read-p.ensures p.in-Constant.is) c.named-in-Constant.ensures
-    refl (first _ _ _ (by d.holds.ensures (not-false _ o.if-not-holds.false)) ∙ read-line l k.read-p.result (Constant v.0 v.1.0 v.1.1.0) k.read-p.ensures p.in-Constant.is)
+    let v = c.p-in-Constant-1.given.0 in
+    constant-read a.t.now a.seen.now a.marks.now a.at a.end a.n a.s c.requires.0 c.requires.1.0 c.named-in-Constant.new.marks.1.1.1.1.0 c.named-in-Constant.new.marks.1.1.1.1.1.0 c.named-in-Constant.result a.s.fields (word_of l v.1.0) (word_of a.t.now c.placed-in-Constant.result)
+    c.placed-in-Constant.ensures.0 (long-constant a.t.now a.at a.end c.read-p.result v.0 v.1.0 v.1.1.0 c.read-p.ensures c.in-Constant.is) c.named-in-Constant.ensures
+    refl (first _ _ _ (by c.holds.ensures (not-false _ c.if-not-holds.false)) ∙ read-line l c.read-p.result (Constant v.0 v.1.0 v.1.1.0) c.read-p.ensures c.in-Constant.is)
 
 pub returns-in-Wrong : goal.returns-in-Wrong
 returns-in-Wrong c =
-    let m = c in
-    let k = m in
-    let s = k in
-    let a = s.args in
-    wrong-read a.t.now a.seen.now a.marks.now a.at a.end a.n a.s s.requires.0 s.requires.1.0 c.at_fault-in-Wrong.result c.at_fault-in-Wrong.ensures
-    (read-line (part a.t.now a.at a.end) k.read-p.result Wrong k.read-p.ensures m.in-Wrong.is)
+    let a = c.args in
+    wrong-read a.t.now a.seen.now a.marks.now a.at a.end a.n a.s c.requires.0 c.requires.1.0 c.at_fault-in-Wrong.result c.at_fault-in-Wrong.ensures
+    (read-line (part a.t.now a.at a.end) c.read-p.result Wrong c.read-p.ensures c.in-Wrong.is)

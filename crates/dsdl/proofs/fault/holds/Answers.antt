@@ -13,18 +13,13 @@ use borrow.Author.Rules.{rules}
 use Rattle.dsdl.proofs.fault.holds.Goals as goal
 
 pub fits-requires : goal.fits-requires
-fits-requires c = let b = c in sized _ b.read.result b.read.ensures
+fits-requires c = sized _ c.read.result c.read.ensures
 
 pub returns : goal.returns
 returns c =
-    let b = c in
-    let q = b in
-    let k = q in
-    let j = k in
-    let v = j in
-    let l = v.args.l.now in
-    let w = v.within-v.result in
-    let i = j.within-j.result in
+    let l = c.args.l.now in
+    let w = c.within-v.result in
+    let i = c.within-j.result in
     c.fits2.ensures ∙ ap₂ (λ (x : Base) (y : List ℕ). fits x (initializer y))
-    (b.read.ensures ∙ ap base_of (base-part l w.at w.end k.run.result k.run.ensures.0 ∙ ap base_text v.within-v.ensures.0))
-    (value-part l i.at i.end q.run-2.result q.run-2.ensures.0 ∙ ap skip j.within-j.ensures.0)
+    (c.read.ensures ∙ ap base_of (base-part l w.at w.end c.run.result c.run.ensures.0 ∙ ap base_text c.within-v.ensures.0))
+    (value-part l i.at i.end c.run-2.result c.run-2.ensures.0 ∙ ap skip c.within-j.ensures.0)

@@ -29,63 +29,47 @@ end-end-requires c = c.loop-s.invariant.1.0
 
 pub after-s-requires : goal.after-s-requires
 after-s-requires c =
-    let d = c in
-    let l = d in
-    (l.loop-s.invariant.0, (d.end-end.ensures.1.0, d.end-end.ensures.1.1))
+    (c.loop-s.invariant.0, (c.end-end.ensures.1.0, c.end-end.ensures.1.1))
 
 pub returns-then-s-gt0 : goal.returns-then-s-gt0
 returns-then-s-gt0 c =
-    let f = c in
-    let o = f in
-    let d = o in
-    let l = d in
-    let t = l.args.t.now in
-    let v = l.loop-s.invariant in
-    let b = o.after-s.ensures.bounded in
-    (found t l.loop-s.seen l.loop-s.s l.loop-s.n l.loop-s.at d.end-end.result d.end-end.ensures.0 v.1.1 o.after-s.new.marks.1.1.1.1.0 o.after-s.new.marks.1.1.1.1.1.0 o.after-s.result (suc d.end-end.result) o.after-s.ensures c.if-s-gt0.true, omega (arith, b.fault, v.0.numbered, v.1.0))
+    let t = c.args.t.now in
+    let v = c.loop-s.invariant in
+    let b = c.after-s.ensures.bounded in
+    (found t c.loop-s.seen c.loop-s.s c.loop-s.n c.loop-s.at c.end-end.result c.end-end.ensures.0 v.1.1 c.after-s.new.marks.1.1.1.1.0 c.after-s.new.marks.1.1.1.1.1.0 c.after-s.result (suc c.end-end.result) c.after-s.ensures c.if-s-gt0.true, omega (arith, b.fault, v.0.numbered, v.1.0))
 
 pub returns-then-t-end : goal.returns-then-t-end
 returns-then-t-end c =
-    let f = c in
-    let o = f in
-    let d = o in
-    let l = d in
-    let t = l.args.t.now in
-    let v = l.loop-s.invariant in
-    let b = o.after-s.ensures.bounded in
-    let z : o.after-s.result.fault ≡ 0 = omega (arith, f.if-s-gt0.false) in
-    (c.at_end.ensures ∙ last_line t l.loop-s.seen l.loop-s.s l.loop-s.n l.loop-s.at d.end-end.result d.end-end.ensures.0 v.1.1 o.after-s.new.marks.1.1.1.1.0 o.after-s.new.marks.1.1.1.1.1.0 o.after-s.result (suc d.end-end.result) o.after-s.ensures z c.if-t-end.true, omega (arith, c.at_end.ensures, end-bound o.after-s.result (suc l.loop-s.n) b.directive, v.0.numbered, v.1.0))
+    let t = c.args.t.now in
+    let v = c.loop-s.invariant in
+    let b = c.after-s.ensures.bounded in
+    let z : c.after-s.result.fault ≡ 0 = omega (arith, c.if-s-gt0.false) in
+    (c.at_end.ensures ∙ last_line t c.loop-s.seen c.loop-s.s c.loop-s.n c.loop-s.at c.end-end.result c.end-end.ensures.0 v.1.1 c.after-s.new.marks.1.1.1.1.0 c.after-s.new.marks.1.1.1.1.1.0 c.after-s.result (suc c.end-end.result) c.after-s.ensures z c.if-t-end.true, omega (arith, c.at_end.ensures, end-bound c.after-s.result (suc c.loop-s.n) b.directive, v.0.numbered, v.1.0))
 
 pub next-at-requires : goal.next-at-requires
 next-at-requires c = omega arith
 
 pub overflow_add-n : goal.overflow_add-n
 overflow_add-n c =
-    let l = c in
-    omega (arith, l.loop-s.invariant.0.numbered, l.loop-s.invariant.1.0)
+    omega (arith, c.loop-s.invariant.0.numbered, c.loop-s.invariant.1.0)
 
 pub loop-s-smaller : goal.loop-s-smaller
 loop-s-smaller c =
-    let e = c in
-    omega (arith, c.next-at.ensures.1.0, c.next-at.ensures.1.1, e.end-end.ensures.1.0)
+    omega (arith, c.next-at.ensures.1.0, c.next-at.ensures.1.1, c.end-end.ensures.1.0)
 
 pub loop-s-preserved : goal.loop-s-preserved
 loop-s-preserved c =
-    let f = c in
-    let o = f in
-    let d = o in
-    let l = d in
-    let t = l.args.t.now in
-    let v = l.loop-s.invariant in
-    let b = o.after-s.ensures.bounded in
-    let z : o.after-s.result.fault ≡ 0 = omega (arith, f.if-s-gt0.false) in (
+    let t = c.args.t.now in
+    let v = c.loop-s.invariant in
+    let b = c.after-s.ensures.bounded in
+    let z : c.after-s.result.fault ≡ 0 = omega (arith, c.if-s-gt0.false) in (
       record {
         right = z;
         bounded = rw add-one b;
-        room = o.after-s.ensures.room;
-        few = omega (arith, o.after-s.ensures.few, c.next-at.ensures.1.0);
-        numbered = omega (arith, v.0.numbered, c.next-at.ensures.1.0, d.end-end.ensures.1.0);
+        room = c.after-s.ensures.room;
+        few = omega (arith, c.after-s.ensures.few, c.next-at.ensures.1.0);
+        numbered = omega (arith, v.0.numbered, c.next-at.ensures.1.0, c.end-end.ensures.1.0);
         short = v.0.short;
       },
-      (c.next-at.ensures.1.1, rw (add-one, c.next-at.ensures.0) (next-line t l.loop-s.seen l.loop-s.s l.loop-s.n l.loop-s.at d.end-end.result d.end-end.ensures.0 v.1.1 o.after-s.new.marks.1.1.1.1.0 o.after-s.new.marks.1.1.1.1.1.0 o.after-s.result (suc d.end-end.result) o.after-s.ensures z c.if-t-end.false)),
+      (c.next-at.ensures.1.1, rw (add-one, c.next-at.ensures.0) (next-line t c.loop-s.seen c.loop-s.s c.loop-s.n c.loop-s.at c.end-end.result c.end-end.ensures.0 v.1.1 c.after-s.new.marks.1.1.1.1.0 c.after-s.new.marks.1.1.1.1.1.0 c.after-s.result (suc c.end-end.result) c.after-s.ensures z c.if-t-end.false)),
     )

@@ -23,30 +23,25 @@ bounds-seen-i c = omega arith
 
 pub returns-then-is_at : goal.returns-then-is_at
 returns-then-is_at c =
-    let k = c in
-    let l = k in
-    let a = l.args in
-    let e : suc (l.loop-i.i - 1) ≡ l.loop-i.i = omega arith in
-    sym (sym l.loop-i.invariant.1 ∙ (ap (λ (j : ℕ). is_among a.x.now (names_at a.t.now a.seen.now j)) (sym e)
-    ∙ among_first a.t.now a.seen.now (l.loop-i.i - 1) a.x.now (by k.is_at.ensures c.if-is_at.true)))
+    let a = c.args in
+    let e : suc (c.loop-i.i - 1) ≡ c.loop-i.i = omega arith in
+    sym (sym c.loop-i.invariant.1 ∙ (ap (λ (j : ℕ). is_among a.x.now (names_at a.t.now a.seen.now j)) (sym e)
+    ∙ among_first a.t.now a.seen.now (c.loop-i.i - 1) a.x.now (by c.is_at.ensures c.if-is_at.true)))
 
 pub loop-i-smaller : goal.loop-i-smaller
 loop-i-smaller c = omega arith
 
 pub loop-i-preserved : goal.loop-i-preserved
 loop-i-preserved c =
-    let k = c in
-    let l = k in
-    let a = l.args in
-    let e : suc (l.loop-i.i - 1) ≡ l.loop-i.i = omega arith in (
+    let a = c.args in
+    let e : suc (c.loop-i.i - 1) ≡ c.loop-i.i = omega arith in (
       omega arith,
-      sym (among_next a.t.now a.seen.now (l.loop-i.i - 1) a.x.now (by k.is_at.ensures c.if-is_at.false))
-          ∙ (ap (λ (j : ℕ). is_among a.x.now (names_at a.t.now a.seen.now j)) e ∙ l.loop-i.invariant.1),
+      sym (among_next a.t.now a.seen.now (c.loop-i.i - 1) a.x.now (by c.is_at.ensures c.if-is_at.false))
+          ∙ (ap (λ (j : ℕ). is_among a.x.now (names_at a.t.now a.seen.now j)) e ∙ c.loop-i.invariant.1),
     )
 
 pub returns : goal.returns
 returns c =
-    let l = c in
-    let a = l.args in
-    let z : l.loop-i.i ≡ 0 = omega arith in
-    sym (sym l.loop-i.invariant.1 ∙ (ap (λ (j : ℕ). is_among a.x.now (names_at a.t.now a.seen.now j)) z ∙ among_none a.t.now a.seen.now a.x.now))
+    let a = c.args in
+    let z : c.loop-i.i ≡ 0 = omega arith in
+    sym (sym c.loop-i.invariant.1 ∙ (ap (λ (j : ℕ). is_among a.x.now (names_at a.t.now a.seen.now j)) z ∙ among_none a.t.now a.seen.now a.x.now))

@@ -7,6 +7,5 @@ use Rattle.dsdl.proofs.names.is_taken.Goals as goal
 
 pub returns-then-marks-m-eq0 : goal.returns-then-marks-m-eq0
 returns-then-marks-m-eq0 c =
-    let s = c in
-    let a = s.args in
-    sym (s.requires.0.free a.x.now (ap (λ (j : ℕ). get_or a.marks.now j 0) (sym s.requires.1.1.0) ∙ c.if-marks-m-eq0.true))
+    let a = c.args in
+    sym (c.requires.0.free a.x.now (ap (λ (j : ℕ). get_or a.marks.now j 0) (sym c.requires.1.1.0) ∙ c.if-marks-m-eq0.true))

@@ -31,11 +31,9 @@ loop-i-smaller c = omega arith
 
 pub loop-i-preserved : goal.loop-i-preserved
 loop-i-preserved c =
-    let l = c in
-    let x = l.args.x.now in
-    (omega arith, (omega arith, rw add-one (sym (mark_on x l.loop-i.mark l.loop-i.i (omega arith)) ∙ l.loop-i.invariant.1.1)))
+    let x = c.args.x.now in
+    (omega arith, (omega arith, rw add-one (sym (mark_on x c.loop-i.mark c.loop-i.i (omega arith)) ∙ c.loop-i.invariant.1.1)))
 
 pub returns : goal.returns
 returns c =
-    let l = c in
-    (sym (mark-done l.args.x.now l.loop-i.mark l.loop-i.i (omega arith)) ∙ l.loop-i.invariant.1.1, l.loop-i.invariant.1.0)
+    (sym (mark-done c.args.x.now c.loop-i.mark c.loop-i.i (omega arith)) ∙ c.loop-i.invariant.1.1, c.loop-i.invariant.1.0)

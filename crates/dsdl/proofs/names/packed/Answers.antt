@@ -4,4 +4,4 @@ use borrow.Author.Rules.{rules}
 use Rattle.dsdl.proofs.names.packed.Goals as goal
 
 pub returns : goal.returns
-returns c = let s = c in unpacked s.args.w s.requires.1
+returns c = unpacked c.args.w c.requires.1

@@ -8,6 +8,5 @@ use Rattle.dsdl.proofs.names.placed.Goals as goal
 pub returns : goal.returns
 returns c =
     let v = c.within-v in
-    let s = c in
-    let a = s.args in
-    (in-text a.t.now a.at a.end v.result.at v.result.end s.requires.0 v.ensures.1.0 v.ensures.1.1 ∙ v.ensures.0, (omega arith, in-text-ends a.t.now a.at a.end v.result.end s.requires.0 v.ensures.1.1))
+    let a = c.args in
+    (in-text a.t.now a.at a.end v.result.at v.result.end c.requires.0 v.ensures.1.0 v.ensures.1.1 ∙ v.ensures.0, (omega arith, in-text-ends a.t.now a.at a.end v.result.end c.requires.0 v.ensures.1.1))

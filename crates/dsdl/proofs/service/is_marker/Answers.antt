@@ -4,4 +4,4 @@ use borrow.Author.Rules.{rules}
 use Rattle.dsdl.proofs.service.is_marker.Goals as goal
 
 pub returns : goal.returns
-returns c = let p = c in marked p.args.l.now p.read.result c.is_marker.result p.read.ensures c.is_marker.ensures
+returns c = marked c.args.l.now c.read.result c.is_marker.result c.read.ensures c.is_marker.ensures

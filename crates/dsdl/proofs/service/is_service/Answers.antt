@@ -30,11 +30,8 @@ slice_bounds-is_marker-end c = omega arith
 
 pub returns-then-is_marker : goal.returns-then-is_marker
 returns-then-is_marker c =
-    let k = c in
-    let i = k in
-    let l = i in
-    let t = l.args.text.now in
-    sym (sym l.loop-end.invariant.1.1.1 ∙ found t l.loop-end.at l.loop-end.end l.loop-end.invariant.0 i.loop-end-test.true (by k.is_marker.ensures c.if-is_marker.true))
+    let t = c.args.text.now in
+    sym (sym c.loop-end.invariant.1.1.1 ∙ found t c.loop-end.at c.loop-end.end c.loop-end.invariant.0 c.loop-end-test.true (by c.is_marker.ensures c.if-is_marker.true))
 
 pub next-at-requires : goal.next-at-requires
 next-at-requires c = omega arith
@@ -44,26 +41,19 @@ end-end-requires-in-loop-end c = c.next-at.ensures.1.1
 
 pub loop-end-smaller : goal.loop-end-smaller
 loop-end-smaller c =
-    let x = c in
-    let l = x in
-    omega (arith, x.next-at.ensures.1.0, x.next-at.ensures.1.1, l.loop-end.invariant.1.0)
+    omega (arith, c.next-at.ensures.1.0, c.next-at.ensures.1.1, c.loop-end.invariant.1.0)
 
 pub loop-end-preserved : goal.loop-end-preserved
 loop-end-preserved c =
-    let x = c in
-    let f = x in
-    let k = f in
-    let i = k in
-    let l = i in
-    let t = l.args.text.now in (
+    let t = c.args.text.now in (
       c.end-end-in-loop-end.ensures.0,
       (
         c.end-end-in-loop-end.ensures.1.0,
         (
           c.end-end-in-loop-end.ensures.1.1,
-          ap (λ (n : ℕ). is_service (map line_of (lines (drop n t)))) x.next-at.ensures.0
-              ∙ (sym (passed t l.loop-end.at l.loop-end.end l.loop-end.invariant.0 i.loop-end-test.true (by k.is_marker.ensures f.if-is_marker.false))
-              ∙ l.loop-end.invariant.1.1.1),
+          ap (λ (n : ℕ). is_service (map line_of (lines (drop n t)))) c.next-at.ensures.0
+              ∙ (sym (passed t c.loop-end.at c.loop-end.end c.loop-end.invariant.0 c.loop-end-test.true (by c.is_marker.ensures c.if-is_marker.false))
+              ∙ c.loop-end.invariant.1.1.1),
         ),
       ),
     )
@@ -79,7 +69,5 @@ slice_bounds-is_marker-end-2 c = omega arith
 
 pub returns : goal.returns
 returns c =
-    let o = c in
-    let l = o in
-    let t = l.args.text.now in
-    c.is_marker-2.ensures ∙ (sym (last t l.loop-end.at l.loop-end.end l.loop-end.invariant.0 o.loop-end-test.false) ∙ l.loop-end.invariant.1.1.1)
+    let t = c.args.text.now in
+    c.is_marker-2.ensures ∙ (sym (last t c.loop-end.at c.loop-end.end c.loop-end.invariant.0 c.loop-end-test.false) ∙ c.loop-end.invariant.1.1.1)

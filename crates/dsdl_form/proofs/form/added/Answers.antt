@@ -8,38 +8,34 @@ use Rattle.dsdl_form.proofs.form.added.Goals as goal
 
 pub text-requires : goal.text-requires
 text-requires c =
-    let b = c in
     let read = c.read in
     let enum-told2 = c.enum_told-in-Marker-1 in
-    fits-as b.args.at (sym (of-marker b.args.space.now b.args.l.now read.result read.ensures enum-told2.given.1)) b.requires.1
+    fits-as c.args.at (sym (of-marker c.args.space.now c.args.l.now read.result read.ensures enum-told2.given.1)) c.requires.1
 
 pub text-requires-in-Union : goal.text-requires-in-Union
 text-requires-in-Union c =
-    let b = c in
     let read = c.read in
     let enum-told3 = c.enum_told-in-Union-1 in
-    fits-as b.args.at (sym (of-union b.args.space.now b.args.l.now read.result read.ensures enum-told3.given.1)) b.requires.1
+    fits-as c.args.at (sym (of-union c.args.space.now c.args.l.now read.result read.ensures enum-told3.given.1)) c.requires.1
 
 pub padding-requires : goal.padding-requires
 padding-requires c =
-    let b = c in
-    let s = b.args.space.now in
+    let s = c.args.space.now in
     let r = c.read in
-    let e = of-padding s b.args.l.now r.result r.ensures _ c.word_of.result.now c.in-Padding.is c.word_of.ensures in
-    fits-as b.args.at (sym e) b.requires.1
+    let e = of-padding s c.args.l.now r.result r.ensures _ c.word_of.result.now c.in-Padding.is c.word_of.ensures in
+    fits-as c.args.at (sym e) c.requires.1
 
 pub field-requires : goal.field-requires
 field-requires c =
-    let b = c in
-    let s = b.args.space.now in
-    let l = b.args.l.now in
+    let s = c.args.space.now in
+    let l = c.args.l.now in
     let r = c.read in
     let f = c.c-1.given in
     let w = c.word_of-in-Field in
     let v = w.result.now in
     let e = of_field s l r.result r.ensures _ _ _ v c.word_of-in-Field-2.result.now f.1 w.ensures c.word_of-in-Field-2.ensures in (
-      shorter l f.0.1.0 v w.ensures b.requires.0,
-      (sized s l r.result r.ensures _ _ _ v f.1 w.ensures, fits-as b.args.at (sym e) b.requires.1),
+      shorter l f.0.1.0 v w.ensures c.requires.0,
+      (sized s l r.result r.ensures _ _ _ v f.1 w.ensures, fits-as c.args.at (sym e) c.requires.1),
     )
 
 pub returns-in-Nothing : goal.returns-in-Nothing
@@ -50,33 +46,29 @@ returns-in-Nothing c =
 
 pub returns-in-Marker : goal.returns-in-Marker
 returns-in-Marker c =
-    let b = c in
     let read = c.read in
     let enum-told2 = c.enum_told-in-Marker-1 in
     let text = c.text in
-    as-text (of-marker b.args.space.now b.args.l.now read.result read.ensures enum-told2.given.1) text.ensures
+    as-text (of-marker c.args.space.now c.args.l.now read.result read.ensures enum-told2.given.1) text.ensures
 
 pub returns-in-Union : goal.returns-in-Union
 returns-in-Union c =
-    let b = c in
     let read = c.read in
     let enum-told3 = c.enum_told-in-Union-1 in
     let text2 = c.text-in-Union in
-    as-text (of-union b.args.space.now b.args.l.now read.result read.ensures enum-told3.given.1) text2.ensures
+    as-text (of-union c.args.space.now c.args.l.now read.result read.ensures enum-told3.given.1) text2.ensures
 
 pub returns-in-Padding : goal.returns-in-Padding
 returns-in-Padding c =
-    let b = c in
-    let s = b.args.space.now in
+    let s = c.args.space.now in
     let r = c.read in
     let w = c.word_of in
-    as-text (of-padding s b.args.l.now r.result r.ensures _ w.result.now c.in-Padding.is w.ensures) c.padding.ensures
+    as-text (of-padding s c.args.l.now r.result r.ensures _ w.result.now c.in-Padding.is w.ensures) c.padding.ensures
 
 pub returns-in-Field : goal.returns-in-Field
 returns-in-Field c =
-    let b = c in
-    let s = b.args.space.now in
-    let l = b.args.l.now in
+    let s = c.args.space.now in
+    let l = c.args.l.now in
     let r = c.read in
     let f = c.c-1.given in
     let w = c.word_of-in-Field in

@@ -7,21 +7,18 @@ use Rattle.dsdl_form.proofs.form.cast.Goals as goal
 
 pub text-requires : goal.text-requires
 text-requires c =
-    let b = c in
     let enum_told = c.enum_told-1 in
-    fits-as b.args.at (ap cast_form enum_told.given.1) b.requires
+    fits-as c.args.at (ap cast_form enum_told.given.1) c.requires
 
 pub text-requires-in-Saturated : goal.text-requires-in-Saturated
 text-requires-in-Saturated c =
-    let b = c in
     let enum-told2 = c.enum_told-in-Saturated-1 in
-    fits-as b.args.at (ap cast_form enum-told2.given.1) b.requires
+    fits-as c.args.at (ap cast_form enum-told2.given.1) c.requires
 
 pub text-requires-in-Truncated : goal.text-requires-in-Truncated
 text-requires-in-Truncated c =
-    let b = c in
     let enum-told3 = c.enum_told-in-Truncated-1 in
-    fits-as b.args.at (ap cast_form enum-told3.given.1) b.requires
+    fits-as c.args.at (ap cast_form enum-told3.given.1) c.requires
 
 pub returns-in-Unsaid : goal.returns-in-Unsaid
 returns-in-Unsaid c = as-text (sym (ap cast_form c.in-Unsaid.is)) c.text.ensures

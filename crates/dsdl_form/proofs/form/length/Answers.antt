@@ -6,9 +6,8 @@ use Rattle.dsdl_form.proofs.form.length.Goals as goal
 
 pub place-requires : goal.place-requires
 place-requires c =
-    let b = c in (b.requires.1, omega (arith, form-bound b.args.name.now b.args.text.now b.requires.0 b.requires.1))
+    (c.requires.1, omega (arith, form-bound c.args.name.now c.args.text.now c.requires.0 c.requires.1))
 
 pub returns : goal.returns
-returns c = let b = c in
-    let e = c.place.ensures.end in
-    (omega arith, omega (arith, form-bound b.args.name.now b.args.text.now b.requires.0 b.requires.1))
+returns c = let e = c.place.ensures.end in
+    (omega arith, omega (arith, form-bound c.args.name.now c.args.text.now c.requires.0 c.requires.1))

@@ -18,9 +18,8 @@ pub end-end-requires : goal.end-end-requires
 end-end-requires c = omega arith
 
 pub loop-end-init : goal.loop-end-init
-loop-end-init c = let b = c in
-    let e = c.end-end.ensures in
-    (e.0, (e.1.0, (e.1.1, all_left b.args.out.now b.args.at (lines_form b.args.space.now (lines_of b.args.text.now)))))
+loop-end-init c = let e = c.end-end.ensures in
+    (e.0, (e.1.0, (e.1.1, all_left c.args.out.now c.args.at (lines_form c.args.space.now (lines_of c.args.text.now)))))
 
 pub slice_bounds-added-count : goal.slice_bounds-added-count
 slice_bounds-added-count c = omega arith
@@ -32,15 +31,13 @@ pub slice_bounds-added-end : goal.slice_bounds-added-end
 slice_bounds-added-end c = omega arith
 
 pub added-p-requires : goal.added-p-requires
-added-p-requires c = let l = c in
-    let b = l in
-    let s = b.args.space.now in
-    let t = b.args.text.now in
-    let i = l.loop-end.invariant in
-    let x = line_form s (line_of (span t l.loop-end.from (l.loop-end.end - l.loop-end.from))) in
-    let r = onward s t (after_end t l.loop-end.end) in (
-      part_length t (l.loop-end.end - l.loop-end.from) l.loop-end.from b.requires.0,
-      left-fits x r (left_as (one_line s t l.loop-end.from l.loop-end.end i.0 c.loop-end-test.true) i.1.1.1) b.requires.1,
+added-p-requires c = let s = c.args.space.now in
+    let t = c.args.text.now in
+    let i = c.loop-end.invariant in
+    let x = line_form s (line_of (span t c.loop-end.from (c.loop-end.end - c.loop-end.from))) in
+    let r = onward s t (after_end t c.loop-end.end) in (
+      part_length t (c.loop-end.end - c.loop-end.from) c.loop-end.from c.requires.0,
+      left-fits x r (left_as (one_line s t c.loop-end.from c.loop-end.end i.0 c.loop-end-test.true) i.1.1.1) c.requires.1,
     )
 
 pub next-from-requires : goal.next-from-requires
@@ -51,24 +48,20 @@ end-end-requires-in-loop-end c = c.next-from.ensures.1.1
 
 pub loop-end-smaller : goal.loop-end-smaller
 loop-end-smaller c =
-    let x = c in
-    let l = c in
-    omega (arith, x.next-from.ensures.1.0, x.next-from.ensures.1.1, l.loop-end.invariant.1.0)
+    omega (arith, c.next-from.ensures.1.0, c.next-from.ensures.1.1, c.loop-end.invariant.1.0)
 
 pub loop-end-preserved : goal.loop-end-preserved
 loop-end-preserved c =
     let loop-test = c.loop-end-test in
     let added = c.added-p in
     let next = c.next-from in
-    let l = c in
-    let b = l in
-    let s = b.args.space.now in
-    let t = b.args.text.now in
-    let i = l.loop-end.invariant in
-    let x = line_form s (line_of (span t l.loop-end.from (l.loop-end.end - l.loop-end.from))) in
-    let r = onward s t (after_end t l.loop-end.end) in
+    let s = c.args.space.now in
+    let t = c.args.text.now in
+    let i = c.loop-end.invariant in
+    let x = line_form s (line_of (span t c.loop-end.from (c.loop-end.end - c.loop-end.from))) in
+    let r = onward s t (after_end t c.loop-end.end) in
     let e = c.end-end-in-loop-end.ensures in
-    let f = less-left x r (left_as (one_line s t l.loop-end.from l.loop-end.end i.0 loop-test.true) i.1.1.1) added.ensures in
+    let f = less-left x r (left_as (one_line s t c.loop-end.from c.loop-end.end i.0 loop-test.true) i.1.1.1) added.ensures in
     (e.0, (e.1.0, (e.1.1, left_as (ap (onward s t) (sym next.ensures.0)) f)))
 
 pub slice_bounds-added-count-2 : goal.slice_bounds-added-count-2
@@ -81,14 +74,12 @@ pub slice_bounds-added-end-2 : goal.slice_bounds-added-end-2
 slice_bounds-added-end-2 c = omega arith
 
 pub added-requires : goal.added-requires
-added-requires c = let l = c in
-    let b = l in
-    let s = b.args.space.now in
-    let t = b.args.text.now in
-    let i = l.loop-end.invariant in
-    let x = line_form s (line_of (span t l.loop-end.from (l.loop-end.end - l.loop-end.from))) in
-    let f = left_as (final-line s t l.loop-end.from l.loop-end.end i.0 c.loop-end-test.false) i.1.1.1 in
-    (part_length t (l.loop-end.end - l.loop-end.from) l.loop-end.from b.requires.0, left-fits x [] (left_as (sym (append-nil x)) f) b.requires.1)
+added-requires c = let s = c.args.space.now in
+    let t = c.args.text.now in
+    let i = c.loop-end.invariant in
+    let x = line_form s (line_of (span t c.loop-end.from (c.loop-end.end - c.loop-end.from))) in
+    let f = left_as (final-line s t c.loop-end.from c.loop-end.end i.0 c.loop-end-test.false) i.1.1.1 in
+    (part_length t (c.loop-end.end - c.loop-end.from) c.loop-end.from c.requires.0, left-fits x [] (left_as (sym (append-nil x)) f) c.requires.1)
 
 pub shape_of-out : goal.shape_of-out
 shape_of-out c = c.added.auto.0 ∙ c.loop-end.invariant.1.1.1.same
@@ -97,10 +88,8 @@ pub returns : goal.returns
 returns c =
     let loop-test = c.loop-end-test in
     let added2 = c.added in
-    let l = c in
-    let b = l in
-    let s = b.args.space.now in
-    let t = b.args.text.now in
-    let i = l.loop-end.invariant in
-    let x = line_form s (line_of (span t l.loop-end.from (l.loop-end.end - l.loop-end.from))) in
-    none_left x (left_as (final-line s t l.loop-end.from l.loop-end.end i.0 loop-test.false) i.1.1.1) added2.ensures
+    let s = c.args.space.now in
+    let t = c.args.text.now in
+    let i = c.loop-end.invariant in
+    let x = line_form s (line_of (span t c.loop-end.from (c.loop-end.end - c.loop-end.from))) in
+    none_left x (left_as (final-line s t c.loop-end.from c.loop-end.end i.0 loop-test.false) i.1.1.1) added2.ensures

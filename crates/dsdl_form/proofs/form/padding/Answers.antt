@@ -6,7 +6,6 @@ use Rattle.dsdl_form.proofs.form.padding.Goals as goal
 
 pub returns : goal.returns
 returns c =
-    let b = c in
     let text = c.text-p in
     let text2 = c.text in
-    next (10 ∷ []) b.args.w.now text.ensures text2.ensures
+    next (10 ∷ []) c.args.w.now text.ensures text2.ensures

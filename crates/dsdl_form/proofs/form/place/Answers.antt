@@ -12,24 +12,21 @@ use Rattle.dsdl_form.proofs.form.place.Goals as goal
 
 pub text-p-requires : goal.text-p-requires
 text-p-requires c =
-    let b = c in
-    let n = b.args.name.now in front b.args.at n (lines_form (space_of n) (lines_of b.args.text.now)) b.requires.1
+    let n = c.args.name.now in front c.args.at n (lines_form (space_of n) (lines_of c.args.text.now)) c.requires.1
 
 pub lines-requires : goal.lines-requires
 lines-requires c =
     let text = c.text-p in
     let space = c.space-n in
-    let b = c in
-    let n = b.args.name.now in
-    let f : List ℕ → List ℕ = λ (x : List ℕ). lines_form x (lines_of b.args.text.now) in
-    (b.requires.0, fits-as text.result (ap f (sym (space-is n space.result space.ensures.0))) (behind n (f (space_of n)) text.ensures b.requires.1))
+    let n = c.args.name.now in
+    let f : List ℕ → List ℕ = λ (x : List ℕ). lines_form x (lines_of c.args.text.now) in
+    (c.requires.0, fits-as text.result (ap f (sym (space-is n space.result space.ensures.0))) (behind n (f (space_of n)) text.ensures c.requires.1))
 
 pub returns : goal.returns
 returns c =
     let text = c.text-p in
     let space = c.space-n in
     let lines = c.lines in
-    let b = c in
-    let n = b.args.name.now in
-    let f : List ℕ → List ℕ = λ (x : List ℕ). lines_form x (lines_of b.args.text.now) in
+    let n = c.args.name.now in
+    let f : List ℕ → List ℕ = λ (x : List ℕ). lines_form x (lines_of c.args.text.now) in
     next n (f (space_of n)) text.ensures (as-text (ap f (space-is n space.result space.ensures.0)) lines.ensures)

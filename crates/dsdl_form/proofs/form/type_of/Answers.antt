@@ -14,33 +14,30 @@ use Rattle.dsdl_form.proofs.form.type_of.Goals as goal
 pub sizeless-p-requires : goal.sizeless-p-requires
 sizeless-p-requires c =
     let run = c.run-n in
-    let b = c in
-    let a = b.args in
+    let a = c.args in
     let w = a.w.now in
     let f = base_form a.space.now a.c in
-    fits-as a.at (ap f (sym (base-is w _ run.ensures.0))) (front a.at (f (base_text w)) (size_form (size_text w)) b.requires.1.1)
+    fits-as a.at (ap f (sym (base-is w _ run.ensures.0))) (front a.at (f (base_text w)) (size_form (size_text w)) c.requires.1.1)
 
 pub write-requires : goal.write-requires
 write-requires c =
     let run = c.run-n in
     let sizeless = c.sizeless-p in
-    let b = c in
-    let a = b.args in
+    let a = c.args in
     let w = a.w.now in
     let n = run.result in
     let e = run.ensures.0 in
     let f = base_form a.space.now a.c in
     let s = size_is w n e in
-    let h = behind (f (base_text w)) (size_form (size_text w)) (as-text (ap f (base-is w n e)) sizeless.ensures) b.requires.1.1 in
-    (part_length w (length w - n) n b.requires.0, (ap size_fits s ∙ b.requires.1.0, fits-as _ (ap size_form (sym s)) h))
+    let h = behind (f (base_text w)) (size_form (size_text w)) (as-text (ap f (base-is w n e)) sizeless.ensures) c.requires.1.1 in
+    (part_length w (length w - n) n c.requires.0, (ap size_fits s ∙ c.requires.1.0, fits-as _ (ap size_form (sym s)) h))
 
 pub returns : goal.returns
 returns c =
-    let b = c in
     let run = c.run-n in
     let sizeless = c.sizeless-p in
     let write = c.write in
-    let a = b.args in
+    let a = c.args in
     let w = a.w.now in
     let n = run.result in
     let e = run.ensures.0 in

@@ -5,5 +5,4 @@ use Rattle.dsdl_form.proofs.form.write.Goals as goal
 pub returns : goal.returns
 returns c =
     let place = c.place in
-    let b = c in
-    (place.ensures.out b.requires.1, place.ensures.end)
+    (place.ensures.out c.requires.1, place.ensures.end)

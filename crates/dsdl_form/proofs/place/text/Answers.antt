@@ -5,5 +5,4 @@ use Rattle.dsdl_form.proofs.place.text.Goals as goal
 
 pub returns-then-out-end : goal.returns-then-out-end
 returns-then-out-end c =
-    let b = c in
-    no_room b.args.out.now b.args.at b.args.s.now c.if-out-end.true
+    no_room c.args.out.now c.args.at c.args.s.now c.if-out-end.true

@@ -12,48 +12,41 @@ use Rattle.dsdl_form.proofs.size.count.Goals as goal
 
 pub bounds-l-0 : goal.bounds-l-0
 bounds-l-0 c =
-    let b = c in
-    omega (arith, one-there b.args.l.now b.args.less b.requires.1.1.0)
+    omega (arith, one-there c.args.l.now c.args.less c.requires.1.1.0)
 
 pub slice_bounds-unsigned-count : goal.slice_bounds-unsigned-count
 slice_bounds-unsigned-count c =
-    let b = c in
-    one-there b.args.l.now b.args.less b.requires.1.1.0
+    one-there c.args.l.now c.args.less c.requires.1.1.0
 
 pub slice_bounds-unsigned-start : goal.slice_bounds-unsigned-start
 slice_bounds-unsigned-start c =
-    let b = c in
-    one-there b.args.l.now b.args.less b.requires.1.1.0
+    one-there c.args.l.now c.args.less c.requires.1.1.0
 
 pub unsigned-requires : goal.unsigned-requires
 unsigned-requires c =
     let if1 = c.if-l-eq43 in
-    let b = c in
-    let a = b.args in
+    let a = c.args in
     let l = a.l.now in
     let u = unsigned (take (length l - 1) (drop 1 l)) in
-    let p = passed (count l - a.less) u a.less a.at (ap (λ (k : ℕ). k - a.less) (with-plus l if1.true)) (omega (arith, b.requires.1.1.0)) b.requires.1.1.1 in
-    (part_length l (length l - 1) 1 b.requires.0, (b.requires.1.0, p))
+    let p = passed (count l - a.less) u a.less a.at (ap (λ (k : ℕ). k - a.less) (with-plus l if1.true)) (omega (arith, c.requires.1.1.0)) c.requires.1.1.1 in
+    (part_length l (length l - 1) 1 c.requires.0, (c.requires.1.0, p))
 
 pub returns-then-l-eq43 : goal.returns-then-l-eq43
 returns-then-l-eq43 c =
-    let b = c in
     let if1 = c.if-l-eq43 in
     let unsigned' = c.unsigned in
-    let a = b.args in as-text (ap (λ (k : ℕ). decimal (k - a.less)) (sym (with-plus a.l.now if1.true))) unsigned'.ensures
+    let a = c.args in as-text (ap (λ (k : ℕ). decimal (k - a.less)) (sym (with-plus a.l.now if1.true))) unsigned'.ensures
 
 pub unsigned-requires-2 : goal.unsigned-requires-2
 unsigned-requires-2 c =
     let if1 = c.if-l-eq43 in
-    let b = c in
-    let a = b.args in
+    let a = c.args in
     let l = a.l.now in
-    let p = passed (count l - a.less) (unsigned l) a.less a.at (ap (λ (k : ℕ). k - a.less) (no_plus l if1.false)) (omega (arith, b.requires.1.1.0)) b.requires.1.1.1 in
-    (b.requires.0, (b.requires.1.0, p))
+    let p = passed (count l - a.less) (unsigned l) a.less a.at (ap (λ (k : ℕ). k - a.less) (no_plus l if1.false)) (omega (arith, c.requires.1.1.0)) c.requires.1.1.1 in
+    (c.requires.0, (c.requires.1.0, p))
 
 pub returns : goal.returns
 returns c =
-    let b = c in
     let if1 = c.if-l-eq43 in
     let unsigned2 = c.unsigned-2 in
-    let a = b.args in as-text (ap (λ (k : ℕ). decimal (k - a.less)) (sym (no_plus a.l.now if1.false))) unsigned2.ensures
+    let a = c.args in as-text (ap (λ (k : ℕ). decimal (k - a.less)) (sym (no_plus a.l.now if1.false))) unsigned2.ensures

@@ -13,73 +13,63 @@ use Rattle.dsdl_form.proofs.size.items.Goals as goal
 
 pub count-requires : goal.count-requires
 count-requires c =
-    let b = c in
-    let l = b.args.l.now in
+    let l = c.args.l.now in
     let e = exactly l (told l _ _ c.bounds_of.ensures c.in-Exactly.is) in
-    (b.requires.0, (omega arith, passed (items_by (bounds_of l) l) (count l) 0 b.args.at e b.requires.1.0 b.requires.1.1))
+    (c.requires.0, (omega arith, passed (items_by (bounds_of l) l) (count l) 0 c.args.at e c.requires.1.0 c.requires.1.1))
 
 pub slice_bounds-count-count : goal.slice_bounds-count-count
 slice_bounds-count-count c =
-    let b = c in
     let bounds_of = c.bounds_of in
     let enum-told2 = c.enum_told-in-Below-1 in
-    one-there b.args.l.now (told b.args.l.now _ _ bounds_of.ensures enum-told2.given.1)
+    one-there c.args.l.now (told c.args.l.now _ _ bounds_of.ensures enum-told2.given.1)
 
 pub slice_bounds-count-start : goal.slice_bounds-count-start
 slice_bounds-count-start c =
-    let b = c in
     let bounds_of = c.bounds_of in
     let enum-told2 = c.enum_told-in-Below-1 in
-    one-there b.args.l.now (told b.args.l.now _ _ bounds_of.ensures enum-told2.given.1)
+    one-there c.args.l.now (told c.args.l.now _ _ bounds_of.ensures enum-told2.given.1)
 
 pub count-requires-in-Below : goal.count-requires-in-Below
 count-requires-in-Below c =
-    let b = c in
-    let l = b.args.l.now in
+    let l = c.args.l.now in
     let e = below l (told l _ _ c.bounds_of.ensures c.in-Below.is) in
-    (part_length l (length l - 1) 1 b.requires.0, (omega arith, passed (items_by (bounds_of l) l) (count (take (length l - 1) (drop 1 l))) 1 b.args.at e b.requires.1.0 b.requires.1.1))
+    (part_length l (length l - 1) 1 c.requires.0, (omega arith, passed (items_by (bounds_of l) l) (count (take (length l - 1) (drop 1 l))) 1 c.args.at e c.requires.1.0 c.requires.1.1))
 
 pub slice_bounds-count-count-in-AtMost : goal.slice_bounds-count-count-in-AtMost
 slice_bounds-count-count-in-AtMost c =
-    let b = c in
     let bounds_of = c.bounds_of in
     let enum-told3 = c.enum_told-in-AtMost-1 in
-    two-there b.args.l.now (told b.args.l.now _ _ bounds_of.ensures enum-told3.given.1)
+    two-there c.args.l.now (told c.args.l.now _ _ bounds_of.ensures enum-told3.given.1)
 
 pub slice_bounds-count-start-in-AtMost : goal.slice_bounds-count-start-in-AtMost
 slice_bounds-count-start-in-AtMost c =
-    let b = c in
     let bounds_of = c.bounds_of in
     let enum-told3 = c.enum_told-in-AtMost-1 in
-    two-there b.args.l.now (told b.args.l.now _ _ bounds_of.ensures enum-told3.given.1)
+    two-there c.args.l.now (told c.args.l.now _ _ bounds_of.ensures enum-told3.given.1)
 
 pub count-requires-in-AtMost : goal.count-requires-in-AtMost
 count-requires-in-AtMost c =
-    let b = c in
-    let l = b.args.l.now in
+    let l = c.args.l.now in
     let e = at-most l (told l _ _ c.bounds_of.ensures c.in-AtMost.is) in
-    (part_length l (length l - 2) 2 b.requires.0, (omega arith, passed (items_by (bounds_of l) l) (count (take (length l - 2) (drop 2 l))) 0 b.args.at e b.requires.1.0 b.requires.1.1))
+    (part_length l (length l - 2) 2 c.requires.0, (omega arith, passed (items_by (bounds_of l) l) (count (take (length l - 2) (drop 2 l))) 0 c.args.at e c.requires.1.0 c.requires.1.1))
 
 pub returns-in-Exactly : goal.returns-in-Exactly
 returns-in-Exactly c =
-    let b = c in
     let bounds_of = c.bounds_of in
     let enum_told = c.enum_told-1 in
     let count' = c.count in
-    as-text (ap decimal (sym (exactly b.args.l.now (told b.args.l.now _ _ bounds_of.ensures enum_told.given.1)))) count'.ensures
+    as-text (ap decimal (sym (exactly c.args.l.now (told c.args.l.now _ _ bounds_of.ensures enum_told.given.1)))) count'.ensures
 
 pub returns-in-Below : goal.returns-in-Below
 returns-in-Below c =
-    let b = c in
     let bounds_of = c.bounds_of in
     let enum-told2 = c.enum_told-in-Below-1 in
     let count2 = c.count-in-Below in
-    as-text (ap decimal (sym (below b.args.l.now (told b.args.l.now _ _ bounds_of.ensures enum-told2.given.1)))) count2.ensures
+    as-text (ap decimal (sym (below c.args.l.now (told c.args.l.now _ _ bounds_of.ensures enum-told2.given.1)))) count2.ensures
 
 pub returns-in-AtMost : goal.returns-in-AtMost
 returns-in-AtMost c =
-    let b = c in
     let bounds_of = c.bounds_of in
     let enum-told3 = c.enum_told-in-AtMost-1 in
     let count3 = c.count-in-AtMost in
-    as-text (ap decimal (sym (at-most b.args.l.now (told b.args.l.now _ _ bounds_of.ensures enum-told3.given.1)))) count3.ensures
+    as-text (ap decimal (sym (at-most c.args.l.now (told c.args.l.now _ _ bounds_of.ensures enum-told3.given.1)))) count3.ensures

@@ -18,18 +18,16 @@ two c =
     prefixed l (λ z. c.if-b-eq10.false (e ∙ z)) (λ z. omega (arith, based l (omega (arith, b.requires.1.1.0))))
 
 pub number-requires : goal.number-requires
-number-requires c = let b = c in
-    let l = b.args.l.now in
+number-requires c = let l = c.args.l.now in
     let t = c.if-b-eq10.true in
     let e = c.base-b.ensures in
-    (b.requires.0, asked l l 10 b.args.less (sym t ∙ e) (all_digits l _ e t) b.requires.1.1.0 b.args.at b.requires.1.0 b.requires.1.1.1)
+    (c.requires.0, asked l l 10 c.args.less (sym t ∙ e) (all_digits l _ e t) c.requires.1.1.0 c.args.at c.requires.1.0 c.requires.1.1.1)
 
 pub returns-then-b-eq10 : goal.returns-then-b-eq10
-returns-then-b-eq10 c = let b = c in
-    let l = b.args.l.now in
+returns-then-b-eq10 c = let l = c.args.l.now in
     let t = c.if-b-eq10.true in
     let e = c.base-b.ensures in
-    as-text (as-literal l l 10 b.args.less (sym t ∙ e) (all_digits l _ e t) b.requires.1.1.0) c.number.ensures
+    as-text (as-literal l l 10 c.args.less (sym t ∙ e) (all_digits l _ e t) c.requires.1.1.0) c.number.ensures
 
 pub slice_bounds-number-count : goal.slice_bounds-number-count
 slice_bounds-number-count c = two c
@@ -38,18 +36,16 @@ pub slice_bounds-number-start : goal.slice_bounds-number-start
 slice_bounds-number-start c = two c
 
 pub number-requires-2 : goal.number-requires-2
-number-requires-2 c = let b = c in
-    let l = b.args.l.now in
+number-requires-2 c = let l = c.args.l.now in
     let e = c.base-b.ensures in
     let d = behind-prefix l _ e c.if-b-eq10.false in
-    (part_length l (length l - 2) 2 b.requires.0, asked l _ _ b.args.less e d b.requires.1.1.0 b.args.at b.requires.1.0 b.requires.1.1.1)
+    (part_length l (length l - 2) 2 c.requires.0, asked l _ _ c.args.less e d c.requires.1.1.0 c.args.at c.requires.1.0 c.requires.1.1.1)
 
 pub returns : goal.returns
 returns c =
     let base = c.base-b in
     let if1 = c.if-b-eq10 in
     let number2 = c.number-2 in
-    let b = c in
-    let l = b.args.l.now in
+    let l = c.args.l.now in
     let e = base.ensures in
-    as-text (as-literal l _ _ b.args.less e (behind-prefix l _ e if1.false) b.requires.1.1.0) number2.ensures
+    as-text (as-literal l _ _ c.args.less e (behind-prefix l _ e if1.false) c.requires.1.1.0) number2.ensures

@@ -16,7 +16,7 @@ is_same : (q : goal.After-same invariant-loop decreases-loop) → let l = q in l
 is_same q = let l = q in sym (q.same.ensures ∙ ap₂ same l.name.ensures q.name2.ensures)
 
 pub name-name-requires : goal.name-name-requires
-name-name-requires c = let s = c in s.requires.1.holds s.args.i s.requires.0
+name-name-requires c = c.requires.1.holds c.args.i c.requires.0
 
 pub overflow_add-j : goal.overflow_add-j
 overflow_add-j c = omega arith
@@ -25,15 +25,13 @@ pub loop-j-init : goal.loop-j-init
 loop-j-init c = refl
 
 pub name-requires : goal.name-requires
-name-requires c = let l = c in let s = l in s.requires.1.holds l.loop-j.j c.loop-j-test.true
+name-requires c = c.requires.1.holds c.loop-j.j c.loop-j-test.true
 
 pub returns-then-same : goal.returns-then-same
 returns-then-same c =
-    let q = c in
-    let l = q in
-    let a = l.args in
+    let a = c.args in
     let d = definition_at a.source.now a.bounds in
-    sym (among-turn d l.loop-j.j a.n (d a.i).name true (omega arith) (is_same q ∙ c.if-same.true)) ∙ l.loop-j.invariant
+    sym (among-turn d c.loop-j.j a.n (d a.i).name true (omega arith) (is_same c ∙ c.if-same.true)) ∙ c.loop-j.invariant
 
 pub overflow_add-j-in-loop-j : goal.overflow_add-j-in-loop-j
 overflow_add-j-in-loop-j c = omega arith
@@ -43,15 +41,12 @@ loop-j-smaller c = omega arith
 
 pub loop-j-preserved : goal.loop-j-preserved
 loop-j-preserved c =
-    let q = c in
-    let l = q in
-    let a = l.args in
+    let a = c.args in
     let d = definition_at a.source.now a.bounds in
-    sym (among-turn d l.loop-j.j a.n (d a.i).name false (omega arith) (is_same q ∙ c.if-same.false)) ∙ l.loop-j.invariant
+    sym (among-turn d c.loop-j.j a.n (d a.i).name false (omega arith) (is_same c ∙ c.if-same.false)) ∙ c.loop-j.invariant
 
 pub returns : goal.returns
 returns c =
-    let l = c in
-    let a = l.args in
+    let a = c.args in
     let d = definition_at a.source.now a.bounds in
-    sym (among_none d l.loop-j.j a.n (d a.i).name c.loop-j-test.false) ∙ l.loop-j.invariant
+    sym (among_none d c.loop-j.j a.n (d a.i).name c.loop-j-test.false) ∙ c.loop-j.invariant

@@ -11,21 +11,15 @@ returns-then-n-gt-DEFINITIONS c = let a = c.args in many a.source.now a.lengths.
 
 pub returns-then-too_long : goal.returns-then-too_long
 returns-then-too_long c =
-    let l = c in
-    let a = l.args in
-    long a.source.now a.lengths.now l.if-n-gt-DEFINITIONS.false (by l.too_long.ensures c.if-too_long.true)
+    let a = c.args in
+    long a.source.now a.lengths.now c.if-n-gt-DEFINITIONS.false (by c.too_long.ensures c.if-too_long.true)
 
 pub name_twice-requires : goal.name_twice-requires
 name_twice-requires c =
-    let e = c in
-    let l = e in
-    let a = l.args in
-    inside a.lengths.now c.bounds.result (count a.source.now a.lengths.now) c.bounds.ensures a.source.now l.if-n-gt-DEFINITIONS.false (by l.too_long.ensures e.if-too_long.false)
+    let a = c.args in
+    inside a.lengths.now c.bounds.result (count a.source.now a.lengths.now) c.bounds.ensures a.source.now c.if-n-gt-DEFINITIONS.false (by c.too_long.ensures c.if-too_long.false)
 
 pub returns : goal.returns
 returns c =
-    let b = c in
-    let e = b in
-    let l = e in
-    let a = l.args in
-    c.name_twice.ensures ∙ by_names a.source.now a.lengths.now l.if-n-gt-DEFINITIONS.false (by l.too_long.ensures e.if-too_long.false) b.bounds.result b.bounds.ensures
+    let a = c.args in
+    c.name_twice.ensures ∙ by_names a.source.now a.lengths.now c.if-n-gt-DEFINITIONS.false (by c.too_long.ensures c.if-too_long.false) c.bounds.result c.bounds.ensures

@@ -18,10 +18,8 @@ is_again-requires c = (c.loop-i-test.true, c.requires)
 
 pub returns-then-is_again : goal.returns-then-is_again
 returns-then-is_again c =
-    let q = c in
-    let l = q in
-    let a = l.args in
-    sym (twice-turn (definition_at a.source.now a.bounds) l.loop-i.i a.n true (omega arith) (sym q.is_again.ensures ∙ c.if-is_again.true)) ∙ l.loop-i.invariant
+    let a = c.args in
+    sym (twice-turn (definition_at a.source.now a.bounds) c.loop-i.i a.n true (omega arith) (sym c.is_again.ensures ∙ c.if-is_again.true)) ∙ c.loop-i.invariant
 
 pub overflow_add-i : goal.overflow_add-i
 overflow_add-i c = omega arith
@@ -31,13 +29,10 @@ loop-i-smaller c = omega arith
 
 pub loop-i-preserved : goal.loop-i-preserved
 loop-i-preserved c =
-    let q = c in
-    let l = q in
-    let a = l.args in
-    sym (twice-turn (definition_at a.source.now a.bounds) l.loop-i.i a.n false (omega arith) (sym q.is_again.ensures ∙ c.if-is_again.false)) ∙ l.loop-i.invariant
+    let a = c.args in
+    sym (twice-turn (definition_at a.source.now a.bounds) c.loop-i.i a.n false (omega arith) (sym c.is_again.ensures ∙ c.if-is_again.false)) ∙ c.loop-i.invariant
 
 pub returns : goal.returns
 returns c =
-    let l = c in
-    let a = l.args in
-    sym (twice-none (definition_at a.source.now a.bounds) l.loop-i.i a.n c.loop-i-test.false) ∙ l.loop-i.invariant
+    let a = c.args in
+    sym (twice-none (definition_at a.source.now a.bounds) c.loop-i.i a.n c.loop-i-test.false) ∙ c.loop-i.invariant

@@ -28,23 +28,16 @@ length-text-requires c = omega arith
 
 pub returns-then-text-gt-TEXT : goal.returns-then-text-gt-TEXT
 returns-then-text-gt-TEXT c =
-    let y = c in
-    let x = y in
-    let l = x in
-    let f = length_at l.args.lengths.now in
-    long-text f l.loop-k.k _ (omega arith) l.loop-k.left x.length-name.result y.length-text.result x.length-name.ensures.0 y.length-text.ensures.0 c.if-text-gt-TEXT.true ∙ l.loop-k.invariant.1.1
+    let f = length_at c.args.lengths.now in
+    long-text f c.loop-k.k _ (omega arith) c.loop-k.left c.length-name.result c.length-text.result c.length-name.ensures.0 c.length-text.ensures.0 c.if-text-gt-TEXT.true ∙ c.loop-k.invariant.1.1
 
 pub overflow_add-name : goal.overflow_add-name
 overflow_add-name c = omega arith
 
 pub returns-then-left-name : goal.returns-then-left-name
 returns-then-left-name c =
-    let e = c in
-    let y = e in
-    let x = y in
-    let l = x in
-    let f = length_at l.args.lengths.now in
-    past f l.loop-k.k _ (omega arith) l.loop-k.left x.length-name.result y.length-text.result x.length-name.ensures.0 y.length-text.ensures.0 e.if-text-gt-TEXT.false c.if-left-name.true ∙ l.loop-k.invariant.1.1
+    let f = length_at c.args.lengths.now in
+    past f c.loop-k.k _ (omega arith) c.loop-k.left c.length-name.result c.length-text.result c.length-name.ensures.0 c.length-text.ensures.0 c.if-text-gt-TEXT.false c.if-left-name.true ∙ c.loop-k.invariant.1.1
 
 pub overflow_add-left : goal.overflow_add-left
 overflow_add-left c = omega arith
@@ -60,20 +53,15 @@ loop-k-smaller c = omega arith
 
 pub loop-k-preserved : goal.loop-k-preserved
 loop-k-preserved c =
-    let e = c in
-    let y = e in
-    let x = y in
-    let l = x in
-    let f = length_at l.args.lengths.now in (
+    let f = length_at c.args.lengths.now in (
       (omega arith, refl),
       (
         omega arith,
-        sym (goes_on f l.loop-k.k _ (omega arith) l.loop-k.left x.length-name.result y.length-text.result x.length-name.ensures.0 y.length-text.ensures.0 e.if-text-gt-TEXT.false c.if-left-name.false)
-            ∙ l.loop-k.invariant.1.1,
+        sym (goes_on f c.loop-k.k _ (omega arith) c.loop-k.left c.length-name.result c.length-text.result c.length-name.ensures.0 c.length-text.ensures.0 c.if-text-gt-TEXT.false c.if-left-name.false)
+            ∙ c.loop-k.invariant.1.1,
       ),
     )
 
 pub returns : goal.returns
 returns c =
-    let l = c in
-    no_more (length_at l.args.lengths.now) l.loop-k.k _ l.loop-k.left c.loop-k-test.false ∙ l.loop-k.invariant.1.1
+    no_more (length_at c.args.lengths.now) c.loop-k.k _ c.loop-k.left c.loop-k-test.false ∙ c.loop-k.invariant.1.1

@@ -33,17 +33,16 @@ loop-k-smaller c = omega arith
 
 pub loop-k-preserved : goal.loop-k-preserved
 loop-k-preserved c =
-    let l = c in
-    let i = l.loop-k.invariant in
-    let e = l.loop-k.ends in
-    let r : l.loop-k.k + 1 < length e = omega arith in
+    let i = c.loop-k.invariant in
+    let e = c.loop-k.ends in
+    let r : c.loop-k.k + 1 < length e = omega arith in
     let x = c.length-at.result in (
-      (omega arith, length-set e (l.loop-k.k + 1) (l.loop-k.at + x) ∙ i.0.1),
+      (omega arith, length-set e (c.loop-k.k + 1) (c.loop-k.at + x) ∙ i.0.1),
       (
         omega arith,
         (
-          sym (get_or-set_same e (l.loop-k.k + 1) (l.loop-k.at + x) 0 r),
-          one_more (length_at l.args.lengths.now) e l.loop-k.at l.loop-k.k x r i.1.1.1 i.1.1.0 c.length-at.ensures.0,
+          sym (get_or-set_same e (c.loop-k.k + 1) (c.loop-k.at + x) 0 r),
+          one_more (length_at c.args.lengths.now) e c.loop-k.at c.loop-k.k x r i.1.1.1 i.1.1.0 c.length-at.ensures.0,
         ),
       ),
     )

@@ -5,6 +5,5 @@ use Rattle.dsdl_line.proofs.shape.cast_attribute.Goals as goal
 
 pub returns : goal.returns
 returns c =
-    let w = c in
-    let a = w.args in
-    cast-read a.line.now a.from a.stop w.next-w.result w.next-w.ensures.0 a.c _ c.attribute.ensures
+    let a = c.args in
+    cast-read a.line.now a.from a.stop c.next-w.result c.next-w.ensures.0 a.c _ c.attribute.ensures

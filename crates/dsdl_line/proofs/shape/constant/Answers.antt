@@ -10,16 +10,10 @@ returns-then-not-is_constant_type c = next _ _ _ _ (sym (and_first _ _ (by c.is_
 
 pub returns-then-not-is_text : goal.returns-then-not-is_text
 returns-then-not-is_text c =
-    let t = c in
-    let f = t in
-    let k = f in
-    next _ _ _ _ (sym (and-next _ _ _ (by k.is_constant_type.ensures (not-false _ f.if-not-is_constant_type.false))
-    (sym (by t.is_text.ensures (not-true _ c.if-not-is_text.true))))) refl
+    next _ _ _ _ (sym (and-next _ _ _ (by c.is_constant_type.ensures (not-false _ c.if-not-is_constant_type.false))
+    (sym (by c.is_text.ensures (not-true _ c.if-not-is_text.true))))) refl
 
 pub returns : goal.returns
 returns c =
-    let t = c in
-    let f = t in
-    let k = f in
-    first _ _ _ (sym (and-next _ _ _ (by k.is_constant_type.ensures (not-false _ f.if-not-is_constant_type.false))
-    (sym (by t.is_text.ensures (not-false _ c.if-not-is_text.false)))))
+    first _ _ _ (sym (and-next _ _ _ (by c.is_constant_type.ensures (not-false _ c.if-not-is_constant_type.false))
+    (sym (by c.is_text.ensures (not-false _ c.if-not-is_text.false)))))

@@ -8,4 +8,4 @@ pub returns-then-not-is_text : goal.returns-then-not-is_text
 returns-then-not-is_text c = and_first _ _ (by c.is_text.ensures (not-true _ c.if-not-is_text.true))
 
 pub returns : goal.returns
-returns c = let f = c in and-next _ _ _ (by f.is_text.ensures (not-false _ f.if-not-is_text.false)) c.is_ended.ensures
+returns c = and-next _ _ _ (by c.is_text.ensures (not-false _ c.if-not-is_text.false)) c.is_ended.ensures

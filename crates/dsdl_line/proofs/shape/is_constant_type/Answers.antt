@@ -8,14 +8,10 @@ use Rattle.dsdl_line.proofs.shape.is_constant_type.Goals as goal
 
 pub returns-then-n-w : goal.returns-then-n-w
 returns-then-n-w c =
-    let n = c in
-    and_first _ _ (some_size n.args.w.now n.run-n.result n.run-n.ensures.0 c.if-n-w.true)
+    and_first _ _ (some_size c.args.w.now c.run-n.result c.run-n.ensures.0 c.if-n-w.true)
 
 pub returns : goal.returns
 returns c =
-    let b = c in
-    let f = b in
-    let n = f in
-    let w = n.args.w.now in
-    and-next _ _ _ (no_size w n.run-n.result n.run-n.ensures.0 f.if-n-w.false)
-    (c.is_primitive.ensures ∙ ap is_primitive (base_read w n.run-n.result n.run-n.ensures.0 b.read.result b.read.ensures))
+    let w = c.args.w.now in
+    and-next _ _ _ (no_size w c.run-n.result c.run-n.ensures.0 c.if-n-w.false)
+    (c.is_primitive.ensures ∙ ap is_primitive (base_read w c.run-n.result c.run-n.ensures.0 c.read.result c.read.ensures))

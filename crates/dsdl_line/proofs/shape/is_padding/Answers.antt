@@ -7,10 +7,8 @@ use borrow.Author.Rules.{rules}
 use Rattle.dsdl_line.proofs.shape.is_padding.Goals as goal
 
 pub returns-then-not-is_void : goal.returns-then-not-is_void
-returns-then-not-is_void c = let v = c in and_first _ _ (by (v.is_void.ensures ∙ ap is_void v.read.ensures) (not-true _ c.if-not-is_void.true))
+returns-then-not-is_void c = and_first _ _ (by (c.is_void.ensures ∙ ap is_void c.read.ensures) (not-true _ c.if-not-is_void.true))
 
 pub returns : goal.returns
 returns c =
-    let f = c in
-    let v = f in
-    and-next _ _ _ (by (v.is_void.ensures ∙ ap is_void v.read.ensures) (not-false _ f.if-not-is_void.false)) c.is_ended.ensures
+    and-next _ _ _ (by (c.is_void.ensures ∙ ap is_void c.read.ensures) (not-false _ c.if-not-is_void.false)) c.is_ended.ensures

@@ -10,18 +10,12 @@ use Rattle.dsdl_line.proofs.shape.read.Goals as goal
 pub returns-then-is_ended : goal.returns-then-is_ended
 unfolding shape_of
 returns-then-is_ended c =
-    let d = c in
-    let n = d in
-    let l = n.args.line.now in
-    first _ _ _ (by (d.is_ended.ensures ∙ ap ended (bare-part l n.run-stop.result n.run-stop.ensures.0)) c.if-is_ended.true)
+    let l = c.args.line.now in
+    first _ _ _ (by (c.is_ended.ensures ∙ ap ended (bare-part l c.run-stop.result c.run-stop.ensures.0)) c.if-is_ended.true)
 
 pub returns : goal.returns
 unfolding shape_of
 returns c =
-    let w = c in
-    let f = w in
-    let d = f in
-    let n = d in
-    let l = n.args.line.now in
-    next _ _ _ _ (by (d.is_ended.ensures ∙ ap ended (bare-part l n.run-stop.result n.run-stop.ensures.0)) f.if-is_ended.false)
-    (shape-read l n.run-stop.result n.run-stop.ensures.0 w.next-w.result w.next-w.ensures.0 _ c.by_first.ensures)
+    let l = c.args.line.now in
+    next _ _ _ _ (by (c.is_ended.ensures ∙ ap ended (bare-part l c.run-stop.result c.run-stop.ensures.0)) c.if-is_ended.false)
+    (shape-read l c.run-stop.result c.run-stop.ensures.0 c.next-w.result c.next-w.ensures.0 _ c.by_first.ensures)

@@ -10,12 +10,10 @@ use Rattle.dsdl_nesting.proofs.base.of_type.Goals as goal
 
 pub returns : goal.returns
 returns c =
-    let r = c in
-    let v = r in
-    let a = v.args in
+    let a = c.args in
     let l = a.line.now in
-    let w = v.within-v.result in (
-      typed l a.w w r.run.result c.is_nested.result v.within-v.ensures.0 r.run.ensures.0
+    let w = c.within-v.result in (
+      typed l a.w w c.run.result c.is_nested.result c.within-v.ensures.0 c.run.ensures.0
           (c.is_nested.ensures ∙ ap is_nested c.read.ensures),
-      (omega arith, omega (arith, r.run.ensures.1, length-take (w.end - w.at) (drop w.at l), length-drop w.at l)),
+      (omega arith, omega (arith, c.run.ensures.1, length-take (w.end - w.at) (drop w.at l), length-drop w.at l)),
     )

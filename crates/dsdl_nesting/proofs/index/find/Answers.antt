@@ -16,16 +16,14 @@ pub loop-i-init : goal.loop-i-init
 loop-i-init c = (omega arith, starts _ _ _)
 
 pub name-requires : goal.name-requires
-name-requires c = let l = c in l.requires.holds l.loop-i.i c.loop-i-test.true
+name-requires c = c.requires.holds c.loop-i.i c.loop-i-test.true
 
 pub returns-then-is : goal.returns-then-is
 returns-then-is c =
-    let s = c in
-    let l = s in
-    let a = l.args in
+    let a = c.args in
     let x = full_name a.space.now a.base.now in
-    let e = here (definition_at a.source.now a.bounds) x l.loop-i.i a.n (omega arith) (by (s.is.ensures ∙ ap (same x) s.name.ensures) c.if-is.true) in
-    (omega (arith, e, l.loop-i.invariant.1), omega arith)
+    let e = here (definition_at a.source.now a.bounds) x c.loop-i.i a.n (omega arith) (by (c.is.ensures ∙ ap (same x) c.name.ensures) c.if-is.true) in
+    (omega (arith, e, c.loop-i.invariant.1), omega arith)
 
 pub overflow_add-i : goal.overflow_add-i
 overflow_add-i c = omega arith
@@ -35,16 +33,13 @@ loop-i-smaller c = omega arith
 
 pub loop-i-preserved : goal.loop-i-preserved
 loop-i-preserved c =
-    let s = c in
-    let l = s in
-    let a = l.args in
+    let a = c.args in
     let x = full_name a.space.now a.base.now in
-    let e = later (definition_at a.source.now a.bounds) x l.loop-i.i a.n (omega arith) (by (s.is.ensures ∙ ap (same x) s.name.ensures) c.if-is.false) in
-    (omega arith, omega (arith, e, l.loop-i.invariant.1))
+    let e = later (definition_at a.source.now a.bounds) x c.loop-i.i a.n (omega arith) (by (c.is.ensures ∙ ap (same x) c.name.ensures) c.if-is.false) in
+    (omega arith, omega (arith, e, c.loop-i.invariant.1))
 
 pub returns : goal.returns
 returns c =
-    let l = c in
-    let a = l.args in
-    let e = nowhere (definition_at a.source.now a.bounds) (full_name a.space.now a.base.now) l.loop-i.i a.n (omega arith) in
-    (omega (arith, e, l.loop-i.invariant.1), omega arith)
+    let a = c.args in
+    let e = nowhere (definition_at a.source.now a.bounds) (full_name a.space.now a.base.now) c.loop-i.i a.n (omega arith) in
+    (omega (arith, e, c.loop-i.invariant.1), omega arith)

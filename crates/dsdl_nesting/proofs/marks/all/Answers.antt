@@ -17,8 +17,7 @@ bounds-marks-i c = omega arith
 
 pub returns-then-not-marks-i : goal.returns-then-not-marks-i
 returns-then-not-marks-i c =
-    let l = c in
-    sym (sym l.loop-i.invariant.1 ∙ off _ l.loop-i.i l.args.n (omega arith) (not-true _ c.if-not-marks-i.true))
+    sym (sym c.loop-i.invariant.1 ∙ off _ c.loop-i.i c.args.n (omega arith) (not-true _ c.if-not-marks-i.true))
 
 pub overflow_add-i : goal.overflow_add-i
 overflow_add-i c = omega arith
@@ -28,10 +27,8 @@ loop-i-smaller c = omega arith
 
 pub loop-i-preserved : goal.loop-i-preserved
 loop-i-preserved c =
-    let l = c in
-    (omega arith, sym (on _ l.loop-i.i l.args.n (omega arith) (not-false _ c.if-not-marks-i.false)) ∙ l.loop-i.invariant.1)
+    (omega arith, sym (on _ c.loop-i.i c.args.n (omega arith) (not-false _ c.if-not-marks-i.false)) ∙ c.loop-i.invariant.1)
 
 pub returns : goal.returns
 returns c =
-    let l = c in
-    sym (sym l.loop-i.invariant.1 ∙ done _ l.loop-i.i l.args.n (omega arith))
+    sym (sym c.loop-i.invariant.1 ∙ done _ c.loop-i.i c.args.n (omega arith))

@@ -8,10 +8,6 @@ use Rattle.dsdl_nesting.proofs.marks.all_given.Goals as goal
 
 pub returns : goal.returns
 returns c =
-    let x = c in
-    let t = x in
-    let m = t in
-    let s = m in
     c.all-2.ensures
-    ∙ all-messages (definition_at s.args.source.now s.args.bounds) s.args.n (omega (arith, s.requires.0.few)) t.all.result t.all.ensures.row
-    m.messages-m.result x.next.result s.requires.1 m.messages-m.ensures x.next.ensures
+    ∙ all-messages (definition_at c.args.source.now c.args.bounds) c.args.n (omega (arith, c.requires.0.few)) c.all.result c.all.ensures.row
+    c.messages-m.result c.next.result c.requires.1 c.messages-m.ensures c.next.ensures

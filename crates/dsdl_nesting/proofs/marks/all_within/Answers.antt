@@ -11,7 +11,5 @@ use Rattle.dsdl_nesting.proofs.marks.all_within.Goals as goal
 
 pub returns : goal.returns
 returns c =
-    let w = c in
-    let s = w in
-    let d = definition_at s.args.source.now s.args.bounds in
-    c.all.ensures ∙ all-kept d s.args.n (omega (arith, s.requires.few)) (within chain_max (tabulate d 0 s.args.n)) true w.within.result w.within.ensures
+    let d = definition_at c.args.source.now c.args.bounds in
+    c.all.ensures ∙ all-kept d c.args.n (omega (arith, c.requires.few)) (within chain_max (tabulate d 0 c.args.n)) true c.within.result c.within.ensures

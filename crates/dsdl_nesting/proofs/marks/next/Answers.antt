@@ -15,7 +15,7 @@ pub row-requires : goal.row-requires
 row-requires c = omega (arith, c.requires)
 
 pub bounds-r-i : goal.bounds-r-i
-bounds-r-i c = let l = c in omega (arith, l.requires)
+bounds-r-i c = omega (arith, c.requires)
 
 pub overflow_add-i : goal.overflow_add-i
 overflow_add-i c = omega arith
@@ -25,9 +25,7 @@ loop-i-smaller c = omega arith
 
 pub loop-i-preserved : goal.loop-i-preserved
 loop-i-preserved c =
-    let i = c in
-    let l = i in
-    (omega arith, one_more _ _ _ _ (omega (arith, l.requires)) l.loop-i.i l.loop-i.r _ i.loop-i-test.true l.loop-i.invariant.1 c.row.ensures)
+    (omega arith, one_more _ _ _ _ (omega (arith, c.requires)) c.loop-i.i c.loop-i.r _ c.loop-i-test.true c.loop-i.invariant.1 c.row.ensures)
 
 pub returns : goal.returns
-returns c = let l = c in let e : l.loop-i.i ≡ l.args.n = omega arith in rw e at l.loop-i.invariant.1
+returns c = let e : c.loop-i.i ≡ c.args.n = omega arith in rw e at c.loop-i.invariant.1

@@ -29,9 +29,7 @@ bounds-marks-j c = omega arith
 
 pub returns-then-not-holds : goal.returns-then-not-holds
 returns-then-not-holds c =
-    let f = c in
-    let l = f in
-    sym (sym l.loop-j.invariant.1 ∙ off _ l.loop-j.j 9 (omega arith) (by f.holds.ensures (not-true _ c.if-not-holds.true)))
+    sym (sym c.loop-j.invariant.1 ∙ off _ c.loop-j.j 9 (omega arith) (by c.holds.ensures (not-true _ c.if-not-holds.true)))
 
 pub overflow_add-j : goal.overflow_add-j
 overflow_add-j c = omega arith
@@ -41,11 +39,8 @@ loop-j-smaller c = omega arith
 
 pub loop-j-preserved : goal.loop-j-preserved
 loop-j-preserved c =
-    let f = c in
-    let l = f in
-    (omega arith, sym (on _ l.loop-j.j 9 (omega arith) (by f.holds.ensures (not-false _ c.if-not-holds.false))) ∙ l.loop-j.invariant.1)
+    (omega arith, sym (on _ c.loop-j.j 9 (omega arith) (by c.holds.ensures (not-false _ c.if-not-holds.false))) ∙ c.loop-j.invariant.1)
 
 pub returns : goal.returns
 returns c =
-    let l = c in
-    sym (sym l.loop-j.invariant.1 ∙ done _ l.loop-j.j 9 (omega arith))
+    sym (sym c.loop-j.invariant.1 ∙ done _ c.loop-j.j 9 (omega arith))

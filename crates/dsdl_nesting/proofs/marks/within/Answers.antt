@@ -7,10 +7,5 @@ use Rattle.dsdl_nesting.proofs.marks.within.Goals as goal
 
 pub returns : goal.returns
 returns c =
-    let z = c in
-    let y = z in
-    let x = y in
-    let t = x in
-    let s = t in
-    four (definition_at s.args.source.now s.args.bounds) s.args.n (omega (arith, s.requires.few)) t.all-sets.result t.all-sets.ensures.row x.next-one.result y.next-two.result
-    z.next-three.result x.next-one.ensures y.next-two.ensures z.next-three.ensures c.next.result c.next.ensures
+    four (definition_at c.args.source.now c.args.bounds) c.args.n (omega (arith, c.requires.few)) c.all-sets.result c.all-sets.ensures.row c.next-one.result c.next-two.result
+    c.next-three.result c.next-one.ensures c.next-two.ensures c.next-three.ensures c.next.result c.next.ensures

@@ -13,32 +13,22 @@ use Rattle.dsdl_nesting.proofs.named.is.Goals as goal
 
 pub returns-then-has_dot : goal.returns-then-has_dot
 returns-then-has_dot c =
-    let h = c in
-    let a = h.args in
-    full a.space.now a.base.now a.name.now c.same.result (by h.has_dot.ensures c.if-has_dot.true) c.same.ensures
+    let a = c.args in
+    full a.space.now a.base.now a.name.now c.same.result (by c.has_dot.ensures c.if-has_dot.true) c.same.ensures
 
 pub returns-then-name-n : goal.returns-then-name-n
 returns-then-name-n c =
-    let e = c in
-    let h = e in
-    let a = h.args in
-    too_short a.space.now a.base.now a.name.now (by h.has_dot.ensures e.if-has_dot.false) c.if-name-n.true
+    let a = c.args in
+    too_short a.space.now a.base.now a.name.now (by c.has_dot.ensures c.if-has_dot.false) c.if-name-n.true
 
 pub returns-then-not-same : goal.returns-then-not-same
 returns-then-not-same c =
-    let s = c in
-    let e = s in
-    let h = e in
-    let a = h.args in
-    elsewhere a.space.now a.base.now a.name.now (by h.has_dot.ensures e.if-has_dot.false) (length a.space.now - 0) (omega arith) (omega arith)
-    (by s.same-2.ensures (not-true _ c.if-not-same.true))
+    let a = c.args in
+    elsewhere a.space.now a.base.now a.name.now (by c.has_dot.ensures c.if-has_dot.false) (length a.space.now - 0) (omega arith) (omega arith)
+    (by c.same-2.ensures (not-true _ c.if-not-same.true))
 
 pub returns : goal.returns
 returns c =
-    let f = c in
-    let s = f in
-    let e = s in
-    let h = e in
-    let a = h.args in
-    inside a.space.now a.base.now a.name.now (by h.has_dot.ensures e.if-has_dot.false) (length a.space.now - 0) (omega arith) (omega arith) c.same-3.result
-    (by s.same-2.ensures (not-false _ f.if-not-same.false)) (c.same-3.ensures ∙ ap (same a.base.now) (rest (length a.space.now) a.name.now))
+    let a = c.args in
+    inside a.space.now a.base.now a.name.now (by c.has_dot.ensures c.if-has_dot.false) (length a.space.now - 0) (omega arith) (omega arith) c.same-3.result
+    (by c.same-2.ensures (not-false _ c.if-not-same.false)) (c.same-3.ensures ∙ ap (same a.base.now) (rest (length a.space.now) a.name.now))

@@ -10,7 +10,7 @@ pub loop-i-init : goal.loop-i-init
 loop-i-init c = (omega arith, no_rows _ _ _ (omega (arith, c.requires.few)))
 
 pub of-requires : goal.of-requires
-of-requires c = let i = c in (i.loop-i-test.true, i.requires)
+of-requires c = (c.loop-i-test.true, c.requires)
 
 pub overflow_add-i : goal.overflow_add-i
 overflow_add-i c = omega arith
@@ -20,9 +20,7 @@ loop-i-smaller c = omega arith
 
 pub loop-i-preserved : goal.loop-i-preserved
 loop-i-preserved c =
-    let i = c in
-    let l = i in
-    (omega arith, one-row _ _ _ (omega (arith, l.requires.few)) l.loop-i.i l.loop-i.sets _ i.loop-i-test.true l.loop-i.invariant.1 c.of.ensures)
+    (omega arith, one-row _ _ _ (omega (arith, c.requires.few)) c.loop-i.i c.loop-i.sets _ c.loop-i-test.true c.loop-i.invariant.1 c.of.ensures)
 
 pub returns : goal.returns
-returns c = let l = c in let e : l.loop-i.i ≡ l.args.n = omega arith in rw e at l.loop-i.invariant.1
+returns c = let e : c.loop-i.i ≡ c.args.n = omega arith in rw e at c.loop-i.invariant.1

@@ -11,15 +11,12 @@ use Rattle.dsdl_nesting.proofs.sets.in_line.Goals as goal
 
 pub returns-then-not-found : goal.returns-then-not-found
 returns-then-not-found c =
-    let r = c in
-    let a = r.args in
-    without _ (marked-goes _) _ r.read-b.result.found _ (r.read-b.ensures.0 a.space.now) _ (not-true _ c.if-not-found.true)
+    let a = c.args in
+    without _ (marked-goes _) _ c.read-b.result.found _ (c.read-b.ensures.0 a.space.now) _ (not-true _ c.if-not-found.true)
 
 pub returns : goal.returns
 unfolding marked_by
 returns c =
-    let f = c in
-    let r = f in
-    let a = r.args in
-    with-one _ (marked-goes _) _ r.read-b.result.found _ (r.read-b.ensures.0 a.space.now) a.sets.now _ (not-false _ f.if-not-found.false)
+    let a = c.args in
+    with-one _ (marked-goes _) _ c.read-b.result.found _ (c.read-b.ensures.0 a.space.now) a.sets.now _ (not-false _ c.if-not-found.false)
     (ap (λ (j : ℕ). set a.sets.now (a.i * 9 + j) true) c.find-j.ensures.0)

@@ -28,27 +28,21 @@ in_line-requires c = c.requires
 
 pub returns-then-end-text : goal.returns-then-end-text
 returns-then-end-text c =
-    let w = c in
-    let d = w in
-    let l = d in
-    let a = l.args in
-    last a.space.now a.text.now l.loop-bounds.at d.end-end.result d.end-end.ensures.0 _ (marked-goes _) l.loop-bounds.sets _ w.in_line.ensures (omega arith)
-    ∙ l.loop-bounds.invariant.1
+    let a = c.args in
+    last a.space.now a.text.now c.loop-bounds.at c.end-end.result c.end-end.ensures.0 _ (marked-goes _) c.loop-bounds.sets _ c.in_line.ensures (omega arith)
+    ∙ c.loop-bounds.invariant.1
 
 pub next-at-requires : goal.next-at-requires
 next-at-requires c = omega arith
 
 pub loop-bounds-smaller : goal.loop-bounds-smaller
-loop-bounds-smaller c = let l = c in omega (arith, c.next-at.ensures.1, l.loop-bounds.invariant.0)
+loop-bounds-smaller c = omega (arith, c.next-at.ensures.1, c.loop-bounds.invariant.0)
 
 pub loop-bounds-preserved : goal.loop-bounds-preserved
 loop-bounds-preserved c =
-    let w = c in
-    let d = w in
-    let l = d in
-    let a = l.args in (
+    let a = c.args in (
       c.next-at.ensures.1.1,
-      on a.space.now a.text.now l.loop-bounds.at d.end-end.result d.end-end.ensures.0 _ (marked-goes _) l.loop-bounds.sets _ w.in_line.ensures
+      on a.space.now a.text.now c.loop-bounds.at c.end-end.result c.end-end.ensures.0 _ (marked-goes _) c.loop-bounds.sets _ c.in_line.ensures
           c.next-at.result c.next-at.ensures.0 (omega arith)
-          ∙ l.loop-bounds.invariant.1,
+          ∙ c.loop-bounds.invariant.1,
     )

@@ -6,14 +6,11 @@ use borrow.Author.Rules.{rules}
 use Rattle.dsdl_nesting.proofs.sets.of.Goals as goal
 
 pub name-name-requires : goal.name-name-requires
-name-name-requires c = let s = c in s.requires.1.holds s.args.i s.requires.0
+name-name-requires c = c.requires.1.holds c.args.i c.requires.0
 
 pub text-requires : goal.text-requires
-text-requires c = let s = c in s.requires.1.holds s.args.i s.requires.0
+text-requires c = c.requires.1.holds c.args.i c.requires.0
 
 pub returns : goal.returns
 returns c =
-    let t = c in
-    let s = t in
-    let m = s in
-    c.in_text.ensures ∙ ap (marked_by _ _) (nested_same _ _ _ _ s.space-k.result s.space-k.ensures.0 m.name-name.ensures t.text.ensures.0)
+    c.in_text.ensures ∙ ap (marked_by _ _) (nested_same _ _ _ _ c.space-k.result c.space-k.ensures.0 c.name-name.ensures c.text.ensures.0)

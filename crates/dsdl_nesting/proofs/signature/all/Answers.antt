@@ -7,14 +7,6 @@ use Rattle.dsdl_nesting.proofs.signature.all.Goals as goal
 
 pub returns : goal.returns
 returns c =
-    let w = c in
-    let v = w in
-    let u = v in
-    let z = u in
-    let y = z in
-    let x = y in
-    let t = x in
-    let s = t in
-    four-signatures (definition_at s.args.source.now s.args.bounds) s.args.n (omega (arith, s.requires.0.few)) t.all-sets.result t.all-sets.ensures.row x.next-one.result
-    y.next-two.result z.next-three.result x.next-one.ensures y.next-two.ensures z.next-three.ensures s.args.hashes u.next-first.result v.next-second.result w.next-third.result
-    c.next.result s.requires.1.0 s.requires.1.1 u.next-first.ensures v.next-second.ensures w.next-third.ensures c.next.ensures
+    four-signatures (definition_at c.args.source.now c.args.bounds) c.args.n (omega (arith, c.requires.0.few)) c.all-sets.result c.all-sets.ensures.row c.next-one.result
+    c.next-two.result c.next-three.result c.next-one.ensures c.next-two.ensures c.next-three.ensures c.args.hashes c.next-first.result c.next-second.result c.next-third.result
+    c.next.result c.requires.1.0 c.requires.1.1 c.next-first.ensures c.next-second.ensures c.next-third.ensures c.next.ensures

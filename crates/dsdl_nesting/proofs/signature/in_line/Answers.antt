@@ -10,16 +10,12 @@ use Rattle.dsdl_nesting.proofs.signature.in_line.Goals as goal
 
 pub returns-then-not-found : goal.returns-then-not-found
 returns-then-not-found c =
-    let r = c in
-    let a = r.args in
-    without _ (extended-goes _) _ r.read-b.result.found _ (r.read-b.ensures.0 a.space.now) a.h (not-true _ c.if-not-found.true)
+    let a = c.args in
+    without _ (extended-goes _) _ c.read-b.result.found _ (c.read-b.ensures.0 a.space.now) a.h (not-true _ c.if-not-found.true)
 
 pub returns : goal.returns
 unfolding extended_by
 returns c =
-    let i = c in
-    let f = i in
-    let r = f in
-    let a = r.args in
-    with-one _ (extended-goes _) _ r.read-b.result.found _ (r.read-b.ensures.0 a.space.now) a.h c.extend.result (not-false _ f.if-not-found.false)
-    (c.extend.ensures ∙ ap (extended a.h) (same_place a.t6 0 _ _ i.find-i.ensures.0))
+    let a = c.args in
+    with-one _ (extended-goes _) _ c.read-b.result.found _ (c.read-b.ensures.0 a.space.now) a.h c.extend.result (not-false _ c.if-not-found.false)
+    (c.extend.ensures ∙ ap (extended a.h) (same_place a.t6 0 _ _ c.find-i.ensures.0))

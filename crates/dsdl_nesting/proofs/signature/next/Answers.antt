@@ -27,10 +27,10 @@ pub value-requires : goal.value-requires
 value-requires c = (c.loop-i-test.true, c.requires)
 
 pub offset_bounds-r-i : goal.offset_bounds-r-i
-offset_bounds-r-i c = let l = c in omega (arith, l.requires.few)
+offset_bounds-r-i c = omega (arith, c.requires.few)
 
 pub bounds-r-i : goal.bounds-r-i
-bounds-r-i c = let l = c in omega (arith, l.requires.few)
+bounds-r-i c = omega (arith, c.requires.few)
 
 pub overflow_add-i : goal.overflow_add-i
 overflow_add-i c = omega arith
@@ -40,9 +40,7 @@ loop-i-smaller c = omega arith
 
 pub loop-i-preserved : goal.loop-i-preserved
 loop-i-preserved c =
-    let i = c in
-    let l = i in
-    (omega arith, one_more _ _ _ _ (omega (arith, l.requires.few)) l.loop-i.i l.loop-i.r _ i.loop-i-test.true l.loop-i.invariant.1 c.value.ensures)
+    (omega arith, one_more _ _ _ _ (omega (arith, c.requires.few)) c.loop-i.i c.loop-i.r _ c.loop-i-test.true c.loop-i.invariant.1 c.value.ensures)
 
 pub returns : goal.returns
-returns c = let l = c in let e : l.loop-i.i ≡ l.args.n = omega arith in rw e at l.loop-i.invariant.1
+returns c = let e : c.loop-i.i ≡ c.args.n = omega arith in rw e at c.loop-i.invariant.1

@@ -6,15 +6,12 @@ use borrow.Author.Rules.{rules}
 use Rattle.dsdl_nesting.proofs.signature.of.Goals as goal
 
 pub name-name-requires : goal.name-name-requires
-name-name-requires c = let s = c in s.requires.1.holds s.args.i s.requires.0
+name-name-requires c = c.requires.1.holds c.args.i c.requires.0
 
 pub text-requires : goal.text-requires
-text-requires c = let s = c in s.requires.1.holds s.args.i s.requires.0
+text-requires c = c.requires.1.holds c.args.i c.requires.0
 
 pub returns : goal.returns
 returns c =
-    let t = c in
-    let s = t in
-    let m = s in
-    let a = m.args in
-    c.in_text.ensures ∙ ap (extended_by _ a.h) (nested_same _ _ _ _ s.space-k.result s.space-k.ensures.0 m.name-name.ensures t.text.ensures.0)
+    let a = c.args in
+    c.in_text.ensures ∙ ap (extended_by _ a.h) (nested_same _ _ _ _ c.space-k.result c.space-k.ensures.0 c.name-name.ensures c.text.ensures.0)

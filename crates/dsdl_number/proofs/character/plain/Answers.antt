@@ -14,4 +14,4 @@ pub returns-then-c-eq39 : goal.returns-then-c-eq39
 returns-then-c-eq39 c = quote c.args.c c.if-c-lt32.false c.if-c-gt126.false c.if-c-eq39.true
 
 pub returns : goal.returns
-returns c = let h = c in c.wide.ensures ∙ other h.args.c h.if-c-lt32.false h.if-c-gt126.false h.if-c-eq39.false
+returns c = c.wide.ensures ∙ other c.args.c c.if-c-lt32.false c.if-c-gt126.false c.if-c-eq39.false

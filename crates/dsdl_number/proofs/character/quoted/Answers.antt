@@ -10,49 +10,33 @@ returns-then-s-lt2 c = two-few c.args.s.now c.if-s-lt2.true
 
 pub returns-then-is_closed : goal.returns-then-is_closed
 returns-then-is_closed c =
-    let k = c in
-    let t = k in
-    let s = t.args.s.now in
-    alone s t.if-s-ne92.true _ (by k.is_closed.ensures.0 c.if-is_closed.true) c.plain.ensures
+    let s = c.args.s.now in
+    alone s c.if-s-ne92.true _ (by c.is_closed.ensures.0 c.if-is_closed.true) c.plain.ensures
 
 pub returns-then-s-ne92 : goal.returns-then-s-ne92
 returns-then-s-ne92 c =
-    let k = c in
-    let t = k in
-    let s = t.args.s.now in
-    alone-open s t.if-s-ne92.true (by k.is_closed.ensures.0 c.if-is_closed.false)
+    let s = c.args.s.now in
+    alone-open s c.if-s-ne92.true (by c.is_closed.ensures.0 c.if-is_closed.false)
 
 pub returns-then-is_closed-2 : goal.returns-then-is_closed-2
 returns-then-is_closed-2 c =
-    let k = c in
-    let t = k in
-    let f = t in
-    let s = f.args.s.now in
-    letter s f.if-s-ne92.false t.if-s-ne120.true _ (by k.is_closed-then-s-ne120.ensures.0 c.if-is_closed-2.true) c.escape.ensures
+    let s = c.args.s.now in
+    letter s c.if-s-ne92.false c.if-s-ne120.true _ (by c.is_closed-then-s-ne120.ensures.0 c.if-is_closed-2.true) c.escape.ensures
 
 pub returns-then-s-ne120 : goal.returns-then-s-ne120
 returns-then-s-ne120 c =
-    let k = c in
-    let t = k in
-    let f = t in
-    let s = f.args.s.now in
-    letter-open s f.if-s-ne92.false t.if-s-ne120.true (by k.is_closed-then-s-ne120.ensures.0 c.if-is_closed-2.false)
+    let s = c.args.s.now in
+    letter-open s c.if-s-ne92.false c.if-s-ne120.true (by c.is_closed-then-s-ne120.ensures.0 c.if-is_closed-2.false)
 
 pub slice_bounds-coded-end : goal.slice_bounds-coded-end
 slice_bounds-coded-end c = omega (arith, c.is_closed-2.ensures.1 c.if-is_closed-3.true)
 
 pub returns-then-is_closed-3 : goal.returns-then-is_closed-3
 returns-then-is_closed-3 c =
-    let k = c in
-    let t = k in
-    let f = t in
-    let s = f.args.s.now in
-    digits s f.if-s-ne92.false t.if-s-ne120.false _ (by k.is_closed-2.ensures.0 c.if-is_closed-3.true) c.coded.ensures
+    let s = c.args.s.now in
+    digits s c.if-s-ne92.false c.if-s-ne120.false _ (by c.is_closed-2.ensures.0 c.if-is_closed-3.true) c.coded.ensures
 
 pub returns : goal.returns
 returns c =
-    let k = c in
-    let t = k in
-    let f = t in
-    let s = f.args.s.now in
-    digits-open s f.if-s-ne92.false t.if-s-ne120.false (by k.is_closed-2.ensures.0 c.if-is_closed-3.false)
+    let s = c.args.s.now in
+    digits-open s c.if-s-ne92.false c.if-s-ne120.false (by c.is_closed-2.ensures.0 c.if-is_closed-3.false)

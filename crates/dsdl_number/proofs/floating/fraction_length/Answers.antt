@@ -11,6 +11,4 @@ returns-then-s-ne46 c = no-point c.args.s.now c.if-s-ne46.true
 
 pub returns : goal.returns
 returns c =
-    let f = c in
-    let g = f in
-    digits g.args.s.now c.run.result g.if-s-eq0.false f.if-s-ne46.false c.run.ensures.0
+    digits c.args.s.now c.run.result c.if-s-eq0.false c.if-s-ne46.false c.run.ensures.0

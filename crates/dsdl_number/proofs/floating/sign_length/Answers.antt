@@ -7,10 +7,10 @@ pub returns-then-s-eq0 : goal.returns-then-s-eq0
 returns-then-s-eq0 c = no_sign c.args.s.now c.if-s-eq0.true
 
 pub returns-then-s-eq43 : goal.returns-then-s-eq43
-returns-then-s-eq43 c = let f = c in plus f.args.s.now f.if-s-eq0.false c.if-s-eq43.true
+returns-then-s-eq43 c = plus c.args.s.now c.if-s-eq0.false c.if-s-eq43.true
 
 pub returns-then-s-eq45 : goal.returns-then-s-eq45
-returns-then-s-eq45 c = let f = c in minus f.args.s.now f.if-s-eq0.false c.if-s-eq45.true
+returns-then-s-eq45 c = minus c.args.s.now c.if-s-eq0.false c.if-s-eq45.true
 
 pub returns : goal.returns
-returns c = let g = c in let f = g in other f.args.s.now g.if-s-eq43.false c.if-s-eq45.false
+returns c = other c.args.s.now c.if-s-eq43.false c.if-s-eq45.false

@@ -12,39 +12,21 @@ returns-then-is_decimal c = first _ _ _ (by c.is_decimal.ensures c.if-is_decimal
 pub returns-then-is_prefixed : goal.returns-then-is_prefixed
 unfolding base_of
 returns-then-is_prefixed c =
-    let p1 = c in
-    let f = p1 in
-    next _ _ _ _ (by f.is_decimal.ensures f.if-is_decimal.false) (first _ _ _ (by p1.is_prefixed.ensures c.if-is_prefixed.true))
+    next _ _ _ _ (by c.is_decimal.ensures c.if-is_decimal.false) (first _ _ _ (by c.is_prefixed.ensures c.if-is_prefixed.true))
 
 pub returns-then-is_prefixed-2 : goal.returns-then-is_prefixed-2
 unfolding base_of
 returns-then-is_prefixed-2 c =
-    let p2 = c in
-    let g = p2 in
-    let p1 = g in
-    let f = p1 in
-    next _ _ _ _ (by f.is_decimal.ensures f.if-is_decimal.false) (next _ _ _ _ (by p1.is_prefixed.ensures g.if-is_prefixed.false) (first _ _ _ (by p2.is_prefixed-2.ensures c.if-is_prefixed-2.true)))
+    next _ _ _ _ (by c.is_decimal.ensures c.if-is_decimal.false) (next _ _ _ _ (by c.is_prefixed.ensures c.if-is_prefixed.false) (first _ _ _ (by c.is_prefixed-2.ensures c.if-is_prefixed-2.true)))
 
 pub returns-then-is_prefixed-3 : goal.returns-then-is_prefixed-3
 unfolding base_of
 returns-then-is_prefixed-3 c =
-    let p3 = c in
-    let h = p3 in
-    let p2 = h in
-    let g = p2 in
-    let p1 = g in
-    let f = p1 in
-    next _ _ _ _ (by f.is_decimal.ensures f.if-is_decimal.false) (next _ _ _ _ (by p1.is_prefixed.ensures g.if-is_prefixed.false) (next _ _ _ _ (by p2.is_prefixed-2.ensures h.if-is_prefixed-2.false)
-    (first _ _ _ (by p3.is_prefixed-3.ensures c.if-is_prefixed-3.true))))
+    next _ _ _ _ (by c.is_decimal.ensures c.if-is_decimal.false) (next _ _ _ _ (by c.is_prefixed.ensures c.if-is_prefixed.false) (next _ _ _ _ (by c.is_prefixed-2.ensures c.if-is_prefixed-2.false)
+    (first _ _ _ (by c.is_prefixed-3.ensures c.if-is_prefixed-3.true))))
 
 pub returns : goal.returns
 unfolding base_of
 returns c =
-    let p3 = c in
-    let h = p3 in
-    let p2 = h in
-    let g = p2 in
-    let p1 = g in
-    let f = p1 in
-    next _ _ _ _ (by f.is_decimal.ensures f.if-is_decimal.false) (next _ _ _ _ (by p1.is_prefixed.ensures g.if-is_prefixed.false) (next _ _ _ _ (by p2.is_prefixed-2.ensures h.if-is_prefixed-2.false)
-    (next _ _ _ _ (by p3.is_prefixed-3.ensures c.if-is_prefixed-3.false) refl)))
+    next _ _ _ _ (by c.is_decimal.ensures c.if-is_decimal.false) (next _ _ _ _ (by c.is_prefixed.ensures c.if-is_prefixed.false) (next _ _ _ _ (by c.is_prefixed-2.ensures c.if-is_prefixed-2.false)
+    (next _ _ _ _ (by c.is_prefixed-3.ensures c.if-is_prefixed-3.false) refl)))

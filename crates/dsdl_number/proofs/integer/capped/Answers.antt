@@ -15,13 +15,13 @@ pub loop-i-init : goal.loop-i-init
 loop-i-init c = (omega arith, (omega arith, refl))
 
 pub overflow_mul-v : goal.overflow_mul-v
-overflow_mul-v c = let l = c in omega (arith, mul-le-mul l.loop-i.invariant.1.0 l.requires)
+overflow_mul-v c = omega (arith, mul-le-mul c.loop-i.invariant.1.0 c.requires)
 
 pub bounds-s-i : goal.bounds-s-i
 bounds-s-i c = omega arith
 
 pub overflow_add-v : goal.overflow_add-v
-overflow_add-v c = let l = c in omega (arith, mul-le-mul l.loop-i.invariant.1.0 l.requires)
+overflow_add-v c = omega (arith, mul-le-mul c.loop-i.invariant.1.0 c.requires)
 
 pub overflow_add-i : goal.overflow_add-i
 overflow_add-i c = omega arith
@@ -31,14 +31,11 @@ loop-i-smaller c = omega arith
 
 pub loop-i-preserved : goal.loop-i-preserved
 loop-i-preserved c =
-    let d = c in
-    let l = d in
-    let a = l.args in
-    let o = on cap a.base a.s.now l.loop-i.i l.loop-i.v d.digit.result c.cut-v.result (omega arith) d.digit.ensures.0 c.cut-v.ensures in
-    (omega arith, (omega arith, rw add-one (o ∙ l.loop-i.invariant.1.1)))
+    let a = c.args in
+    let o = on cap a.base a.s.now c.loop-i.i c.loop-i.v c.digit.result c.cut-v.result (omega arith) c.digit.ensures.0 c.cut-v.ensures in
+    (omega arith, (omega arith, rw add-one (o ∙ c.loop-i.invariant.1.1)))
 
 pub returns : goal.returns
 returns c =
-    let l = c in
-    let a = l.args in
-    omega (arith, done a.base l.loop-i.v a.s.now l.loop-i.i (omega arith), l.loop-i.invariant.1.1)
+    let a = c.args in
+    omega (arith, done a.base c.loop-i.v a.s.now c.loop-i.i (omega arith), c.loop-i.invariant.1.1)

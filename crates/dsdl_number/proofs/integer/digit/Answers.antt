@@ -9,29 +9,20 @@ returns-then-c-lt48 c = let x = c.args.c in rw (lt-ltb x 58 (omega arith)) (omeg
 
 pub returns-then-c-lt58 : goal.returns-then-c-lt58
 returns-then-c-lt58 c =
-    let f = c in
-    let x = f.args.c in
+    let x = c.args.c in
     rw (lt-ltb x 58 c.if-c-lt58.true) (omega arith, omega arith)
 
 pub returns-then-c-lt71 : goal.returns-then-c-lt71
 returns-then-c-lt71 c =
-    let g = c in
-    let f = g in
-    let x = f.args.c in
-    rw (le-ltb x 58 g.if-c-lt58.false, lt-ltb x 71 c.if-c-lt71.true) (omega arith, omega arith)
+    let x = c.args.c in
+    rw (le-ltb x 58 c.if-c-lt58.false, lt-ltb x 71 c.if-c-lt71.true) (omega arith, omega arith)
 
 pub returns-then-c-lt87 : goal.returns-then-c-lt87
 returns-then-c-lt87 c =
-    let h = c in
-    let g = h in
-    let f = g in
-    let x = f.args.c in
-    rw (le-ltb x 58 g.if-c-lt58.false, le-ltb x 71 h.if-c-lt71.false) (omega arith, omega arith)
+    let x = c.args.c in
+    rw (le-ltb x 58 c.if-c-lt58.false, le-ltb x 71 c.if-c-lt71.false) (omega arith, omega arith)
 
 pub returns : goal.returns
 returns c =
-    let h = c in
-    let g = h in
-    let f = g in
-    let x = f.args.c in
-    rw (le-ltb x 58 g.if-c-lt58.false, le-ltb x 71 h.if-c-lt71.false) (omega arith, omega arith)
+    let x = c.args.c in
+    rw (le-ltb x 58 c.if-c-lt58.false, le-ltb x 71 c.if-c-lt71.false) (omega arith, omega arith)

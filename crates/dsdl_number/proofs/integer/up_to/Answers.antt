@@ -18,34 +18,24 @@ bounds-s-i c = omega arith
 
 pub returns-then-m-d : goal.returns-then-m-d
 returns-then-m-d c =
-    let d = c in
-    let l = d in
-    let a = l.args in
-    let t = turn 10 l.loop-i.v d.digit-d.result a.s.now l.loop-i.i (omega arith) d.digit-d.ensures.0 in
-    cut-over 10 l.loop-i.v d.digit-d.result a.m _ _ (omega arith) (sym t ∙ l.loop-i.invariant.1.1) (omega arith)
+    let a = c.args in
+    let t = turn 10 c.loop-i.v c.digit-d.result a.s.now c.loop-i.i (omega arith) c.digit-d.ensures.0 in
+    cut-over 10 c.loop-i.v c.digit-d.result a.m _ _ (omega arith) (sym t ∙ c.loop-i.invariant.1.1) (omega arith)
 
 pub returns-then-m-d-2 : goal.returns-then-m-d-2
 returns-then-m-d-2 c =
-    let d = c in
-    let l = d in
-    let a = l.args in
-    let t = turn 10 l.loop-i.v d.digit-d.result a.s.now l.loop-i.i (omega arith) d.digit-d.ensures.0 in
-    cut-over 10 l.loop-i.v d.digit-d.result a.m _ _ (omega arith) (sym t ∙ l.loop-i.invariant.1.1)
-    (quotient-below 10 l.loop-i.v d.digit-d.result a.m (omega arith) c.if-m-d.false c.if-m-d-2.true)
+    let a = c.args in
+    let t = turn 10 c.loop-i.v c.digit-d.result a.s.now c.loop-i.i (omega arith) c.digit-d.ensures.0 in
+    cut-over 10 c.loop-i.v c.digit-d.result a.m _ _ (omega arith) (sym t ∙ c.loop-i.invariant.1.1)
+    (quotient-below 10 c.loop-i.v c.digit-d.result a.m (omega arith) c.if-m-d.false c.if-m-d-2.true)
 
 pub overflow_mul-v : goal.overflow_mul-v
 overflow_mul-v c =
-    let d = c in
-    let l = d in
-    let s = l in
-    omega (arith, s.ranges.m, quotient_fits 10 l.loop-i.v d.digit-d.result s.args.m c.if-m-d.false c.if-m-d-2.false)
+    omega (arith, c.ranges.m, quotient_fits 10 c.loop-i.v c.digit-d.result c.args.m c.if-m-d.false c.if-m-d-2.false)
 
 pub overflow_add-v : goal.overflow_add-v
 overflow_add-v c =
-    let d = c in
-    let l = d in
-    let s = l in
-    omega (arith, s.ranges.m, quotient_fits 10 l.loop-i.v d.digit-d.result s.args.m c.if-m-d.false c.if-m-d-2.false)
+    omega (arith, c.ranges.m, quotient_fits 10 c.loop-i.v c.digit-d.result c.args.m c.if-m-d.false c.if-m-d-2.false)
 
 pub overflow_add-i : goal.overflow_add-i
 overflow_add-i c = omega arith
@@ -55,19 +45,16 @@ loop-i-smaller c = omega arith
 
 pub loop-i-preserved : goal.loop-i-preserved
 loop-i-preserved c =
-    let d = c in
-    let l = d in
-    let a = l.args in
-    let t = turn 10 l.loop-i.v d.digit-d.result a.s.now l.loop-i.i (omega arith) d.digit-d.ensures.0 in (
+    let a = c.args in
+    let t = turn 10 c.loop-i.v c.digit-d.result a.s.now c.loop-i.i (omega arith) c.digit-d.ensures.0 in (
       omega arith,
       (
-        quotient_fits 10 l.loop-i.v d.digit-d.result a.m c.if-m-d.false c.if-m-d-2.false,
-        rw add-one (sym t ∙ l.loop-i.invariant.1.1),
+        quotient_fits 10 c.loop-i.v c.digit-d.result a.m c.if-m-d.false c.if-m-d-2.false,
+        rw add-one (sym t ∙ c.loop-i.invariant.1.1),
       ),
     )
 
 pub returns : goal.returns
 returns c =
-    let l = c in
-    let a = l.args in
-    omega (arith, done 10 l.loop-i.v a.s.now l.loop-i.i (omega arith), l.loop-i.invariant.1.1)
+    let a = c.args in
+    omega (arith, done 10 c.loop-i.v a.s.now c.loop-i.i (omega arith), c.loop-i.invariant.1.1)

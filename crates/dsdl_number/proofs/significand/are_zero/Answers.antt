@@ -17,13 +17,11 @@ digit_at-requires c = c.requires
 
 pub returns-then-digit_at-ne0 : goal.returns-then-digit_at-ne0
 returns-then-digit_at-ne0 c =
-    let d = c in
-    let l = d in
-    let a = l.args in
-    let p : get_or (padded a.to (significand a.point a.s.now)) l.loop-k.k 48 ≡ get_or (significand a.point a.s.now) l.loop-k.k 48
-    = padded-at a.to (significand a.point a.s.now) l.loop-k.k 48 (omega arith) in
-    sym (zero-stop (padded a.to (significand a.point a.s.now)) l.loop-k.k (λ e. c.if-digit_at-ne0.true (d.digit_at.ensures.0 ∙ (ap digit_of (sym p) ∙ e))))
-    ∙ l.loop-k.invariant
+    let a = c.args in
+    let p : get_or (padded a.to (significand a.point a.s.now)) c.loop-k.k 48 ≡ get_or (significand a.point a.s.now) c.loop-k.k 48
+    = padded-at a.to (significand a.point a.s.now) c.loop-k.k 48 (omega arith) in
+    sym (zero-stop (padded a.to (significand a.point a.s.now)) c.loop-k.k (λ e. c.if-digit_at-ne0.true (c.digit_at.ensures.0 ∙ (ap digit_of (sym p) ∙ e))))
+    ∙ c.loop-k.invariant
 
 pub overflow_add-k : goal.overflow_add-k
 overflow_add-k c = omega arith
@@ -33,16 +31,13 @@ loop-k-smaller c = omega arith
 
 pub loop-k-preserved : goal.loop-k-preserved
 loop-k-preserved c =
-    let d = c in
-    let l = d in
-    let a = l.args in
-    let p : get_or (padded a.to (significand a.point a.s.now)) l.loop-k.k 48 ≡ get_or (significand a.point a.s.now) l.loop-k.k 48
-    = padded-at a.to (significand a.point a.s.now) l.loop-k.k 48 (omega arith) in
-    rw add-one (sym (zero-on (padded a.to (significand a.point a.s.now)) l.loop-k.k (ap digit_of p ∙ (sym d.digit_at.ensures.0 ∙ c.if-digit_at-ne0.false)))
-    ∙ l.loop-k.invariant)
+    let a = c.args in
+    let p : get_or (padded a.to (significand a.point a.s.now)) c.loop-k.k 48 ≡ get_or (significand a.point a.s.now) c.loop-k.k 48
+    = padded-at a.to (significand a.point a.s.now) c.loop-k.k 48 (omega arith) in
+    rw add-one (sym (zero-on (padded a.to (significand a.point a.s.now)) c.loop-k.k (ap digit_of p ∙ (sym c.digit_at.ensures.0 ∙ c.if-digit_at-ne0.false)))
+    ∙ c.loop-k.invariant)
 
 pub returns : goal.returns
 returns c =
-    let l = c in
-    let a = l.args in
-    sym (zero-end (padded a.to (significand a.point a.s.now)) l.loop-k.k (omega (arith, padded-length a.to (significand a.point a.s.now)))) ∙ l.loop-k.invariant
+    let a = c.args in
+    sym (zero-end (padded a.to (significand a.point a.s.now)) c.loop-k.k (omega (arith, padded-length a.to (significand a.point a.s.now)))) ∙ c.loop-k.invariant

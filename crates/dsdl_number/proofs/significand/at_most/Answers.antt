@@ -19,41 +19,29 @@ digit_at-d-requires c = c.requires.0
 
 pub returns-then-m-d : goal.returns-then-m-d
 returns-then-m-d c =
-    let d = c in
-    let l = d in
-    let s = l in
-    let a = s.args in
-    let t = next-digit a.base l.loop-k.v d.digit_at-d.result a.n l.loop-k.k _ (omega arith) d.digit_at-d.ensures.0 in
-    over a.base l.loop-k.v d.digit_at-d.result a.m _ _ s.requires.1.0 (sym t ∙ l.loop-k.invariant.1.1) (omega arith)
+    let a = c.args in
+    let t = next-digit a.base c.loop-k.v c.digit_at-d.result a.n c.loop-k.k _ (omega arith) c.digit_at-d.ensures.0 in
+    over a.base c.loop-k.v c.digit_at-d.result a.m _ _ c.requires.1.0 (sym t ∙ c.loop-k.invariant.1.1) (omega arith)
 
 pub nonzero_div-m : goal.nonzero_div-m
-nonzero_div-m c = let s = c in omega (arith, s.requires.1)
+nonzero_div-m c = omega (arith, c.requires.1)
 
 pub returns-then-m-d-2 : goal.returns-then-m-d-2
 returns-then-m-d-2 c =
-    let d = c in
-    let l = d in
-    let s = l in
-    let a = s.args in
-    let t = next-digit a.base l.loop-k.v d.digit_at-d.result a.n l.loop-k.k _ (omega arith) d.digit_at-d.ensures.0 in
-    over a.base l.loop-k.v d.digit_at-d.result a.m _ _ s.requires.1.0 (sym t ∙ l.loop-k.invariant.1.1)
-    (quotient-below a.base l.loop-k.v d.digit_at-d.result a.m s.requires.1.0 c.if-m-d.false c.if-m-d-2.true)
+    let a = c.args in
+    let t = next-digit a.base c.loop-k.v c.digit_at-d.result a.n c.loop-k.k _ (omega arith) c.digit_at-d.ensures.0 in
+    over a.base c.loop-k.v c.digit_at-d.result a.m _ _ c.requires.1.0 (sym t ∙ c.loop-k.invariant.1.1)
+    (quotient-below a.base c.loop-k.v c.digit_at-d.result a.m c.requires.1.0 c.if-m-d.false c.if-m-d-2.true)
 
 pub overflow_mul-v : goal.overflow_mul-v
 overflow_mul-v c =
-    let d = c in
-    let l = d in
-    let s = l in
-    let a = s.args in
-    omega (arith, s.ranges.m, quotient_fits a.base l.loop-k.v d.digit_at-d.result a.m c.if-m-d.false c.if-m-d-2.false)
+    let a = c.args in
+    omega (arith, c.ranges.m, quotient_fits a.base c.loop-k.v c.digit_at-d.result a.m c.if-m-d.false c.if-m-d-2.false)
 
 pub overflow_add-v : goal.overflow_add-v
 overflow_add-v c =
-    let d = c in
-    let l = d in
-    let s = l in
-    let a = s.args in
-    omega (arith, s.ranges.m, quotient_fits a.base l.loop-k.v d.digit_at-d.result a.m c.if-m-d.false c.if-m-d-2.false)
+    let a = c.args in
+    omega (arith, c.ranges.m, quotient_fits a.base c.loop-k.v c.digit_at-d.result a.m c.if-m-d.false c.if-m-d-2.false)
 
 pub overflow_add-k : goal.overflow_add-k
 overflow_add-k c = omega arith
@@ -63,20 +51,16 @@ loop-k-smaller c = omega arith
 
 pub loop-k-preserved : goal.loop-k-preserved
 loop-k-preserved c =
-    let d = c in
-    let l = d in
-    let s = l in
-    let a = s.args in
-    let t = next-digit a.base l.loop-k.v d.digit_at-d.result a.n l.loop-k.k _ (omega arith) d.digit_at-d.ensures.0 in (
+    let a = c.args in
+    let t = next-digit a.base c.loop-k.v c.digit_at-d.result a.n c.loop-k.k _ (omega arith) c.digit_at-d.ensures.0 in (
       omega arith,
       (
-        quotient_fits a.base l.loop-k.v d.digit_at-d.result a.m c.if-m-d.false c.if-m-d-2.false,
-        rw add-one (sym t ∙ l.loop-k.invariant.1.1),
+        quotient_fits a.base c.loop-k.v c.digit_at-d.result a.m c.if-m-d.false c.if-m-d-2.false,
+        rw add-one (sym t ∙ c.loop-k.invariant.1.1),
       ),
     )
 
 pub returns : goal.returns
 returns c =
-    let l = c in
-    let a = l.args in
-    sym (le-leb _ a.m (omega (arith, no_digit a.base l.loop-k.v a.n l.loop-k.k (significand a.point a.s.now) (omega arith), l.loop-k.invariant.1.1)))
+    let a = c.args in
+    sym (le-leb _ a.m (omega (arith, no_digit a.base c.loop-k.v a.n c.loop-k.k (significand a.point a.s.now) (omega arith), c.loop-k.invariant.1.1)))

@@ -19,14 +19,12 @@ returns-then-k-point c =
 
 pub returns-then-s-eq0 : goal.returns-then-s-eq0
 returns-then-s-eq0 c =
-    let s = c in
-    let a = s.args in
-    (ap digit_of (behind-all a.s.now a.point a.k (omega arith) s.requires (omega arith)), omega arith)
+    let a = c.args in
+    (ap digit_of (behind-all a.s.now a.point a.k (omega arith) c.requires (omega arith)), omega arith)
 
 pub returns-then-k-s : goal.returns-then-k-s
 returns-then-k-s c =
-    let s = c in
-    let a = s.args in (
+    let a = c.args in (
       c.digit-then-k-s.ensures.0
           ∙ (ap (λ (i : ℕ). digit_of (get_or a.s.now i 0)) (add-one a.k) ∙ ap digit_of (behind-point a.s.now a.point a.k (omega arith) (omega arith))),
       c.digit-then-k-s.ensures.1,
@@ -34,6 +32,5 @@ returns-then-k-s c =
 
 pub returns : goal.returns
 returns c =
-    let s = c in
-    let a = s.args in
-    (ap digit_of (behind-all a.s.now a.point a.k (omega arith) s.requires (omega arith)), omega arith)
+    let a = c.args in
+    (ap digit_of (behind-all a.s.now a.point a.k (omega arith) c.requires (omega arith)), omega arith)

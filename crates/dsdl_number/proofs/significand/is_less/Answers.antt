@@ -40,26 +40,20 @@ bounds-bound-i c = omega arith
 
 pub returns-then-d-e : goal.returns-then-d-e
 returns-then-d-e c =
-    let g = c in
-    let d = g in
-    let l = d in
-    let a = l.args in
+    let a = c.args in
     let n = length a.bound.now in
-    let i = digit-in a.s.now a.point a.from n l.loop-i.i d.digit_at-d.result (omega arith) d.digit_at-d.ensures.0 in
+    let i = digit-in a.s.now a.point a.from n c.loop-i.i c.digit_at-d.result (omega arith) c.digit_at-d.ensures.0 in
     let p = front a.s.now a.point a.from n in
-    less-here p a.bound.now (a.from + l.loop-i.i) l.loop-i.i d.digit_at-d.result g.digit-e.result i.0 (omega arith) i.1 g.digit-e.ensures.0 c.if-d-e.true ∙ l.loop-i.invariant.1
+    less-here p a.bound.now (a.from + c.loop-i.i) c.loop-i.i c.digit_at-d.result c.digit-e.result i.0 (omega arith) i.1 c.digit-e.ensures.0 c.if-d-e.true ∙ c.loop-i.invariant.1
 
 pub returns-then-e-d : goal.returns-then-e-d
 returns-then-e-d c =
-    let g = c in
-    let d = g in
-    let l = d in
-    let a = l.args in
+    let a = c.args in
     let n = length a.bound.now in
-    let i = digit-in a.s.now a.point a.from n l.loop-i.i d.digit_at-d.result (omega arith) d.digit_at-d.ensures.0 in
+    let i = digit-in a.s.now a.point a.from n c.loop-i.i c.digit_at-d.result (omega arith) c.digit_at-d.ensures.0 in
     let p = front a.s.now a.point a.from n in
-    more-here p a.bound.now (a.from + l.loop-i.i) l.loop-i.i d.digit_at-d.result g.digit-e.result i.0 (omega arith) i.1 g.digit-e.ensures.0
-    c.if-d-e.false c.if-e-d.true ∙ l.loop-i.invariant.1
+    more-here p a.bound.now (a.from + c.loop-i.i) c.loop-i.i c.digit_at-d.result c.digit-e.result i.0 (omega arith) i.1 c.digit-e.ensures.0
+    c.if-d-e.false c.if-e-d.true ∙ c.loop-i.invariant.1
 
 pub overflow_add-i : goal.overflow_add-i
 overflow_add-i c = omega arith
@@ -69,24 +63,20 @@ loop-i-smaller c = omega arith
 
 pub loop-i-preserved : goal.loop-i-preserved
 loop-i-preserved c =
-    let g = c in
-    let d = g in
-    let l = d in
-    let a = l.args in
+    let a = c.args in
     let n = length a.bound.now in
-    let i = digit-in a.s.now a.point a.from n l.loop-i.i d.digit_at-d.result (omega arith) d.digit_at-d.ensures.0 in
+    let i = digit-in a.s.now a.point a.from n c.loop-i.i c.digit_at-d.result (omega arith) c.digit_at-d.ensures.0 in
     let p = front a.s.now a.point a.from n in
-    let e : a.from + (l.loop-i.i + 1) ≡ suc (a.from + l.loop-i.i) = omega arith in
-    let h = same_here p a.bound.now (a.from + l.loop-i.i) l.loop-i.i d.digit_at-d.result g.digit-e.result i.0 (omega arith) i.1 g.digit-e.ensures.0
+    let e : a.from + (c.loop-i.i + 1) ≡ suc (a.from + c.loop-i.i) = omega arith in
+    let h = same_here p a.bound.now (a.from + c.loop-i.i) c.loop-i.i c.digit_at-d.result c.digit-e.result i.0 (omega arith) i.1 c.digit-e.ensures.0
     c.if-d-e.false c.if-e-d.false in (
       omega arith,
-      ap (λ (k : ℕ). is_less (drop k p) (drop (l.loop-i.i + 1) a.bound.now)) e
-          ∙ (ap (λ (k : ℕ). is_less (drop (suc (a.from + l.loop-i.i)) p) (drop k a.bound.now)) (add-one l.loop-i.i) ∙ (sym h ∙ l.loop-i.invariant.1)),
+      ap (λ (k : ℕ). is_less (drop k p) (drop (c.loop-i.i + 1) a.bound.now)) e
+          ∙ (ap (λ (k : ℕ). is_less (drop (suc (a.from + c.loop-i.i)) p) (drop k a.bound.now)) (add-one c.loop-i.i) ∙ (sym h ∙ c.loop-i.invariant.1)),
     )
 
 pub returns : goal.returns
 returns c =
-    let l = c in
-    let a = l.args in
+    let a = c.args in
     let p = front a.s.now a.point a.from (length a.bound.now) in
-    sym (less-end (drop (a.from + l.loop-i.i) p) a.bound.now l.loop-i.i (omega arith)) ∙ l.loop-i.invariant.1
+    sym (less-end (drop (a.from + c.loop-i.i) p) a.bound.now c.loop-i.i (omega arith)) ∙ c.loop-i.invariant.1

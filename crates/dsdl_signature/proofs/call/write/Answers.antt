@@ -13,21 +13,17 @@ use borrow.Author.Rules.{rules}
 use Rattle.dsdl_signature.proofs.call.write.Goals as goal
 
 pub write-requires : goal.write-requires
-write-requires c = let s = c in (s.requires.0.0.few, (omega arith, λ i h. omega (arith, s.requires.1.0.next i h)))
+write-requires c = (c.requires.0.0.few, (omega arith, λ i h. omega (arith, c.requires.1.0.next i h)))
 
 pub returns : goal.returns
 returns c =
-    let r = c in
-    let v = r in
-    let w = v in
-    let s = w in
-    let a = s.args in
+    let a = c.args in
     let d = definition_at a.source.now a.bounds in
     let ds = given a.source.now a.bounds a.n in
-    let same : (j : ℕ) → j < a.n → record_at a.ends v.all-signatures.result j ≡ record_of (length (form_at a.source.now a.bounds j)) (signature ds (d j)) =
-    λ j h. let l : get_or a.ends (j + 1) 0 - get_or a.ends j 0 ≡ length (form_at a.source.now a.bounds j) = omega (arith, s.requires.1.0.next j h) in ap₂ record_of l (v.all-signatures.ensures j h) in (
-      w.write-hashes.ensures.0 ∙ ap (splice a.out.now 0) (sym (forms-joined d 0 a.n)),
-      r.write.ensures
+    let same : (j : ℕ) → j < a.n → record_at a.ends c.all-signatures.result j ≡ record_of (length (form_at a.source.now a.bounds j)) (signature ds (d j)) =
+    λ j h. let l : get_or a.ends (j + 1) 0 - get_or a.ends j 0 ≡ length (form_at a.source.now a.bounds j) = omega (arith, c.requires.1.0.next j h) in ap₂ record_of l (c.all-signatures.ensures j h) in (
+      c.write-hashes.ensures.0 ∙ ap (splice a.out.now 0) (sym (forms-joined d 0 a.n)),
+      c.write.ensures
           ∙ ap (splice a.records.now 0)
-          (joined_same (record_at a.ends v.all-signatures.result) (λ (j : ℕ). record_of (length (form_at a.source.now a.bounds j)) (signature ds (d j))) a.n 0 (λ j h k. same j (omega arith)) ∙ sym (records-joined ds d 0 a.n)),
+          (joined_same (record_at a.ends c.all-signatures.result) (λ (j : ℕ). record_of (length (form_at a.source.now a.bounds j)) (signature ds (d j))) a.n 0 (λ j h k. same j (omega arith)) ∙ sym (records-joined ds d 0 a.n)),
     )

@@ -21,10 +21,10 @@ pub loop-i-init : goal.loop-i-init
 loop-i-init c = let a = c.args in ap (λ (k : ℕ). fault_from 1 (given a.source.now a.bounds k)) (sub-zero a.n)
 
 pub name-requires : goal.name-requires
-name-requires c = let l = c in l.requires.holds l.loop-i.i c.loop-i-test.true
+name-requires c = c.requires.holds c.loop-i.i c.loop-i-test.true
 
 pub text-requires : goal.text-requires
-text-requires c = let t = c in let l = t in l.requires.holds l.loop-i.i t.loop-i-test.true
+text-requires c = c.requires.holds c.loop-i.i c.loop-i-test.true
 
 pub judge-requires : goal.judge-requires
 judge-requires c = c.text.ensures.1
@@ -37,27 +37,21 @@ loop-i-smaller c = omega arith
 
 pub loop-i-preserved : goal.loop-i-preserved
 loop-i-preserved c =
-    let j = c in
-    let l = j in
-    let a = l.args in
-    sym (passes (definition_at a.source.now a.bounds) l.loop-i.i a.n (omega arith) (ap told (sym c.in-Good.is) ∙ judged j)) ∙ l.loop-i.invariant
+    let a = c.args in
+    sym (passes (definition_at a.source.now a.bounds) c.loop-i.i a.n (omega arith) (ap told (sym c.in-Good.is) ∙ judged c)) ∙ c.loop-i.invariant
 
 pub overflow_cast-result : goal.overflow_cast-result
-overflow_cast-result c = let l = c in omega (arith, l.requires.few)
+overflow_cast-result c = omega (arith, c.requires.few)
 
 pub overflow_add-result : goal.overflow_add-result
-overflow_add-result c = let l = c in omega (arith, l.requires.few)
+overflow_add-result c = omega (arith, c.requires.few)
 
 pub returns-in-Faulty : goal.returns-in-Faulty
 returns-in-Faulty c =
-    let k = c in
-    let j = k in
-    let l = j in
-    let a = l.args in
-    stops (definition_at a.source.now a.bounds) l.loop-i.i a.n k.in-Faulty.line (omega arith) (ap told (sym k.in-Faulty.is) ∙ judged j) ∙ l.loop-i.invariant
+    let a = c.args in
+    stops (definition_at a.source.now a.bounds) c.loop-i.i a.n c.in-Faulty.line (omega arith) (ap told (sym c.in-Faulty.is) ∙ judged c) ∙ c.loop-i.invariant
 
 pub returns : goal.returns
 returns c =
-    let l = c in
-    let a = l.args in
-    ends (definition_at a.source.now a.bounds) l.loop-i.i a.n c.loop-i-test.false ∙ l.loop-i.invariant
+    let a = c.args in
+    ends (definition_at a.source.now a.bounds) c.loop-i.i a.n c.loop-i-test.false ∙ c.loop-i.invariant

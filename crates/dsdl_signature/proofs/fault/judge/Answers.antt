@@ -10,12 +10,8 @@ returns-then-not-is_full_name c = bad-name _ _ (by c.is_full_name.ensures (not-t
 
 pub returns-then-n-gt0 : goal.returns-then-n-gt0
 returns-then-n-gt0 c =
-    let l = c in
-    let f = l in
-    at-line _ _ (by f.is_full_name.ensures (not-false _ f.if-not-is_full_name.false)) _ l.line-n.ensures.0 c.if-n-gt0.true
+    at-line _ _ (by c.is_full_name.ensures (not-false _ c.if-not-is_full_name.false)) _ c.line-n.ensures.0 c.if-n-gt0.true
 
 pub returns : goal.returns
 returns c =
-    let l = c in
-    let f = l in
-    fine _ _ (by f.is_full_name.ensures (not-false _ f.if-not-is_full_name.false)) _ l.line-n.ensures.0 c.if-n-gt0.false
+    fine _ _ (by c.is_full_name.ensures (not-false _ c.if-not-is_full_name.false)) _ c.line-n.ensures.0 c.if-n-gt0.false

@@ -14,16 +14,14 @@ pub loop-i-init : goal.loop-i-init
 loop-i-init c = ((omega arith, refl), (omega arith, (refl, record { first = refl; next = λ j h. absurd (omega arith) })))
 
 pub name-requires : goal.name-requires
-name-requires c = let l = c in l.requires.0.holds l.loop-i.i c.loop-i-test.true
+name-requires c = c.requires.0.holds c.loop-i.i c.loop-i-test.true
 
 pub text-requires : goal.text-requires
-text-requires c = let t = c in let l = t in l.requires.0.holds l.loop-i.i t.loop-i-test.true
+text-requires c = c.requires.0.holds c.loop-i.i c.loop-i-test.true
 
 pub length-at-requires : goal.length-at-requires
 length-at-requires c =
-    let n = c in
-    let l = n in
-    (omega (arith, ap length n.name.ensures, l.requires.1 l.loop-i.i n.loop-i-test.true), c.text.ensures.1)
+    (omega (arith, ap length c.name.ensures, c.requires.1 c.loop-i.i c.loop-i-test.true), c.text.ensures.1)
 
 pub overflow_add-at : goal.overflow_add-at
 overflow_add-at c = omega arith
@@ -32,28 +30,24 @@ pub overflow_add-i : goal.overflow_add-i
 overflow_add-i c = omega arith
 
 pub bounds-ends-i : goal.bounds-ends-i
-bounds-ends-i c = let l = c in omega (arith, l.requires.0.few)
+bounds-ends-i c = omega (arith, c.requires.0.few)
 
 pub loop-i-smaller : goal.loop-i-smaller
 loop-i-smaller c = omega arith
 
 pub loop-i-preserved : goal.loop-i-preserved
 loop-i-preserved c =
-    let t = c in
-    let n = t in
-    let l = n in
-    let i = l.loop-i.invariant in
-    let e = l.loop-i.ends in
-    let s = l in
-    let r : l.loop-i.i + 1 < length e = omega (arith, s.requires.0.few) in
+    let i = c.loop-i.invariant in
+    let e = c.loop-i.ends in
+    let r : c.loop-i.i + 1 < length e = omega (arith, c.requires.0.few) in
     let x = c.length-at.result in (
-      (omega arith, length-set e (l.loop-i.i + 1) (l.loop-i.at + x) ∙ i.0.1),
+      (omega arith, length-set e (c.loop-i.i + 1) (c.loop-i.at + x) ∙ i.0.1),
       (
         omega arith,
         (
-          sym (get_or-set_same e (l.loop-i.i + 1) (l.loop-i.at + x) 0 r),
-          one_more (λ (j : ℕ). length (form_at s.args.source.now s.args.bounds j)) e l.loop-i.at l.loop-i.i x r i.1.1.1 i.1.1.0
-              (c.length-at.ensures.0 ∙ ap length (ap₂ form_of n.name.ensures t.text.ensures.0)),
+          sym (get_or-set_same e (c.loop-i.i + 1) (c.loop-i.at + x) 0 r),
+          one_more (λ (j : ℕ). length (form_at c.args.source.now c.args.bounds j)) e c.loop-i.at c.loop-i.i x r i.1.1.1 i.1.1.0
+              (c.length-at.ensures.0 ∙ ap length (ap₂ form_of c.name.ensures c.text.ensures.0)),
         ),
       ),
     )

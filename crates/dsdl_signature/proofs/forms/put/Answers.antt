@@ -26,19 +26,15 @@ ended : (w : goal.After-write-end) → let t = w in let a = t.args in
 ended w = let t = w in w.write-end.ensures.1 ∙ ap (λ (l : List ℕ). t.args.at + length l) (is-form t)
 
 pub write-end-requires : goal.write-end-requires
-write-end-requires c = let t = c in (t.text.ensures.1, omega (arith, ap length (is-form t), t.requires.1))
+write-end-requires c = (c.text.ensures.1, omega (arith, ap length (is-form c), c.requires.1))
 
 pub slice_bounds-hash_from-end : goal.slice_bounds-hash_from-end
 slice_bounds-hash_from-end c =
-    let w = c in
-    let s = w in
-    let a = s.args in
-    omega (arith, ended w, ap length (written w), length-splice a.out.now a.at (form_at a.source.now a.bounds a.i) s.requires.1, s.requires.1)
+    let a = c.args in
+    omega (arith, ended c, ap length (written c), length-splice a.out.now a.at (form_at a.source.now a.bounds a.i) c.requires.1, c.requires.1)
 
 pub returns : goal.returns
 returns c =
-    let w = c in
-    let s = w in
-    let a = s.args in
+    let a = c.args in
     let f = form_at a.source.now a.bounds a.i in
-    (written w, c.hash_from.ensures ∙ ap (hash_from 0) (ap (λ (l : List ℕ). take (w.write-end.result - a.at) (drop a.at l)) (written w) ∙ span_same a.out.now a.at f s.requires.1 (w.write-end.result - a.at) (omega (arith, ended w))))
+    (written c, c.hash_from.ensures ∙ ap (hash_from 0) (ap (λ (l : List ℕ). take (c.write-end.result - a.at) (drop a.at l)) (written c) ∙ span_same a.out.now a.at f c.requires.1 (c.write-end.result - a.at) (omega (arith, ended c))))

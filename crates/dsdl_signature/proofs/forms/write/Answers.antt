@@ -25,17 +25,14 @@ unfolding joined
 loop-i-init c = ((omega arith, refl), (refl, (refl, λ j h. absurd (omega arith))))
 
 pub bounds-ends-i : goal.bounds-ends-i
-bounds-ends-i c = let s = c in omega (arith, s.requires.0.few)
+bounds-ends-i c = omega (arith, c.requires.0.few)
 
 pub put-h-requires : goal.put-h-requires
 put-h-requires c =
-    let t = c in
-    let l = t in
-    let s = l in
-    (s.requires.0.holds l.loop-i.i t.loop-i-test.true, omega (arith, has_room l t.loop-i-test.true))
+    (c.requires.0.holds c.loop-i.i c.loop-i-test.true, omega (arith, has_room c c.loop-i-test.true))
 
 pub bounds-hashes-i : goal.bounds-hashes-i
-bounds-hashes-i c = let s = c in omega (arith, s.requires.0.few)
+bounds-hashes-i c = omega (arith, c.requires.0.few)
 
 pub overflow_add-i : goal.overflow_add-i
 overflow_add-i c = omega arith
@@ -45,28 +42,23 @@ loop-i-smaller c = omega arith
 
 pub loop-i-preserved : goal.loop-i-preserved
 loop-i-preserved c =
-    let p = c in
-    let t = p in
-    let l = t in
-    let s = l in
-    let a = s.args in
-    let i = l.loop-i.i in
+    let a = c.args in
+    let i = c.loop-i.i in
     let f = form_at a.source.now a.bounds in
-    let v = l.loop-i.invariant in
-    let g : i < length l.loop-i.hashes = omega (arith, s.requires.0.few) in (
-      (omega arith, length-set l.loop-i.hashes i p.put-h.result ∙ v.0.1),
+    let v = c.loop-i.invariant in
+    let g : i < length c.loop-i.hashes = omega (arith, c.requires.0.few) in (
+      (omega arith, length-set c.loop-i.hashes i c.put-h.result ∙ v.0.1),
       (
-        ap length p.put-h.ensures.0 ∙ (length-splice l.loop-i.out (get_or a.t4 i 0) (f i) (omega (arith, has_room l t.loop-i-test.true)) ∙ v.1.0),
+        ap length c.put-h.ensures.0 ∙ (length-splice c.loop-i.out (get_or a.t4 i 0) (f i) (omega (arith, has_room c c.loop-i-test.true)) ∙ v.1.0),
         (
-          one_written f a.out.now l.loop-i.out p.put-h.new.1.1.1.0 (get_or a.t4 i 0) i (joined_length f a.t4 a.n s.requires.1.0 i (omega arith)) (has_room l t.loop-i-test.true) v.1.1.0 p.put-h.ensures.0,
-          one-stored (λ (j : ℕ). hash_from 0 (f j)) l.loop-i.hashes i p.put-h.result g v.1.1.1 p.put-h.ensures.1,
+          one_written f a.out.now c.loop-i.out c.put-h.new.1.1.1.0 (get_or a.t4 i 0) i (joined_length f a.t4 a.n c.requires.1.0 i (omega arith)) (has_room c c.loop-i-test.true) v.1.1.0 c.put-h.ensures.0,
+          one-stored (λ (j : ℕ). hash_from 0 (f j)) c.loop-i.hashes i c.put-h.result g v.1.1.1 c.put-h.ensures.1,
         ),
       ),
     )
 
 pub returns : goal.returns
 returns c =
-    let l = c in
-    let a = l.args in
-    let q : l.loop-i.i ≡ a.n = omega arith in
-    (l.loop-i.invariant.1.1.0 ∙ ap (λ (k : ℕ). splice a.out.now 0 (joined (form_at a.source.now a.bounds) 0 k)) q, λ j h. l.loop-i.invariant.1.1.1 j (omega arith))
+    let a = c.args in
+    let q : c.loop-i.i ≡ a.n = omega arith in
+    (c.loop-i.invariant.1.1.0 ∙ ap (λ (k : ℕ). splice a.out.now 0 (joined (form_at a.source.now a.bounds) 0 k)) q, λ j h. c.loop-i.invariant.1.1.1 j (omega arith))

@@ -8,8 +8,5 @@ use Rattle.dsdl_signature.proofs.records.put.Goals as goal
 
 pub returns : goal.returns
 returns c =
-    let p = c in
-    let q = p in
-    let s = q in
-    let a = s.args in
-    splice-next a.records.now q.put_at.new.s p.put_at-2.new.s a.at 4 (le_bytes 4 a.len) (le_bytes 8 a.signature) (omega arith) (length-le_bytes 4 a.len) q.put_at.ensures p.put_at-2.ensures
+    let a = c.args in
+    splice-next a.records.now c.put_at.new.s c.put_at-2.new.s a.at 4 (le_bytes 4 a.len) (le_bytes 8 a.signature) (omega arith) (length-le_bytes 4 a.len) c.put_at.ensures c.put_at-2.ensures

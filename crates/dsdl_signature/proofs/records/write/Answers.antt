@@ -28,7 +28,7 @@ pub bounds-ends-i : goal.bounds-ends-i
 bounds-ends-i c = omega arith
 
 pub overflow_sub-ends : goal.overflow_sub-ends
-overflow_sub-ends c = let l = c in l.requires.1.1 l.loop-i.i c.loop-i-test.true
+overflow_sub-ends c = c.requires.1.1 c.loop-i.i c.loop-i-test.true
 
 pub bounds-signatures-i : goal.bounds-signatures-i
 bounds-signatures-i c = omega arith
@@ -44,23 +44,19 @@ loop-i-smaller c = omega arith
 
 pub loop-i-preserved : goal.loop-i-preserved
 loop-i-preserved c =
-    let p = c in
-    let l = p in
-    let s = l in
-    let a = s.args in
-    let i = l.loop-i.i in
+    let a = c.args in
+    let i = c.loop-i.i in
     let f = record_at a.t1 a.t2 in
     let e : (j : ℕ) → length (f j) ≡ record_size = λ j. record-length (get_or a.t1 (j + 1) 0 - get_or a.t1 j 0) (get_or a.t2 j 0) in (
       omega arith,
       (
-        ap length p.put.ensures ∙ (length-splice l.loop-i.records (i * record_size) (f i) (omega (arith, e i)) ∙ l.loop-i.invariant.1.0),
-        one_written f a.records.now l.loop-i.records p.put.new.records (i * record_size) i (joined-fixed f record_size i e) (omega (arith, e i)) l.loop-i.invariant.1.1 p.put.ensures,
+        ap length c.put.ensures ∙ (length-splice c.loop-i.records (i * record_size) (f i) (omega (arith, e i)) ∙ c.loop-i.invariant.1.0),
+        one_written f a.records.now c.loop-i.records c.put.new.records (i * record_size) i (joined-fixed f record_size i e) (omega (arith, e i)) c.loop-i.invariant.1.1 c.put.ensures,
       ),
     )
 
 pub returns : goal.returns
 returns c =
-    let l = c in
-    let a = l.args in
-    let q : l.loop-i.i ≡ a.n = omega arith in
-    l.loop-i.invariant.1.1 ∙ ap (λ (k : ℕ). splice a.records.now 0 (joined (record_at a.t1 a.t2) 0 k)) q
+    let a = c.args in
+    let q : c.loop-i.i ≡ a.n = omega arith in
+    c.loop-i.invariant.1.1 ∙ ap (λ (k : ℕ). splice a.records.now 0 (joined (record_at a.t1 a.t2) 0 k)) q

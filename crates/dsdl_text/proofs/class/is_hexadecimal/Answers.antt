@@ -6,7 +6,7 @@ pub returns-then-within : goal.returns-then-within
 returns-then-within c = or-first _ _ (by c.within.ensures c.if-within.true)
 
 pub returns-then-within-2 : goal.returns-then-within-2
-returns-then-within-2 c = let f = c in or-next _ _ _ (by f.within.ensures f.if-within.false) (or-first _ _ (by c.within-2.ensures c.if-within-2.true))
+returns-then-within-2 c = or-next _ _ _ (by c.within.ensures c.if-within.false) (or-first _ _ (by c.within-2.ensures c.if-within-2.true))
 
 pub returns : goal.returns
-returns c = let g = c in let f = g in or-next _ _ _ (by f.within.ensures f.if-within.false) (or-next _ _ _ (by g.within-2.ensures g.if-within-2.false) c.within-3.ensures)
+returns c = or-next _ _ _ (by c.within.ensures c.if-within.false) (or-next _ _ _ (by c.within-2.ensures c.if-within-2.false) c.within-3.ensures)

@@ -7,7 +7,7 @@ pub returns-then-is_letter : goal.returns-then-is_letter
 returns-then-is_letter c = or-first _ _ (by c.is_letter.ensures c.if-is_letter.true)
 
 pub returns-then-within : goal.returns-then-within
-returns-then-within c = let f = c in or-next _ _ _ (by f.is_letter.ensures f.if-is_letter.false) (or-first _ _ (by c.within.ensures c.if-within.true))
+returns-then-within c = or-next _ _ _ (by c.is_letter.ensures c.if-is_letter.false) (or-first _ _ (by c.within.ensures c.if-within.true))
 
 pub returns : goal.returns
-returns c = let f = c in or-next _ _ _ (by f.is_letter.ensures f.if-is_letter.false) (or-next _ _ _ (by c.within.ensures c.if-within.false) refl)
+returns c = or-next _ _ _ (by c.is_letter.ensures c.if-is_letter.false) (or-next _ _ _ (by c.within.ensures c.if-within.false) refl)

@@ -8,7 +8,7 @@ pub returns-then-begins : goal.returns-then-begins
 returns-then-begins c = rw c.if-begins.true c.is.ensures
 
 pub returns-then-is : goal.returns-then-is
-returns-then-is c = let d = c in rw d.if-begins.false (or-first _ _ (by d.is-2.ensures c.if-is.true))
+returns-then-is c = rw c.if-begins.false (or-first _ _ (by c.is-2.ensures c.if-is.true))
 
 pub returns : goal.returns
-returns c = let d = c in rw d.if-begins.false (or-next _ _ _ (by d.is-2.ensures c.if-is.false) refl)
+returns c = rw c.if-begins.false (or-next _ _ _ (by c.is-2.ensures c.if-is.false) refl)

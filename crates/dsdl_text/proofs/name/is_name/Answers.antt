@@ -12,4 +12,4 @@ pub returns-then-not-is : goal.returns-then-not-is
 returns-then-not-is c = and_first _ _ (by c.is.ensures (not-true _ c.if-not-is.true))
 
 pub returns : goal.returns
-returns c = let f = c in and-next _ _ _ (by f.is.ensures (not-false _ f.if-not-is.false)) c.all.ensures
+returns c = and-next _ _ _ (by c.is.ensures (not-false _ c.if-not-is.false)) c.all.ensures

@@ -22,21 +22,18 @@ loop-i-smaller-then-c-eq46 c = omega arith
 
 pub loop-i-preserved-then-c-eq46 : goal.loop-i-preserved-then-c-eq46
 loop-i-preserved-then-c-eq46 c =
-    let l = c in
-    let a = l.args in
-    (omega arith, (omega arith, rw add-one (sym (dot a.s.now l.loop-i.i l.loop-i.end (omega arith) c.if-c-eq46.true) ∙ l.loop-i.invariant.1.1)))
+    let a = c.args in
+    (omega arith, (omega arith, rw add-one (sym (dot a.s.now c.loop-i.i c.loop-i.end (omega arith) c.if-c-eq46.true) ∙ c.loop-i.invariant.1.1)))
 
 pub loop-i-smaller : goal.loop-i-smaller
 loop-i-smaller c = omega arith
 
 pub loop-i-preserved : goal.loop-i-preserved
 loop-i-preserved c =
-    let l = c in
-    let a = l.args in
-    (omega arith, (omega arith, rw add-one (sym (other a.s.now l.loop-i.i l.loop-i.end (omega arith) c.if-c-eq46.false) ∙ l.loop-i.invariant.1.1)))
+    let a = c.args in
+    (omega arith, (omega arith, rw add-one (sym (other a.s.now c.loop-i.i c.loop-i.end (omega arith) c.if-c-eq46.false) ∙ c.loop-i.invariant.1.1)))
 
 pub returns : goal.returns
 returns c =
-    let l = c in
-    let a = l.args in
-    (sym (found a.s.now l.loop-i.i l.loop-i.end (omega arith)) ∙ l.loop-i.invariant.1.1, omega arith)
+    let a = c.args in
+    (sym (found a.s.now c.loop-i.i c.loop-i.end (omega arith)) ∙ c.loop-i.invariant.1.1, omega arith)

@@ -24,9 +24,8 @@ bounds-b-i c = omega arith
 
 pub returns-then-a-i : goal.returns-then-a-i
 returns-then-a-i c =
-    let l = c in
-    let a = l.args in
-    sym (sym l.loop-i.invariant.1.1.1 ∙ differs a.a.now a.b.now l.loop-i.i (omega arith) (omega arith) c.if-a-i.true)
+    let a = c.args in
+    sym (sym c.loop-i.invariant.1.1.1 ∙ differs a.a.now a.b.now c.loop-i.i (omega arith) (omega arith) c.if-a-i.true)
 
 pub overflow_add-i : goal.overflow_add-i
 overflow_add-i c = omega arith
@@ -36,21 +35,19 @@ loop-i-smaller c = omega arith
 
 pub loop-i-preserved : goal.loop-i-preserved
 loop-i-preserved c =
-    let l = c in
-    let a = l.args in (
+    let a = c.args in (
       omega arith,
       (
         refl,
         (
           omega arith,
-          rw add-one (sym (like a.a.now a.b.now l.loop-i.i (omega arith) (omega arith) c.if-a-i.false)
-              ∙ l.loop-i.invariant.1.1.1),
+          rw add-one (sym (like a.a.now a.b.now c.loop-i.i (omega arith) (omega arith) c.if-a-i.false)
+              ∙ c.loop-i.invariant.1.1.1),
         ),
       ),
     )
 
 pub returns : goal.returns
 returns c =
-    let l = c in
-    let a = l.args in
-    sym (sym l.loop-i.invariant.1.1.1 ∙ done a.a.now a.b.now l.loop-i.i (omega arith) (omega arith))
+    let a = c.args in
+    sym (sym c.loop-i.invariant.1.1.1 ∙ done a.a.now a.b.now c.loop-i.i (omega arith) (omega arith))

@@ -5,6 +5,4 @@ use Rattle.dsdl_text.proofs.word.next.Goals as goal
 
 pub returns : goal.returns
 returns c =
-    let r = c in
-    let s = r in
-    found s.args.line.now s.args.from s.args.stop r.run.result c.run-2.result s.requires.0 r.run.ensures.0 c.run-2.ensures.0
+    found c.args.line.now c.args.from c.args.stop c.run.result c.run-2.result c.requires.0 c.run.ensures.0 c.run-2.ensures.0

@@ -9,10 +9,10 @@ pub returns-then-not-same : goal.returns-then-not-same
 returns-then-not-same c = and_first _ _ (by c.same.ensures (not-true _ c.if-not-same.true))
 
 pub returns-then-bits-eq16 : goal.returns-then-bits-eq16
-returns-then-bits-eq16 c = let f = c in and-next _ _ _ (by f.same.ensures (not-false _ f.if-not-same.false)) (or-first _ _ (eq-eqb _ _ c.if-bits-eq16.true))
+returns-then-bits-eq16 c = and-next _ _ _ (by c.same.ensures (not-false _ c.if-not-same.false)) (or-first _ _ (eq-eqb _ _ c.if-bits-eq16.true))
 
 pub returns-then-bits-eq32 : goal.returns-then-bits-eq32
-returns-then-bits-eq32 c = let g = c in let f = g in and-next _ _ _ (by f.same.ensures (not-false _ f.if-not-same.false)) (or-next _ _ _ (ne_eqb _ _ g.if-bits-eq16.false) (or-first _ _ (eq-eqb _ _ c.if-bits-eq32.true)))
+returns-then-bits-eq32 c = and-next _ _ _ (by c.same.ensures (not-false _ c.if-not-same.false)) (or-next _ _ _ (ne_eqb _ _ c.if-bits-eq16.false) (or-first _ _ (eq-eqb _ _ c.if-bits-eq32.true)))
 
 pub returns : goal.returns
-returns c = let g = c in let f = g in and-next _ _ _ (by f.same.ensures (not-false _ f.if-not-same.false)) (or-next _ _ _ (ne_eqb _ _ g.if-bits-eq16.false) (or-next _ _ _ (ne_eqb _ _ c.if-bits-eq32.false) refl))
+returns c = and-next _ _ _ (by c.same.ensures (not-false _ c.if-not-same.false)) (or-next _ _ _ (ne_eqb _ _ c.if-bits-eq16.false) (or-next _ _ _ (ne_eqb _ _ c.if-bits-eq32.false) refl))

@@ -9,7 +9,7 @@ pub returns-then-not-same : goal.returns-then-not-same
 returns-then-not-same c = and_first _ _ (by c.same.ensures (not-true _ c.if-not-same.true))
 
 pub returns-then-bits-least : goal.returns-then-bits-least
-returns-then-bits-least c = let f = c in and-next _ _ _ (by f.same.ensures (not-false _ f.if-not-same.false)) (and_first _ _ (lt-leb _ _ c.if-bits-least.true))
+returns-then-bits-least c = and-next _ _ _ (by c.same.ensures (not-false _ c.if-not-same.false)) (and_first _ _ (lt-leb _ _ c.if-bits-least.true))
 
 pub returns : goal.returns
-returns c = let f = c in and-next _ _ _ (by f.same.ensures (not-false _ f.if-not-same.false)) (and-next _ _ _ (le-leb _ _ c.if-bits-least.false) refl)
+returns c = and-next _ _ _ (by c.same.ensures (not-false _ c.if-not-same.false)) (and-next _ _ _ (le-leb _ _ c.if-bits-least.false) refl)

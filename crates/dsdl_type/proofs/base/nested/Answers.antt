@@ -11,22 +11,14 @@ returns-then-not-is_dotted c = next _ _ _ _ (sym (and_first _ _ (by c.is_dotted.
 
 pub returns-then-not-has_dot : goal.returns-then-not-has_dot
 returns-then-not-has_dot c =
-    let d = c in
-    let f = d in
-    first _ _ _ (sym (and-next _ _ _ (by f.is_dotted.ensures (not-false _ f.if-not-is_dotted.false)) (or-first _ _ (ap not (by d.has_dot.ensures (not-true _ c.if-not-has_dot.true))))))
+    first _ _ _ (sym (and-next _ _ _ (by c.is_dotted.ensures (not-false _ c.if-not-is_dotted.false)) (or-first _ _ (ap not (by c.has_dot.ensures (not-true _ c.if-not-has_dot.true))))))
 
 pub returns-then-s-le-NAME : goal.returns-then-s-le-NAME
 returns-then-s-le-NAME c =
-    let g = c in
-    let d = g in
-    let f = d in
-    first _ _ _ (sym (and-next _ _ _ (by f.is_dotted.ensures (not-false _ f.if-not-is_dotted.false))
-    (or-next _ _ _ (ap not (by d.has_dot.ensures (not-false _ g.if-not-has_dot.false))) (sym (le-leb _ _ c.if-s-le-NAME.true)))))
+    first _ _ _ (sym (and-next _ _ _ (by c.is_dotted.ensures (not-false _ c.if-not-is_dotted.false))
+    (or-next _ _ _ (ap not (by c.has_dot.ensures (not-false _ c.if-not-has_dot.false))) (sym (le-leb _ _ c.if-s-le-NAME.true)))))
 
 pub returns : goal.returns
 returns c =
-    let g = c in
-    let d = g in
-    let f = d in
-    next _ _ _ _ (sym (and-next _ _ _ (by f.is_dotted.ensures (not-false _ f.if-not-is_dotted.false))
-    (or-next _ _ _ (ap not (by d.has_dot.ensures (not-false _ g.if-not-has_dot.false))) (sym (lt-leb _ _ c.if-s-le-NAME.false))))) refl
+    next _ _ _ _ (sym (and-next _ _ _ (by c.is_dotted.ensures (not-false _ c.if-not-is_dotted.false))
+    (or-next _ _ _ (ap not (by c.has_dot.ensures (not-false _ c.if-not-has_dot.false))) (sym (lt-leb _ _ c.if-s-le-NAME.false))))) refl

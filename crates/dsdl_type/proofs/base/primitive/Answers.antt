@@ -9,40 +9,18 @@ returns-then-is_of c = first _ _ _ (by c.is_of.ensures c.if-is_of.true)
 
 pub returns-then-is_of-2 : goal.returns-then-is_of-2
 returns-then-is_of-2 c =
-    let p2 = c in
-    let f = p2 in
-    let p1 = f in
-    next _ _ _ _ (by p1.is_of.ensures f.if-is_of.false) (first _ _ _ (by p2.is_of-2.ensures c.if-is_of-2.true))
+    next _ _ _ _ (by c.is_of.ensures c.if-is_of.false) (first _ _ _ (by c.is_of-2.ensures c.if-is_of-2.true))
 
 pub returns-then-is_float : goal.returns-then-is_float
 returns-then-is_float c =
-    let p3 = c in
-    let g = p3 in
-    let p2 = g in
-    let f = p2 in
-    let p1 = f in
-    next _ _ _ _ (by p1.is_of.ensures f.if-is_of.false) (next _ _ _ _ (by p2.is_of-2.ensures g.if-is_of-2.false) (first _ _ _ (by p3.is_float.ensures c.if-is_float.true)))
+    next _ _ _ _ (by c.is_of.ensures c.if-is_of.false) (next _ _ _ _ (by c.is_of-2.ensures c.if-is_of-2.false) (first _ _ _ (by c.is_float.ensures c.if-is_float.true)))
 
 pub returns-then-is_of-3 : goal.returns-then-is_of-3
 returns-then-is_of-3 c =
-    let p4 = c in
-    let h = p4 in
-    let p3 = h in
-    let g = p3 in
-    let p2 = g in
-    let f = p2 in
-    let p1 = f in
-    next _ _ _ _ (by p1.is_of.ensures f.if-is_of.false) (next _ _ _ _ (by p2.is_of-2.ensures g.if-is_of-2.false) (next _ _ _ _ (by p3.is_float.ensures h.if-is_float.false)
-    (first _ _ _ (by p4.is_of-3.ensures c.if-is_of-3.true))))
+    next _ _ _ _ (by c.is_of.ensures c.if-is_of.false) (next _ _ _ _ (by c.is_of-2.ensures c.if-is_of-2.false) (next _ _ _ _ (by c.is_float.ensures c.if-is_float.false)
+    (first _ _ _ (by c.is_of-3.ensures c.if-is_of-3.true))))
 
 pub returns : goal.returns
 returns c =
-    let p4 = c in
-    let h = p4 in
-    let p3 = h in
-    let g = p3 in
-    let p2 = g in
-    let f = p2 in
-    let p1 = f in
-    next _ _ _ _ (by p1.is_of.ensures f.if-is_of.false) (next _ _ _ _ (by p2.is_of-2.ensures g.if-is_of-2.false) (next _ _ _ _ (by p3.is_float.ensures h.if-is_float.false)
-    (next _ _ _ _ (by p4.is_of-3.ensures c.if-is_of-3.false) refl)))
+    next _ _ _ _ (by c.is_of.ensures c.if-is_of.false) (next _ _ _ _ (by c.is_of-2.ensures c.if-is_of-2.false) (next _ _ _ _ (by c.is_float.ensures c.if-is_float.false)
+    (next _ _ _ _ (by c.is_of-3.ensures c.if-is_of-3.false) refl)))

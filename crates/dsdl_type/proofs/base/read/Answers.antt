@@ -17,13 +17,9 @@ returns-then-same c = first _ _ _ (by c.same.ensures c.if-same.true)
 pub returns : goal.returns
 unfolding base_of
 returns c =
-    let o = c in
-    let b = o in
-    let n = b in
-    let f = n in
-    let s = f.args.s.now in
-    let z : n.run-n.result - 0 ≡ n.run-n.result = omega arith in
-    next _ _ _ _ (by f.same.ensures f.if-same.false)
-    (read_as s (take (n.run-n.result - 0) s) (take (length s - n.run-n.result) (drop n.run-n.result s)) n.run-n.result b.bits-w.result o.nested.result
-    c.primitive.result n.run-n.ensures.0 (ap (λ (k : ℕ). take k s) z) (rest n.run-n.result s) b.bits-w.ensures.0 o.nested.ensures
+    let s = c.args.s.now in
+    let z : c.run-n.result - 0 ≡ c.run-n.result = omega arith in
+    next _ _ _ _ (by c.same.ensures c.if-same.false)
+    (read_as s (take (c.run-n.result - 0) s) (take (length s - c.run-n.result) (drop c.run-n.result s)) c.run-n.result c.bits-w.result c.nested.result
+    c.primitive.result c.run-n.ensures.0 (ap (λ (k : ℕ). take k s) z) (rest c.run-n.result s) c.bits-w.ensures.0 c.nested.ensures
     c.primitive.ensures)

@@ -5,25 +5,25 @@ use borrow.Author.Rules.{rules}
 use Rattle.dsdl_type.proofs.constant.holds_code.Goals as goal
 
 pub overflow_sub-bits : goal.overflow_sub-bits
-overflow_sub-bits c = let s = c in let p = signed-bits s.args.b _ s.requires.0 c.in-Signed.is in omega arith
+overflow_sub-bits c = let p = signed-bits c.args.b _ c.requires.0 c.in-Signed.is in omega arith
 
 pub ones-requires : goal.ones-requires
-ones-requires c = let s = c in let p = signed-bits s.args.b _ s.requires.0 c.in-Signed.is in omega arith
+ones-requires c = let p = signed-bits c.args.b _ c.requires.0 c.in-Signed.is in omega arith
 
 pub ones-requires-in-Unsigned : goal.ones-requires-in-Unsigned
-ones-requires-in-Unsigned c = let s = c in (unsigned-bits s.args.b _ s.requires.0 c.in-Unsigned.is).1
+ones-requires-in-Unsigned c = (unsigned-bits c.args.b _ c.requires.0 c.in-Unsigned.is).1
 
 pub returns-in-Boolean : goal.returns-in-Boolean
 returns-in-Boolean c = let a = c.args in code-boolean a.b a.code c.in-Boolean.is
 
 pub returns-in-Signed : goal.returns-in-Signed
-returns-in-Signed c = let k = c in let a = k.args in code-signed a.b a.code c.ones.result _ k.in-Signed.is c.ones.ensures
+returns-in-Signed c = let a = c.args in code-signed a.b a.code c.ones.result _ c.in-Signed.is c.ones.ensures
 
 pub returns-in-Unsigned : goal.returns-in-Unsigned
-returns-in-Unsigned c = let k = c in let a = k.args in code-unsigned a.b a.code c.ones-in-Unsigned.result _ k.in-Unsigned.is c.ones-in-Unsigned.ensures
+returns-in-Unsigned c = let a = c.args in code-unsigned a.b a.code c.ones-in-Unsigned.result _ c.in-Unsigned.is c.ones-in-Unsigned.ensures
 
 pub returns-in-Floating : goal.returns-in-Floating
-returns-in-Floating c = let s = c in code-floating s.args.b s.args.code _ c.in-Floating.is s.requires.1
+returns-in-Floating c = code-floating c.args.b c.args.code _ c.in-Floating.is c.requires.1
 
 pub returns-in-Void : goal.returns-in-Void
 returns-in-Void c = let a = c.args in of-void a.b _ _ c.in-Void.is

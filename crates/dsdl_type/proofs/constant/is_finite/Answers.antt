@@ -7,7 +7,7 @@ pub returns-then-bits-eq32 : goal.returns-then-bits-eq32
 returns-then-bits-eq32 c = of-32 c.args.bits _ _ c.if-bits-eq32.true c.is_float32.ensures
 
 pub at_most-requires : goal.at_most-requires
-at_most-requires c = let s = c in (s.requires.0, base-bounds s.args.base s.requires.1.1)
+at_most-requires c = (c.requires.0, base-bounds c.args.base c.requires.1.1)
 
 pub returns-then-bits-eq16 : goal.returns-then-bits-eq16
 returns-then-bits-eq16 c = of-16 c.args.bits _ _ c.if-bits-eq16.true c.at_most.ensures

@@ -9,33 +9,28 @@ use Rattle.dsdl_type.proofs.constant.is_float64.Goals as goal
 
 pub returns-then-base-eq10 : goal.returns-then-base-eq10
 returns-then-base-eq10 c =
-    let s = c in
-    let a = s.args in
+    let a = c.args in
     let l = significand a.point a.s.now in
-    in-decimal a.base l a.n (infinity_from 64) _ s.requires.1.0 _ c.if-base-eq10.true decimal64 c.is_below.ensures
+    in-decimal a.base l a.n (infinity_from 64) _ c.requires.1.0 _ c.if-base-eq10.true decimal64 c.is_below.ensures
 
 pub returns-then-base-eq16 : goal.returns-then-base-eq16
 returns-then-base-eq16 c =
-    let s = c in
-    let a = s.args in
+    let a = c.args in
     let l = significand a.point a.s.now in
-    in-power a.base l a.n (infinity_from 64) _ s.requires.1.0 16 0xfffffffffffffb 242 c.minus.result c.if-base-eq16.true (omega arith) refl
+    in-power a.base l a.n (infinity_from 64) _ c.requires.1.0 16 0xfffffffffffffb 242 c.minus.result c.if-base-eq16.true (omega arith) refl
     c.minus.ensures c.at_most.ensures
 
 pub returns-then-base-eq8 : goal.returns-then-base-eq8
 returns-then-base-eq8 c =
-    let s = c in
-    let a = s.args in
+    let a = c.args in
     let l = significand a.point a.s.now in
-    in-power a.base l a.n (infinity_from 64) _ s.requires.1.0 8 0x7ffffffffffffd 323 c.minus-then-base-eq8.result c.if-base-eq8.true (omega arith) refl
+    in-power a.base l a.n (infinity_from 64) _ c.requires.1.0 8 0x7ffffffffffffd 323 c.minus-then-base-eq8.result c.if-base-eq8.true (omega arith) refl
     c.minus-then-base-eq8.ensures c.at_most-then-base-eq8.ensures
 
 pub returns : goal.returns
 returns c =
-    let s = c in
-    let a = s.args in
+    let a = c.args in
     let l = significand a.point a.s.now in
-    let z = c in
-    in-power a.base l a.n (infinity_from 64) _ s.requires.1.0 2 0x3ffffffffffffe 970 c.minus-2.result
-    (last-base a.base s.requires.1.1 z.if-base-eq10.false z.if-base-eq16.false z.if-base-eq8.false) (omega arith) refl
+    in-power a.base l a.n (infinity_from 64) _ c.requires.1.0 2 0x3ffffffffffffe 970 c.minus-2.result
+    (last-base a.base c.requires.1.1 c.if-base-eq10.false c.if-base-eq16.false c.if-base-eq8.false) (omega arith) refl
     c.minus-2.ensures c.at_most-2.ensures

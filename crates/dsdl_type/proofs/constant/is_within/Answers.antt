@@ -5,10 +5,8 @@ use borrow.Author.Rules.{rules}
 use Rattle.dsdl_type.proofs.constant.is_within.Goals as goal
 
 pub returns-then-not-are_zero : goal.returns-then-not-are_zero
-returns-then-not-are_zero c = let z = c in and_first _ _ (by z.are_zero.ensures (not-true _ c.if-not-are_zero.true))
+returns-then-not-are_zero c = and_first _ _ (by c.are_zero.ensures (not-true _ c.if-not-are_zero.true))
 
 pub returns : goal.returns
 returns c =
-    let f = c in
-    let z = f in
-    and-next _ _ _ (by z.are_zero.ensures (not-false _ f.if-not-are_zero.false)) c.at_most.ensures
+    and-next _ _ _ (by c.are_zero.ensures (not-false _ c.if-not-are_zero.false)) c.at_most.ensures

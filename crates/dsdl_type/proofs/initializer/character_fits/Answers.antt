@@ -4,7 +4,7 @@ use borrow.Author.Rules.{rules}
 use Rattle.dsdl_type.proofs.initializer.character_fits.Goals as goal
 
 pub returns-then-code-lt256 : goal.returns-then-code-lt256
-returns-then-code-lt256 c = let f = c in let a = f.args in a-code a.b a.code _ f.if-code-lt256.true c.holds_code.ensures
+returns-then-code-lt256 c = let a = c.args in a-code a.b a.code _ c.if-code-lt256.true c.holds_code.ensures
 
 pub returns : goal.returns
 returns c = let a = c.args in no_code a.b a.code c.if-code-lt256.false

@@ -10,68 +10,46 @@ use Rattle.dsdl_type.proofs.initializer.floating_fits.Goals as goal
 
 pub with_point-requires : goal.with_point-requires
 with_point-requires c =
-    let r = c in
-    let w = r.args.w.now in
-    omega (arith, in-text w r.run-before.result c.fraction_length-behind.result (taken c.fraction_length-behind.result) r.run-before.ensures.1 c.fraction_length-behind.ensures.1 refl)
+    let w = c.args.w.now in
+    omega (arith, in-text w c.run-before.result c.fraction_length-behind.result (taken c.fraction_length-behind.result) c.run-before.ensures.1 c.fraction_length-behind.ensures.1 refl)
 
 pub overflow_add-end : goal.overflow_add-end
 overflow_add-end c =
-    let f = c in
-    let r = f in
-    let w = r.args.w.now in
-    omega (arith, in-text w r.run-before.result f.fraction_length-behind.result c.with_point.result r.run-before.ensures.1 f.fraction_length-behind.ensures.1 c.with_point.ensures)
+    let w = c.args.w.now in
+    omega (arith, in-text w c.run-before.result c.fraction_length-behind.result c.with_point.result c.run-before.ensures.1 c.fraction_length-behind.ensures.1 c.with_point.ensures)
 
 pub slice_bounds-whole_digits-count : goal.slice_bounds-whole_digits-count
 slice_bounds-whole_digits-count c =
-    let f = c in
-    let r = f in
-    let w = r.args.w.now in
-    (in-text w r.run-before.result f.fraction_length-behind.result c.with_point.result r.run-before.ensures.1 f.fraction_length-behind.ensures.1 c.with_point.ensures).0
+    let w = c.args.w.now in
+    (in-text w c.run-before.result c.fraction_length-behind.result c.with_point.result c.run-before.ensures.1 c.fraction_length-behind.ensures.1 c.with_point.ensures).0
 
 pub slice_bounds-whole_digits-start : goal.slice_bounds-whole_digits-start
 slice_bounds-whole_digits-start c =
-    let f = c in
-    let r = f in
-    let w = r.args.w.now in
-    (in-text w r.run-before.result f.fraction_length-behind.result c.with_point.result r.run-before.ensures.1 f.fraction_length-behind.ensures.1 c.with_point.ensures).0
+    let w = c.args.w.now in
+    (in-text w c.run-before.result c.fraction_length-behind.result c.with_point.result c.run-before.ensures.1 c.fraction_length-behind.ensures.1 c.with_point.ensures).0
 
 pub whole_digits-n-requires : goal.whole_digits-n-requires
 whole_digits-n-requires c =
-    let p = c in
-    let f = p in
-    let r = f in
-    let w = r.args.w.now in
-    omega (arith, in-text w r.run-before.result f.fraction_length-behind.result p.with_point.result r.run-before.ensures.1 f.fraction_length-behind.ensures.1 p.with_point.ensures)
+    let w = c.args.w.now in
+    omega (arith, in-text w c.run-before.result c.fraction_length-behind.result c.with_point.result c.run-before.ensures.1 c.fraction_length-behind.ensures.1 c.with_point.ensures)
 
 pub slice_bounds-holds-end : goal.slice_bounds-holds-end
 slice_bounds-holds-end c =
-    let p = c in
-    let f = p in
-    let r = f in
-    let w = r.args.w.now in
-    (in-text w r.run-before.result f.fraction_length-behind.result p.with_point.result r.run-before.ensures.1 f.fraction_length-behind.ensures.1 p.with_point.ensures).0
+    let w = c.args.w.now in
+    (in-text w c.run-before.result c.fraction_length-behind.result c.with_point.result c.run-before.ensures.1 c.fraction_length-behind.ensures.1 c.with_point.ensures).0
 
 pub holds-requires : goal.holds-requires
 holds-requires c =
-    let p = c in
-    let f = p in
-    let r = f in
-    let s = r in
-    let a = s.args in
+    let a = c.args in
     let w = a.w.now in
-    let e = r.run-before.result + p.with_point.result in
+    let e = c.run-before.result + c.with_point.result in
     let z : e - 0 ≡ e = omega arith in
-    (s.requires, (omega (arith, length-take (e - 0) w, in-text w r.run-before.result f.fraction_length-behind.result p.with_point.result r.run-before.ensures.1 f.fraction_length-behind.ensures.1 p.with_point.ensures), (floating-requires w r.run-before.result f.fraction_length-behind.result p.with_point.result (e - 0) r.run-before.ensures.0 f.fraction_length-behind.ensures.0 p.with_point.ensures z, refl)))
+    (c.requires, (omega (arith, length-take (e - 0) w, in-text w c.run-before.result c.fraction_length-behind.result c.with_point.result c.run-before.ensures.1 c.fraction_length-behind.ensures.1 c.with_point.ensures), (floating-requires w c.run-before.result c.fraction_length-behind.result c.with_point.result (e - 0) c.run-before.ensures.0 c.fraction_length-behind.ensures.0 c.with_point.ensures z, refl)))
 
 pub returns : goal.returns
 returns c =
-    let n = c in
-    let p = n in
-    let f = p in
-    let r = f in
-    let s = r in
-    let a = s.args in
+    let a = c.args in
     let w = a.w.now in
-    let e = r.run-before.result + p.with_point.result in
+    let e = c.run-before.result + c.with_point.result in
     let z : e - 0 ≡ e = omega arith in
-    floating-held w r.run-before.result f.fraction_length-behind.result p.with_point.result (e - 0) r.run-before.ensures.0 f.fraction_length-behind.ensures.0 p.with_point.ensures z n.whole_digits-n.result n.whole_digits-n.ensures a.negative a.b _ s.requires c.holds.ensures
+    floating-held w c.run-before.result c.fraction_length-behind.result c.with_point.result (e - 0) c.run-before.ensures.0 c.fraction_length-behind.ensures.0 c.with_point.ensures z c.whole_digits-n.result c.whole_digits-n.ensures a.negative a.b _ c.requires c.holds.ensures

@@ -11,40 +11,33 @@ use Rattle.dsdl_type.proofs.initializer.integer_fits.Goals as goal
 
 pub holds-requires : goal.holds-requires
 holds-requires c =
-    let s = c in
-    let a = s.args in
+    let a = c.args in
     let w = a.w.now in
-    (s.requires.0, literal-requires w a.base s.requires.1.0 w (length w) (decimal-digits w a.base s.requires.1.0 c.if-base-eq10.true) refl s.requires.1.1)
+    (c.requires.0, literal-requires w a.base c.requires.1.0 w (length w) (decimal-digits w a.base c.requires.1.0 c.if-base-eq10.true) refl c.requires.1.1)
 
 pub returns-then-base-eq10 : goal.returns-then-base-eq10
 returns-then-base-eq10 c =
-    let f = c in
-    let s = f in
-    let a = s.args in
+    let a = c.args in
     let w = a.w.now in
-    literal-held w a.base s.requires.1.0 w (length w) (decimal-digits w a.base s.requires.1.0 f.if-base-eq10.true) refl a.b a.negative _ c.holds.ensures
+    literal-held w a.base c.requires.1.0 w (length w) (decimal-digits w a.base c.requires.1.0 c.if-base-eq10.true) refl a.b a.negative _ c.holds.ensures
 
 pub overflow_sub-m : goal.overflow_sub-m
-overflow_sub-m c = let s = c in prefixed s.args.w.now (λ z. c.if-base-eq10.false (s.requires.1.0 ∙ z)) (λ z. absurd (omega (arith, s.requires.1)))
+overflow_sub-m c = prefixed c.args.w.now (λ z. c.if-base-eq10.false (c.requires.1.0 ∙ z)) (λ z. absurd (omega (arith, c.requires.1)))
 
 pub slice_bounds-holds-count : goal.slice_bounds-holds-count
-slice_bounds-holds-count c = let s = c in prefixed s.args.w.now (λ z. c.if-base-eq10.false (s.requires.1.0 ∙ z)) (λ z. absurd (omega (arith, s.requires.1)))
+slice_bounds-holds-count c = prefixed c.args.w.now (λ z. c.if-base-eq10.false (c.requires.1.0 ∙ z)) (λ z. absurd (omega (arith, c.requires.1)))
 
 pub slice_bounds-holds-start : goal.slice_bounds-holds-start
-slice_bounds-holds-start c = let s = c in prefixed s.args.w.now (λ z. c.if-base-eq10.false (s.requires.1.0 ∙ z)) (λ z. absurd (omega (arith, s.requires.1)))
+slice_bounds-holds-start c = prefixed c.args.w.now (λ z. c.if-base-eq10.false (c.requires.1.0 ∙ z)) (λ z. absurd (omega (arith, c.requires.1)))
 
 pub holds-requires-2 : goal.holds-requires-2
 holds-requires-2 c =
-    let f = c in
-    let s = f in
-    let a = s.args in
+    let a = c.args in
     let w = a.w.now in
-    (s.requires.0, literal-requires w a.base s.requires.1.0 (take (length w - 2) (drop 2 w)) (length w - 2) (prefixed-digits w a.base s.requires.1.0 f.if-base-eq10.false) (omega (arith, ap length (rest 2 w), length-drop 2 w)) s.requires.1.1)
+    (c.requires.0, literal-requires w a.base c.requires.1.0 (take (length w - 2) (drop 2 w)) (length w - 2) (prefixed-digits w a.base c.requires.1.0 c.if-base-eq10.false) (omega (arith, ap length (rest 2 w), length-drop 2 w)) c.requires.1.1)
 
 pub returns : goal.returns
 returns c =
-    let f = c in
-    let s = f in
-    let a = s.args in
+    let a = c.args in
     let w = a.w.now in
-    literal-held w a.base s.requires.1.0 (take (length w - 2) (drop 2 w)) (length w - 2) (prefixed-digits w a.base s.requires.1.0 f.if-base-eq10.false) (omega (arith, ap length (rest 2 w), length-drop 2 w)) a.b a.negative _ c.holds-2.ensures
+    literal-held w a.base c.requires.1.0 (take (length w - 2) (drop 2 w)) (length w - 2) (prefixed-digits w a.base c.requires.1.0 c.if-base-eq10.false) (omega (arith, ap length (rest 2 w), length-drop 2 w)) a.b a.negative _ c.holds-2.ensures

@@ -11,10 +11,8 @@ returns-then-base-eq0 c = and_first _ _ (le-ltb 0 c.args.base (omega arith))
 
 pub returns-then-signed : goal.returns-then-signed
 returns-then-signed c =
-    let t = c in
-    let f = t in
-    let a = f.args in
-    sign-before a.base a.signed _ f.if-base-eq0.false c.same.result t.if-signed.true c.same.ensures
+    let a = c.args in
+    sign-before a.base a.signed _ c.if-base-eq0.false c.same.result c.if-signed.true c.same.ensures
 
 pub returns : goal.returns
-returns c = let f = c in let a = f.args in no-sign-before a.base a.signed _ f.if-base-eq0.false c.if-signed.false
+returns c = let a = c.args in no-sign-before a.base a.signed _ c.if-base-eq0.false c.if-signed.false

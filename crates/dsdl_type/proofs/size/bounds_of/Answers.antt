@@ -10,10 +10,10 @@ pub returns-then-s-ne60 : goal.returns-then-s-ne60
 returns-then-s-ne60 c = exact c.args.s.now c.if-s-ne60.true
 
 pub returns-then-s-eq1 : goal.returns-then-s-eq1
-returns-then-s-eq1 c = let f = c in alone f.args.s.now f.if-s-ne60.false c.if-s-eq1.true
+returns-then-s-eq1 c = alone c.args.s.now c.if-s-ne60.false c.if-s-eq1.true
 
 pub returns-then-s-eq61 : goal.returns-then-s-eq61
-returns-then-s-eq61 c = let f = c in at-most f.args.s.now f.if-s-ne60.false c.if-s-eq61.true
+returns-then-s-eq61 c = at-most c.args.s.now c.if-s-ne60.false c.if-s-eq61.true
 
 pub returns : goal.returns
-returns c = let f = c in below f.args.s.now f.if-s-ne60.false c.if-s-eq61.false
+returns c = below c.args.s.now c.if-s-ne60.false c.if-s-eq61.false

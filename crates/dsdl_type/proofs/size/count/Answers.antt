@@ -7,7 +7,7 @@ pub returns-then-s-eq0 : goal.returns-then-s-eq0
 returns-then-s-eq0 c = no-count c.args.s.now c.if-s-eq0.true
 
 pub returns-then-s-eq43 : goal.returns-then-s-eq43
-returns-then-s-eq43 c = let t = c in with-plus t.args.s.now c.unsigned.result t.if-s-eq43.true c.unsigned.ensures
+returns-then-s-eq43 c = with-plus c.args.s.now c.unsigned.result c.if-s-eq43.true c.unsigned.ensures
 
 pub returns : goal.returns
-returns c = let t = c in no_plus t.args.s.now c.unsigned-2.result t.if-s-eq43.false c.unsigned-2.ensures
+returns c = no_plus c.args.s.now c.unsigned-2.result c.if-s-eq43.false c.unsigned-2.ensures

@@ -7,4 +7,4 @@ pub returns-then-s-eq0 : goal.returns-then-s-eq0
 returns-then-s-eq0 c = unsized c.args.s.now c.if-s-eq0.true
 
 pub returns : goal.returns
-returns c = let f = c in some-items f.args.s.now c.items.result f.if-s-eq0.false c.items.ensures
+returns c = some-items c.args.s.now c.items.result c.if-s-eq0.false c.items.ensures

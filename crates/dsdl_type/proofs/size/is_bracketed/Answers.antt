@@ -12,4 +12,4 @@ pub returns-then-s-ne91 : goal.returns-then-s-ne91
 returns-then-s-ne91 c = and-next _ _ _ (le-leb _ _ c.if-n-lt2.false) (and_first _ _ (ne_eqb _ _ c.if-s-ne91.true))
 
 pub returns : goal.returns
-returns c = let f = c in and-next _ _ _ (le-leb _ _ f.if-n-lt2.false) (and-next _ _ _ (eq-eqb _ _ f.if-s-ne91.false) refl)
+returns c = and-next _ _ _ (le-leb _ _ c.if-n-lt2.false) (and-next _ _ _ (eq-eqb _ _ c.if-s-ne91.false) refl)

@@ -7,19 +7,17 @@ use borrow.Author.Rules.{rules}
 use Rattle.dsdl_type.proofs.size.items.Goals as goal
 
 pub returns-then-not-is_bracketed : goal.returns-then-not-is_bracketed
-returns-then-not-is_bracketed c = let b = c in no_size b.args.s.now (by b.is_bracketed.ensures (not-true _ c.if-not-is_bracketed.true))
+returns-then-not-is_bracketed c = no_size c.args.s.now (by c.is_bracketed.ensures (not-true _ c.if-not-is_bracketed.true))
 
 pub overflow_sub-end : goal.overflow_sub-end
-overflow_sub-end c = let b = c in omega (arith, bracket-length b.args.s.now (by b.is_bracketed.ensures (not-false _ c.if-not-is_bracketed.false)))
+overflow_sub-end c = omega (arith, bracket-length c.args.s.now (by c.is_bracketed.ensures (not-false _ c.if-not-is_bracketed.false)))
 
 pub slice_bounds-items_by-count : goal.slice_bounds-items_by-count
-slice_bounds-items_by-count c = let b = c in omega (arith, bracket-length b.args.s.now (by b.is_bracketed.ensures (not-false _ c.if-not-is_bracketed.false)))
+slice_bounds-items_by-count c = omega (arith, bracket-length c.args.s.now (by c.is_bracketed.ensures (not-false _ c.if-not-is_bracketed.false)))
 
 pub slice_bounds-items_by-start : goal.slice_bounds-items_by-start
-slice_bounds-items_by-start c = let b = c in omega (arith, bracket-length b.args.s.now (by b.is_bracketed.ensures (not-false _ c.if-not-is_bracketed.false)))
+slice_bounds-items_by-start c = omega (arith, bracket-length c.args.s.now (by c.is_bracketed.ensures (not-false _ c.if-not-is_bracketed.false)))
 
 pub returns : goal.returns
 returns c =
-    let f = c in
-    let b = f in
-    sized b.args.s.now c.items_by.result (by b.is_bracketed.ensures (not-false _ f.if-not-is_bracketed.false)) c.items_by.ensures
+    sized c.args.s.now c.items_by.result (by c.is_bracketed.ensures (not-false _ c.if-not-is_bracketed.false)) c.items_by.ensures

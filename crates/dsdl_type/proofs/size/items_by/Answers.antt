@@ -11,9 +11,8 @@ slice_bounds-count-start c = let s = c.args.s.now in one-there s (told s _ _ c.b
 
 pub returns-then-n-eq0 : goal.returns-then-n-eq0
 returns-then-n-eq0 c =
-    let t = c in
-    let s = t.args.s.now in
-    none_below s c.count-n.result (told s _ _ t.bounds_of.ensures t.in-Below.is) c.count-n.ensures c.if-n-eq0.true
+    let s = c.args.s.now in
+    none_below s c.count-n.result (told s _ _ c.bounds_of.ensures c.in-Below.is) c.count-n.ensures c.if-n-eq0.true
 
 pub slice_bounds-count-count-in-AtMost : goal.slice_bounds-count-count-in-AtMost
 slice_bounds-count-count-in-AtMost c = let s = c.args.s.now in two-there s (told s _ _ c.bounds_of.ensures c.in-AtMost.is)
@@ -23,18 +22,15 @@ slice_bounds-count-start-in-AtMost c = let s = c.args.s.now in two-there s (told
 
 pub returns-in-Exactly : goal.returns-in-Exactly
 returns-in-Exactly c =
-    let t = c in
-    let s = t.args.s.now in
-    exactly-items s _ _ (told s _ _ t.bounds_of.ensures t.in-Exactly.is) c.count.ensures c.at_most.ensures
+    let s = c.args.s.now in
+    exactly-items s _ _ (told s _ _ c.bounds_of.ensures c.in-Exactly.is) c.count.ensures c.at_most.ensures
 
 pub returns-else-n-eq0 : goal.returns-else-n-eq0
 returns-else-n-eq0 c =
-    let t = c in
-    let s = t.args.s.now in
-    below-items s c.count-n.result (told s _ _ t.bounds_of.ensures t.in-Below.is) c.count-n.ensures
+    let s = c.args.s.now in
+    below-items s c.count-n.result (told s _ _ c.bounds_of.ensures c.in-Below.is) c.count-n.ensures
 
 pub returns-in-AtMost : goal.returns-in-AtMost
 returns-in-AtMost c =
-    let t = c in
-    let s = t.args.s.now in
-    at-most-items s _ _ (told s _ _ t.bounds_of.ensures t.in-AtMost.is) c.count-in-AtMost.ensures c.at_most-in-AtMost.ensures
+    let s = c.args.s.now in
+    at-most-items s _ _ (told s _ _ c.bounds_of.ensures c.in-AtMost.is) c.count-in-AtMost.ensures c.at_most-in-AtMost.ensures

@@ -26,9 +26,7 @@ bounds-patterns-i c = omega arith
 
 pub value-v-requires : goal.value-v-requires
 value-v-requires c =
-    let l = c in
-    let a = l in
-    let b = below_at 16384 a.args.t1 l.loop-i.i (omega (arith, long a)) a.requires in
+    let b = below_at 16384 c.args.t1 c.loop-i.i (omega (arith, long c)) c.requires in
     ((lit≤ tt, lit≤ tt), omega arith)
 
 pub offset_bounds-cmd-i : goal.offset_bounds-cmd-i
@@ -45,13 +43,10 @@ loop-i-smaller c = omega arith
 
 pub loop-i-preserved : goal.loop-i-preserved
 loop-i-preserved c =
-    let l = c in
-    let a = l in
-    let p = a.args.t1 in
-    let i = l.loop-i.i in
-    (omega arith, mapped (signed_of 14) p 0 (pos 0) l.loop-i.cmd i _ (omega (arith, long a)) (omega arith) l.loop-i.invariant.1 (signed-held 14 (get_or p i 0) (lit≤ tt) (lit≤ tt) (below_at 16384 p i (omega (arith, long a)) a.requires) c.value-v.result c.value-v.ensures))
+    let p = c.args.t1 in
+    let i = c.loop-i.i in
+    (omega arith, mapped (signed_of 14) p 0 (pos 0) c.loop-i.cmd i _ (omega (arith, long c)) (omega arith) c.loop-i.invariant.1 (signed-held 14 (get_or p i 0) (lit≤ tt) (lit≤ tt) (below_at 16384 p i (omega (arith, long c)) c.requires) c.value-v.result c.value-v.ensures))
 
 pub returns : goal.returns
 returns c =
-    let l = c in
-    all-mapped (signed_of 14) l.args.t1 (pos 0) l.loop-i.cmd l.loop-i.i (long l) (omega arith) l.loop-i.invariant.1
+    all-mapped (signed_of 14) c.args.t1 (pos 0) c.loop-i.cmd c.loop-i.i (long c) (omega arith) c.loop-i.invariant.1

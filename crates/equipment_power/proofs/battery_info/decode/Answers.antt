@@ -9,14 +9,12 @@ use Rattle.equipment_power.proofs.battery_info.decode.Goals as goal
 
 pub returns-in-Refused : goal.returns-in-Refused
 returns-in-Refused c =
-    let n = c in
-    let d = n.decode_raw in
-    ap numbered (sym (refused-on with_floats refl (unrefused _ _ (sym (ap raw_answer_of n.in-Refused.is) ∙ d.ensures))))
+    let d = c.decode_raw in
+    ap numbered (sym (refused-on with_floats refl (unrefused _ _ (sym (ap raw_answer_of c.in-Refused.is) ∙ d.ensures))))
 
 pub returns-in-Got : goal.returns-in-Got
 returns-in-Got c =
-    let m = c in
-    let d = m.decode_raw in
-    let place = m.in-Got.place in
+    let d = c.decode_raw in
+    let place = c.in-Got.place in
     ap (λ (x : BatteryInfo). numbered (got (x, place))) c.widened.ensures
-    ∙ ap numbered (sym (got-on with_floats refl (unread _ _ (sym (ap raw_answer_of m.in-Got.is) ∙ d.ensures))))
+    ∙ ap numbered (sym (got-on with_floats refl (unread _ _ (sym (ap raw_answer_of c.in-Got.is) ∙ d.ensures))))

@@ -12,24 +12,19 @@ use Rattle.equipment_power.proofs.battery_info.decode_raw.Goals as goal
 
 pub returns-then-payload-lt23 : goal.returns-then-payload-lt23
 returns-then-payload-lt23 c =
-    let k = c in
-    let s = k.args.payload.now in
-    ap numbered (sym (short s (octets-all s (λ i. omega (arith, k.shared_slice_known-1.given i))) (omega arith)))
+    let s = c.args.payload.now in
+    ap numbered (sym (short s (octets-all s (λ i. omega (arith, c.shared_slice_known-1.given i))) (omega arith)))
 
 pub returns-then-len-gt31 : goal.returns-then-len-gt31
 returns-then-len-gt31 c =
-    let q = c in
-    let k = q in
-    let s = k.args.payload.now in
-    let e = ap (λ (l : List ℕ). length l) q.model_name-len.ensures in
-    ap numbered (sym (long s (octets-all s (λ i. omega (arith, k.shared_slice_known-1.given i))) (omega arith) (omega (arith, e))))
+    let s = c.args.payload.now in
+    let e = ap (λ (l : List ℕ). length l) c.model_name-len.ensures in
+    ap numbered (sym (long s (octets-all s (λ i. omega (arith, c.shared_slice_known-1.given i))) (omega arith) (omega (arith, e))))
 
 pub returns : goal.returns
 returns c =
-    let q = c in
-    let k = q in
-    let s = k.args.payload.now in
-    let e = ap (λ (l : List ℕ). length l) q.model_name-len.ensures in
+    let s = c.args.payload.now in
+    let e = ap (λ (l : List ℕ). length l) c.model_name-len.ensures in
     ap numbered
     (placed c.read_numbers.ensures e
-    ∙ sym (held s (octets-all s (λ i. omega (arith, k.shared_slice_known-1.given i))) (omega arith) (omega (arith, e))))
+    ∙ sym (held s (octets-all s (λ i. omega (arith, c.shared_slice_known-1.given i))) (omega arith) (omega (arith, e))))

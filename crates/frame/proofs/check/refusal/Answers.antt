@@ -26,33 +26,22 @@ tail-is b =
 
 pub returns-then-unnamed_service : goal.returns-then-unnamed_service
 returns-then-unnamed_service c =
-    let s = c in
-    let a = s.args in
-    by a.own a.h a.n true _ _ (sym s.unnamed_service.ensures ∙ c.if-unnamed_service.true) refl refl
+    let a = c.args in
+    by a.own a.h a.n true _ _ (sym c.unnamed_service.ensures ∙ c.if-unnamed_service.true) refl refl
 
 pub returns-then-bad_tail : goal.returns-then-bad_tail
 returns-then-bad_tail c =
-    let b = c in
-    let e = b in
-    let a = e.args in
-    by a.own a.h a.n false true _ (sym e.unnamed_service.ensures ∙ e.if-unnamed_service.false) (tail-is b ∙ c.if-bad_tail.true) refl
+    let a = c.args in
+    by a.own a.h a.n false true _ (sym c.unnamed_service.ensures ∙ c.if-unnamed_service.false) (tail-is c ∙ c.if-bad_tail.true) refl
 
 pub returns-then-for_another_node : goal.returns-then-for_another_node
 returns-then-for_another_node c =
-    let f = c in
-    let t = f in
-    let b = t in
-    let e = b in
-    let a = e.args in
-    by a.own a.h a.n false false true (sym e.unnamed_service.ensures ∙ e.if-unnamed_service.false) (tail-is b ∙ t.if-bad_tail.false)
-    (sym f.for_another_node.ensures ∙ c.if-for_another_node.true)
+    let a = c.args in
+    by a.own a.h a.n false false true (sym c.unnamed_service.ensures ∙ c.if-unnamed_service.false) (tail-is c ∙ c.if-bad_tail.false)
+    (sym c.for_another_node.ensures ∙ c.if-for_another_node.true)
 
 pub returns : goal.returns
 returns c =
-    let f = c in
-    let t = f in
-    let b = t in
-    let e = b in
-    let a = e.args in
-    by a.own a.h a.n false false false (sym e.unnamed_service.ensures ∙ e.if-unnamed_service.false) (tail-is b ∙ t.if-bad_tail.false)
-    (sym f.for_another_node.ensures ∙ c.if-for_another_node.false)
+    let a = c.args in
+    by a.own a.h a.n false false false (sym c.unnamed_service.ensures ∙ c.if-unnamed_service.false) (tail-is c ∙ c.if-bad_tail.false)
+    (sym c.for_another_node.ensures ∙ c.if-for_another_node.false)

@@ -9,13 +9,10 @@ returns-then-h-eq0 c =
 
 pub returns-then-h-eq0-2 : goal.returns-then-h-eq0-2
 returns-then-h-eq0-2 c =
-    let e = c in
-    let a = e.args in
-    rw (ne_eqb a.h.transfer_type 0 e.if-h-eq0.false, eq-eqb a.h.source 0 c.if-h-eq0-2.true)
+    let a = c.args in
+    rw (ne_eqb a.h.transfer_type 0 c.if-h-eq0.false, eq-eqb a.h.source 0 c.if-h-eq0-2.true)
 
 pub returns : goal.returns
 returns c =
-    let s = c in
-    let e = s in
-    let a = e.args in
-    rw (ne_eqb a.h.transfer_type 0 e.if-h-eq0.false, ne_eqb a.h.source 0 s.if-h-eq0-2.false)
+    let a = c.args in
+    rw (ne_eqb a.h.transfer_type 0 c.if-h-eq0.false, ne_eqb a.h.source 0 c.if-h-eq0-2.false)

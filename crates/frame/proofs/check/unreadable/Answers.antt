@@ -10,29 +10,20 @@ returns-then-id-ge536870912 c =
 
 pub returns-then-n-eq0 : goal.returns-then-n-eq0
 returns-then-n-eq0 c =
-    let e = c in
-    let a = e.args in
-    rw (lt-leb (2 ^ 29) a.id e.if-id-ge536870912.false, eq-eqb a.n 0 c.if-n-eq0.true)
+    let a = c.args in
+    rw (lt-leb (2 ^ 29) a.id c.if-id-ge536870912.false, eq-eqb a.n 0 c.if-n-eq0.true)
 
 pub returns-then-n-gt-FRAME_DATA : goal.returns-then-n-gt-FRAME_DATA
 returns-then-n-gt-FRAME_DATA c =
-    let z = c in
-    let e = z in
-    let a = e.args in
-    rw (lt-leb (2 ^ 29) a.id e.if-id-ge536870912.false, ne_eqb a.n 0 z.if-n-eq0.false, lt-ltb 8 a.n c.if-n-gt-FRAME_DATA.true)
+    let a = c.args in
+    rw (lt-leb (2 ^ 29) a.id c.if-id-ge536870912.false, ne_eqb a.n 0 c.if-n-eq0.false, lt-ltb 8 a.n c.if-n-gt-FRAME_DATA.true)
 
 pub returns-then-interface : goal.returns-then-interface
 returns-then-interface c =
-    let y = c in
-    let z = y in
-    let e = z in
-    let a = e.args in
-    rw (lt-leb (2 ^ 29) a.id e.if-id-ge536870912.false, ne_eqb a.n 0 z.if-n-eq0.false, le-ltb 8 a.n y.if-n-gt-FRAME_DATA.false, le-leb 3 a.interface c.if-interface.true)
+    let a = c.args in
+    rw (lt-leb (2 ^ 29) a.id c.if-id-ge536870912.false, ne_eqb a.n 0 c.if-n-eq0.false, le-ltb 8 a.n c.if-n-gt-FRAME_DATA.false, le-leb 3 a.interface c.if-interface.true)
 
 pub returns : goal.returns
 returns c =
-    let y = c in
-    let z = y in
-    let e = z in
-    let a = e.args in
-    rw (lt-leb (2 ^ 29) a.id e.if-id-ge536870912.false, ne_eqb a.n 0 z.if-n-eq0.false, le-ltb 8 a.n y.if-n-gt-FRAME_DATA.false, lt-leb 3 a.interface c.if-interface.false)
+    let a = c.args in
+    rw (lt-leb (2 ^ 29) a.id c.if-id-ge536870912.false, ne_eqb a.n 0 c.if-n-eq0.false, le-ltb 8 a.n c.if-n-gt-FRAME_DATA.false, lt-leb 3 a.interface c.if-interface.false)

@@ -7,7 +7,7 @@ use borrow.Author.Rules.{rules}
 use Rattle.frame.proofs.head.destination.Goals as goal
 
 pub returns-then-is_service : goal.returns-then-is_service
-returns-then-is_service c = let s = c in sym (ap (λ (d : Stream). d.destination) (stream-is s.args.id true (sym s.is_service.ensures ∙ c.if-is_service.true)))
+returns-then-is_service c = sym (ap (λ (d : Stream). d.destination) (stream-is c.args.id true (sym c.is_service.ensures ∙ c.if-is_service.true)))
 
 pub returns : goal.returns
-returns c = let s = c in sym (ap (λ (d : Stream). d.destination) (stream-is s.args.id false (sym s.is_service.ensures ∙ c.if-is_service.false)))
+returns c = sym (ap (λ (d : Stream). d.destination) (stream-is c.args.id false (sym c.is_service.ensures ∙ c.if-is_service.false)))

@@ -22,8 +22,6 @@ alike {x = x} {a = a} {e = e} {o = o} ek ey es ed ep =
 pub returns : goal.returns
 unfolding head_of
 returns c =
-    let t = c in
-    let k = t in
-    let id = k.args.id in
+    let id = c.args.id in
     let p : id / 16777216 % 256 ≡ priority_of id = omega arith in
-    alike k.transfer_type.ensures (ap (λ (x : ℕ). x % 65536) t.type_id.ensures ∙ mod-eq_of_lt (type-lt id)) (sym (source_is id)) c.destination.ensures p
+    alike c.transfer_type.ensures (ap (λ (x : ℕ). x % 65536) c.type_id.ensures ∙ mod-eq_of_lt (type-lt id)) (sym (source_is id)) c.destination.ensures p

@@ -10,16 +10,14 @@ use borrow.Author.Rules.{rules}
 use Rattle.frame.proofs.head.type_id.Goals as goal
 
 pub returns-then-is_service : goal.returns-then-is_service
-returns-then-is_service c = let s = c in sym (ap (λ (d : Stream). d.type) (stream-is s.args.id true (sym s.is_service.ensures ∙ c.if-is_service.true)))
+returns-then-is_service c = sym (ap (λ (d : Stream). d.type) (stream-is c.args.id true (sym c.is_service.ensures ∙ c.if-is_service.true)))
 
 pub returns-then-id-eq0 : goal.returns-then-id-eq0
 returns-then-id-eq0 c =
-    let s = c in
-    let id = s.args.id in
-    sym (ap (λ (d : Stream). d.type) (stream-is id false (sym s.is_service.ensures ∙ c.if-is_service.false)) ∙ ap (λ (b : Bool). pick b (id / 256 % 4) (id / 256 % 65536)) (eq-eqb (id % 128) 0 c.if-id-eq0.true))
+    let id = c.args.id in
+    sym (ap (λ (d : Stream). d.type) (stream-is id false (sym c.is_service.ensures ∙ c.if-is_service.false)) ∙ ap (λ (b : Bool). pick b (id / 256 % 4) (id / 256 % 65536)) (eq-eqb (id % 128) 0 c.if-id-eq0.true))
 
 pub returns : goal.returns
 returns c =
-    let s = c in
-    let id = s.args.id in
-    sym (ap (λ (d : Stream). d.type) (stream-is id false (sym s.is_service.ensures ∙ c.if-is_service.false)) ∙ ap (λ (b : Bool). pick b (id / 256 % 4) (id / 256 % 65536)) (ne_eqb (id % 128) 0 c.if-id-eq0.false))
+    let id = c.args.id in
+    sym (ap (λ (d : Stream). d.type) (stream-is id false (sym c.is_service.ensures ∙ c.if-is_service.false)) ∙ ap (λ (b : Bool). pick b (id / 256 % 4) (id / 256 % 65536)) (ne_eqb (id % 128) 0 c.if-id-eq0.false))

@@ -6,9 +6,6 @@ use Rattle.frame.proofs.record.put.Goals as goal
 
 pub returns : goal.returns
 returns c =
-    let p₃ = c in
-    let p₂ = p₃ in
-    let p₁ = p₂ in
-    let a = p₁.args in
-    stored a.out.now p₁.put_u32.new.s p₂.put_at.new.s p₃.put_u64.new.s a.at a.id a.n a.word
-    (omega arith) (omega arith) p₁.put_u32.ensures p₂.put_at.ensures p₃.put_u64.ensures
+    let a = c.args in
+    stored a.out.now c.put_u32.new.s c.put_at.new.s c.put_u64.new.s a.at a.id a.n a.word
+    (omega arith) (omega arith) c.put_u32.ensures c.put_at.ensures c.put_u64.ensures

@@ -25,12 +25,10 @@ module _ (m : List ℕ) (i k : ℕ) where
 pub returns-then-key-k : goal.returns-then-key-k
 unfolding next_at
 returns-then-key-k c =
-    let k = c in
-    let a = k.args in
-    sym (by_key a.map.now a.i a.k (λ z. omega arith) ∙ ap (λ b. pick b (next_at a.map.now a.i) 0) (eq-eqb (key_at a.map.now a.i) a.k (sym k.key.ensures ∙ c.if-key-k.true)))
+    let a = c.args in
+    sym (by_key a.map.now a.i a.k (λ z. omega arith) ∙ ap (λ b. pick b (next_at a.map.now a.i) 0) (eq-eqb (key_at a.map.now a.i) a.k (sym c.key.ensures ∙ c.if-key-k.true)))
 
 pub returns : goal.returns
 returns c =
-    let k = c in
-    let a = k.args in
-    sym (by_key a.map.now a.i a.k (λ z. omega arith) ∙ ap (λ b. pick b (next_at a.map.now a.i) 0) (ne_eqb (key_at a.map.now a.i) a.k (λ e. c.if-key-k.false (k.key.ensures ∙ e))))
+    let a = c.args in
+    sym (by_key a.map.now a.i a.k (λ z. omega arith) ∙ ap (λ b. pick b (next_at a.map.now a.i) 0) (ne_eqb (key_at a.map.now a.i) a.k (λ e. c.if-key-k.false (c.key.ensures ∙ e))))

@@ -20,9 +20,5 @@ stored m m₁ m₂ m₃ i k next time odd byte e₁ e₂ e₃ =
 
 pub returns : goal.returns
 returns c =
-    let p₃ = c in
-    let p₂ = p₃ in
-    let p₁ = p₂ in
-    let s = p₁ in
-    stored s.args.map.now p₁.put_u32.new.s p₂.put_u64.new.s p₃.put_at.new.s s.args.i s.args.k s.args.next s.args.time
-    (omega arith) (omega arith) p₁.put_u32.ensures p₂.put_u64.ensures p₃.put_at.ensures
+    stored c.args.map.now c.put_u32.new.s c.put_u64.new.s c.put_at.new.s c.args.i c.args.k c.args.next c.args.time
+    (omega arith) (omega arith) c.put_u32.ensures c.put_u64.ensures c.put_at.ensures

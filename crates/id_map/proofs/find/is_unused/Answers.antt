@@ -14,14 +14,12 @@ returns-then-key-eq0 c = let s = c.args in sym (none-unused s.map.now s.i s.t (s
 
 pub returns-then-since-t : goal.returns-then-since-t
 returns-then-since-t c =
-    let k = c in
-    let s = k.args in
-    ap (λ (x : ℕ). leb unused_age (s.t - x)) c.time-since.ensures ∙ sym (age-unused s.map.now s.i s.t (λ e. c.if-key-eq0.false (k.key.ensures ∙ e)))
+    let s = c.args in
+    ap (λ (x : ℕ). leb unused_age (s.t - x)) c.time-since.ensures ∙ sym (age-unused s.map.now s.i s.t (λ e. c.if-key-eq0.false (c.key.ensures ∙ e)))
 
 pub returns : goal.returns
 returns c =
-    let k = c in
-    let s = k.args in
+    let s = c.args in
     let z : s.t - c.time-since.result < unused_age = omega arith in
     sym (lt-leb unused_age (s.t - c.time-since.result) z)
-    ∙ ap (λ (x : ℕ). leb unused_age (s.t - x)) c.time-since.ensures ∙ sym (age-unused s.map.now s.i s.t (λ e. c.if-key-eq0.false (k.key.ensures ∙ e)))
+    ∙ ap (λ (x : ℕ). leb unused_age (s.t - x)) c.time-since.ensures ∙ sym (age-unused s.map.now s.i s.t (λ e. c.if-key-eq0.false (c.key.ensures ∙ e)))

@@ -21,9 +21,8 @@ is_unused-requires c = omega arith
 
 pub returns-then-is_unused : goal.returns-then-is_unused
 returns-then-is_unused c =
-    let l = c in
-    let a = l.args in
-    sym (hit (unused a.map.now a.t) l.loop-i.i entries_max (omega arith) (sym c.is_unused.ensures ∙ c.if-is_unused.true)) ∙ l.loop-i.invariant.1
+    let a = c.args in
+    sym (hit (unused a.map.now a.t) c.loop-i.i entries_max (omega arith) (sym c.is_unused.ensures ∙ c.if-is_unused.true)) ∙ c.loop-i.invariant.1
 
 pub overflow_add-i : goal.overflow_add-i
 overflow_add-i c = omega arith
@@ -33,14 +32,12 @@ loop-i-smaller c = omega arith
 
 pub loop-i-preserved : goal.loop-i-preserved
 loop-i-preserved c =
-    let l = c in
-    let a = l.args in (
+    let a = c.args in (
       omega arith,
-      rw add-one (sym (miss (unused a.map.now a.t) l.loop-i.i entries_max (omega arith) (sym c.is_unused.ensures ∙ c.if-is_unused.false)) ∙ l.loop-i.invariant.1),
+      rw add-one (sym (miss (unused a.map.now a.t) c.loop-i.i entries_max (omega arith) (sym c.is_unused.ensures ∙ c.if-is_unused.false)) ∙ c.loop-i.invariant.1),
     )
 
 pub returns : goal.returns
 returns c =
-    let l = c in
-    let a = l.args in
-    sym (none (unused a.map.now a.t) l.loop-i.i entries_max (omega arith)) ∙ l.loop-i.invariant.1
+    let a = c.args in
+    sym (none (unused a.map.now a.t) c.loop-i.i entries_max (omega arith)) ∙ c.loop-i.invariant.1

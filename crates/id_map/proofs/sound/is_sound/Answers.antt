@@ -21,7 +21,5 @@ places_sound-requires c = (omega arith, c.load.ensures)
 pub returns : goal.returns
 unfolding key_at
 returns c =
-    let d = c in
-    let e = d in
-    let m = e.args.map.now in
-    c.places_sound.ensures ∙ ap (λ x. every (empty_or_fits m) 0 entries_max && distinct x) d.load.ensures ∙ whole m e.if-map-lt-SIZE.false
+    let m = c.args.map.now in
+    c.places_sound.ensures ∙ ap (λ x. every (empty_or_fits m) 0 entries_max && distinct x) c.load.ensures ∙ whole m c.if-map-lt-SIZE.false

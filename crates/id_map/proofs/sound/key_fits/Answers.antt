@@ -6,10 +6,10 @@ pub returns-then-k-lt16777216 : goal.returns-then-k-lt16777216
 returns-then-k-lt16777216 c = message-key c.args.k c.if-k-lt16777216.true
 
 pub returns-then-low-eq1 : goal.returns-then-low-eq1
-returns-then-low-eq1 c = let e = c in request-key e.args.k e.if-k-lt16777216.false c.if-k-lt16842752.true c.if-low-eq1.true
+returns-then-low-eq1 c = request-key c.args.k c.if-k-lt16777216.false c.if-k-lt16842752.true c.if-low-eq1.true
 
 pub returns-else-low-eq1 : goal.returns-else-low-eq1
-returns-else-low-eq1 c = let e = c in even-key e.args.k e.if-k-lt16777216.false c.if-low-eq1.false
+returns-else-low-eq1 c = even-key c.args.k c.if-k-lt16777216.false c.if-low-eq1.false
 
 pub returns-else-k-lt16842752 : goal.returns-else-k-lt16842752
 returns-else-k-lt16842752 c = large-key c.args.k c.if-k-lt16777216.false c.if-k-lt16842752.false

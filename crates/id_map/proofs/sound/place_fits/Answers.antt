@@ -26,17 +26,13 @@ module _ (m : List ℕ) (i k : ℕ) (is : k ≡ key_at m i) where
     of-topic s = rw (← is, ne_eqb k 0 z, s)
 
 pub returns-then-k-eq0 : goal.returns-then-k-eq0
-returns-then-k-eq0 c = let s = c in unheld s.args.map.now s.args.i s.args.k s.requires.1 c.if-k-eq0.true
+returns-then-k-eq0 c = unheld c.args.map.now c.args.i c.args.k c.requires.1 c.if-k-eq0.true
 
 pub returns-then-key_fits : goal.returns-then-key_fits
 unfolding next_at
 returns-then-key_fits c =
-    let t = c in
-    let s = t in
-    of-topic s.args.map.now s.args.i s.args.k s.requires.1 t.if-k-eq0.false (sym t.key_fits.ensures ∙ c.if-key_fits.true)
+    of-topic c.args.map.now c.args.i c.args.k c.requires.1 c.if-k-eq0.false (sym c.key_fits.ensures ∙ c.if-key_fits.true)
 
 pub returns : goal.returns
 returns c =
-    let t = c in
-    let s = t in
-    no-topic s.args.map.now s.args.i s.args.k s.requires.1 t.if-k-eq0.false (sym t.key_fits.ensures ∙ c.if-key_fits.false)
+    no-topic c.args.map.now c.args.i c.args.k c.requires.1 c.if-k-eq0.false (sym c.key_fits.ensures ∙ c.if-key_fits.false)

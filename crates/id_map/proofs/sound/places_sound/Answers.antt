@@ -41,10 +41,8 @@ mark-first-requires c = c.loop-left.invariant.walk.marks-long
 
 pub place_fits-requires : goal.place_fits-requires
 place_fits-requires c =
-    let l = c in
-    let s = l in
-    let b = place _ _ _ s.requires.1 _ _ _ _ l.loop-left.invariant (omega arith) in
-    ((b, s.requires.0), table_at (key_at s.args.map.now) entries_max s.args.table.now s.requires.1 l.loop-left.i b)
+    let b = place _ _ _ c.requires.1 _ _ _ _ c.loop-left.invariant (omega arith) in
+    ((b, c.requires.0), table_at (key_at c.args.map.now) entries_max c.args.table.now c.requires.1 c.loop-left.i b)
 
 pub is_alone-requires : goal.is_alone-requires
 is_alone-requires c = omega (arith, as_long _ _ _ c.requires.1)
@@ -63,25 +61,19 @@ loop-left-smaller c = omega (arith, here _ _ _ _ c.loop-left.invariant.walk (ome
 
 pub loop-left-preserved : goal.loop-left-preserved
 loop-left-preserved c =
-    let l = c in
-    let p = c in
-    let m = p.mark-first in
-    again _ _ _ l.requires.1 _ _ _ _ l.loop-left.invariant (omega arith) (sym p.place_fits.ensures ∙ c.if-place_fits.true)
+    let m = c.mark-first in
+    again _ _ _ c.requires.1 _ _ _ _ c.loop-left.invariant (omega arith) (sym c.place_fits.ensures ∙ c.if-place_fits.true)
     m.result m.ensures.0 (sym c.is_alone.ensures ∙ c.if-is_alone.true) _ m.ensures.1
 
 pub returns-else-is_alone : goal.returns-else-is_alone
 returns-else-is_alone c =
-    let l = c in
     let m = c.mark-first in
-    alike _ _ _ l.requires.1 _ _ _ _ l.loop-left.invariant (omega arith) m.result (sym c.is_alone.ensures ∙ c.if-is_alone.false)
+    alike _ _ _ c.requires.1 _ _ _ _ c.loop-left.invariant (omega arith) m.result (sym c.is_alone.ensures ∙ c.if-is_alone.false)
 
 pub returns-else-place_fits : goal.returns-else-place_fits
 returns-else-place_fits c =
-    let l = c in
-    unfit _ _ _ l.requires.1 _ _ _ _ l.loop-left.invariant (omega arith) (sym c.place_fits.ensures ∙ c.if-place_fits.false)
+    unfit _ _ _ c.requires.1 _ _ _ _ c.loop-left.invariant (omega arith) (sym c.place_fits.ensures ∙ c.if-place_fits.false)
 
 pub returns : goal.returns
 returns c =
-    let l = c in
-    let s = l in
-    ends _ _ _ s.requires.1 _ _ _ _ l.loop-left.invariant (omega arith) (empty s.args.map.now)
+    ends _ _ _ c.requires.1 _ _ _ _ c.loop-left.invariant (omega arith) (empty c.args.map.now)

@@ -5,6 +5,4 @@ use Rattle.judge.proofs.fault.show_frame.Goals as goal
 
 pub lines-n-requires : goal.lines-n-requires
 lines-n-requires c =
-    let m = c in
-    let s = m in
-    prints s.args.r.now m.measure.result 47 m.measure.ensures c.if-measure.true (omega (arith, s.requires))
+    prints c.args.r.now c.measure.result 47 c.measure.ensures c.if-measure.true (omega (arith, c.requires))

@@ -33,64 +33,52 @@ found f =
 
 pub find-requires : goal.find-requires
 find-requires c =
-    let s = c in
-    (s.requires.0, (kind-small s.args.v.head.transfer_type c.kind.result c.kind.ensures, omega arith))
+    (c.requires.0, (kind-small c.args.v.head.transfer_type c.kind.result c.kind.ensures, omega arith))
 
 pub returns-then-is_anonymous : goal.returns-then-is_anonymous
 returns-then-is_anonymous c =
-    let g = c in
-    let f = g in
-    let s = f in
-    let a = s.args in
+    let a = c.args in
     record {
       next =
           λ i.
-          anonymous (setup_of a.state.now) (stream_of a.v) (entries_of a.table.now) (seen_of a.v a.p.now) i _ (under _ _ (found f ∙ g.in-Under.is))
+          anonymous (setup_of a.state.now) (stream_of a.v) (entries_of a.table.now) (seen_of a.v a.p.now) i _ (under _ _ (found c ∙ c.in-Under.is))
           (sym c.is_anonymous.ensures ∙ c.if-is_anonymous.true);
-      table = s.requires.1.0;
+      table = c.requires.1.0;
       stays = tt;
     }
 
 pub enter-requires : goal.enter-requires
 enter-requires c =
-    let n = c in
-    let s = n in
-    let fine = s.requires.1.1 in (
-      s.requires.1.0,
+    let fine = c.requires.1.1 in (
+      c.requires.1.0,
       record {
         passed = fine.passed;
         stream = fine.stream;
-        named = ap unnamed (sym fine.stream) ∙ sym n.is_anonymous.ensures ∙ n.if-is_anonymous.false;
+        named = ap unnamed (sym fine.stream) ∙ sym c.is_anonymous.ensures ∙ c.if-is_anonymous.false;
       },
     )
 
 pub returns-in-Not : goal.returns-in-Not
 returns-in-Not c =
-    let f = c in
-    let s = f in
-    let a = s.args in
+    let a = c.args in
     record {
       next =
           λ i.
-          not_found (setup_of a.state.now) (stream_of a.v) (entries_of a.table.now) (seen_of a.v a.p.now) i (not-asked _ (found f ∙ c.in-Not.is));
-      table = s.requires.1.0;
+          not_found (setup_of a.state.now) (stream_of a.v) (entries_of a.table.now) (seen_of a.v a.p.now) i (not-asked _ (found c ∙ c.in-Not.is));
+      table = c.requires.1.0;
       stays = refl;
     }
 
 pub returns-else-is_anonymous : goal.returns-else-is_anonymous
 returns-else-is_anonymous c =
-    let n = c in
-    let g = n in
-    let f = g in
-    let s = f in
-    let a = s.args in
+    let a = c.args in
     let w = c.enter.ensures in
     record {
       next =
           λ i.
           w.next i
-          ∙ enters (setup_of a.state.now) (stream_of a.v) (entries_of a.table.now) (seen_of a.v a.p.now) i _ (under _ _ (found f ∙ g.in-Under.is))
-          (sym n.is_anonymous.ensures ∙ n.if-is_anonymous.false);
+          ∙ enters (setup_of a.state.now) (stream_of a.v) (entries_of a.table.now) (seen_of a.v a.p.now) i _ (under _ _ (found c ∙ c.in-Under.is))
+          (sym c.is_anonymous.ensures ∙ c.if-is_anonymous.false);
       table = w.table;
       stays = w.stays;
     }

@@ -16,10 +16,8 @@ read_ok e =
 
 pub returns-then-unreadable-gt0 : goal.returns-then-unreadable-gt0
 returns-then-unreadable-gt0 c =
-    let g = c in
-    let s = g in
-    not-read (setup_of s.args.state.now) s.args.table.now s.requires.1.0 s.args.r.now s.requires.1.1 (omega (arith, g.shared_slice_known-2-1.given 12))
-    g.get-f.result.id g.get-f.result.len g.get-f.ensures.0 g.get-f.ensures.1 c.unreadable-unreadable.result c.unreadable-unreadable.ensures c.if-unreadable-gt0.true
+    not-read (setup_of c.args.state.now) c.args.table.now c.requires.1.0 c.args.r.now c.requires.1.1 (omega (arith, c.shared_slice_known-2-1.given 12))
+    c.get-f.result.id c.get-f.result.len c.get-f.ensures.0 c.get-f.ensures.1 c.unreadable-unreadable.result c.unreadable-unreadable.ensures c.if-unreadable-gt0.true
 
 pub overflow_add-n : goal.overflow_add-n
 overflow_add-n c = omega (arith, (read_ok c).few_bytes)
@@ -32,64 +30,40 @@ read-h-requires c = (read_ok c).small
 
 pub returns-then-refused-gt0 : goal.returns-then-refused-gt0
 returns-then-refused-gt0 c =
-    let d = c in
-    let e = d in
-    let g = e in
-    let s = g in
-    head-fails (setup_of s.args.state.now) s.args.table.now s.requires.1.0 s.args.r.now s.requires.1.1 (omega (arith, g.shared_slice_known-2-1.given 12))
-    g.get-f.result.id g.get-f.result.len g.get-f.ensures.0 g.get-f.ensures.1 e.unreadable-unreadable.result e.unreadable-unreadable.ensures e.if-unreadable-gt0.false
-    d.read-h.result d.read-h.ensures c.refusal-refused.result c.refusal-refused.ensures c.if-refused-gt0.true
+    head-fails (setup_of c.args.state.now) c.args.table.now c.requires.1.0 c.args.r.now c.requires.1.1 (omega (arith, c.shared_slice_known-2-1.given 12))
+    c.get-f.result.id c.get-f.result.len c.get-f.ensures.0 c.get-f.ensures.1 c.unreadable-unreadable.result c.unreadable-unreadable.ensures c.if-unreadable-gt0.false
+    c.read-h.result c.read-h.ensures c.refusal-refused.result c.refusal-refused.ensures c.if-refused-gt0.true
 
 pub overflow_add-n-2 : goal.overflow_add-n-2
 overflow_add-n-2 c =
-    let e = c in
-    let s = e in
-    omega (arith, (read_ok e).some_bytes, (read_ok e).few_bytes, s.requires.1.1)
+    omega (arith, (read_ok c).some_bytes, (read_ok c).few_bytes, c.requires.1.1)
 
 pub slice_bounds-admit-count : goal.slice_bounds-admit-count
 slice_bounds-admit-count c =
-    let e = c in
-    let s = e in
-    omega (arith, (read_ok e).some_bytes, (read_ok e).few_bytes, s.requires.1.1)
+    omega (arith, (read_ok c).some_bytes, (read_ok c).few_bytes, c.requires.1.1)
 
 pub slice_bounds-admit-start : goal.slice_bounds-admit-start
 slice_bounds-admit-start c =
-    let e = c in
-    let s = e in
-    omega (arith, (read_ok e).some_bytes, (read_ok e).few_bytes, s.requires.1.1)
+    omega (arith, (read_ok c).some_bytes, (read_ok c).few_bytes, c.requires.1.1)
 
 pub slice_bounds-admit-end : goal.slice_bounds-admit-end
 slice_bounds-admit-end c =
-    let e = c in
-    let s = e in
-    omega (arith, (read_ok e).some_bytes, (read_ok e).few_bytes, s.requires.1.1)
+    omega (arith, (read_ok c).some_bytes, (read_ok c).few_bytes, c.requires.1.1)
 
 pub admit-requires : goal.admit-requires
-admit-requires c =
-    let a = c in
-    let k = a in
-    let d = k in
-    let e = d in
-    let g = e in
-    let s = g in (
-      s.requires.0,
-      (
-        s.requires.1.0,
-        fine (setup_of s.args.state.now) s.args.table.now s.requires.1.0 s.args.r.now s.requires.1.1 (omega (arith, g.shared_slice_known-2-1.given 12))
-            g.get-f.result.id g.get-f.result.len g.get-f.ensures.0 g.get-f.ensures.1 e.unreadable-unreadable.result e.unreadable-unreadable.ensures e.if-unreadable-gt0.false
-            d.read-h.result d.read-h.ensures k.refusal-refused.result k.refusal-refused.ensures a.if-refused-gt0.false a.get_at.result a.get_at.ensures,
-      ),
-    )
+admit-requires c = (
+  c.requires.0,
+  (
+    c.requires.1.0,
+    fine (setup_of c.args.state.now) c.args.table.now c.requires.1.0 c.args.r.now c.requires.1.1 (omega (arith, c.shared_slice_known-2-1.given 12))
+        c.get-f.result.id c.get-f.result.len c.get-f.ensures.0 c.get-f.ensures.1 c.unreadable-unreadable.result c.unreadable-unreadable.ensures c.if-unreadable-gt0.false
+        c.read-h.result c.read-h.ensures c.refusal-refused.result c.refusal-refused.ensures c.if-refused-gt0.false c.get_at.result c.get_at.ensures,
+  ),
+)
 
 pub returns : goal.returns
 returns c =
-    let a = c in
-    let k = a in
-    let d = k in
-    let e = d in
-    let g = e in
-    let s = g in
-    goes (setup_of s.args.state.now) s.args.table.now s.requires.1.0 s.args.r.now s.requires.1.1 (omega (arith, g.shared_slice_known-2-1.given 12))
-    g.get-f.result.id g.get-f.result.len g.get-f.ensures.0 g.get-f.ensures.1 e.unreadable-unreadable.result e.unreadable-unreadable.ensures e.if-unreadable-gt0.false
-    d.read-h.result d.read-h.ensures k.refusal-refused.result k.refusal-refused.ensures a.if-refused-gt0.false a.get_at.result a.get_at.ensures
+    goes (setup_of c.args.state.now) c.args.table.now c.requires.1.0 c.args.r.now c.requires.1.1 (omega (arith, c.shared_slice_known-2-1.given 12))
+    c.get-f.result.id c.get-f.result.len c.get-f.ensures.0 c.get-f.ensures.1 c.unreadable-unreadable.result c.unreadable-unreadable.ensures c.if-unreadable-gt0.false
+    c.read-h.result c.read-h.ensures c.refusal-refused.result c.refusal-refused.ensures c.if-refused-gt0.false c.get_at.result c.get_at.ensures
     c.admit.result c.admit.new.1.0 c.admit.ensures

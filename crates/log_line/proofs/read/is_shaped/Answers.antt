@@ -70,64 +70,30 @@ module _ (l : List ℕ) (s : ℕ) where
 
 pub returns-then-s-eq0 : goal.returns-then-s-eq0
 returns-then-s-eq0 c =
-    let r-if1 = c in
-    let s = r-if1 in
-    none s.args.line.now s.args.s r-if1.if-s-eq0.true
+    none c.args.line.now c.args.s c.if-s-eq0.true
 
 pub returns-then-s-gt9 : goal.returns-then-s-gt9
 returns-then-s-gt9 c =
-    let r-if2 = c in
-    let r-if1 = r-if2 in
-    let s = r-if1 in
-    many s.args.line.now s.args.s r-if1.if-s-eq0.false r-if2.if-s-gt9.true
+    many c.args.line.now c.args.s c.if-s-eq0.false c.if-s-gt9.true
 
 pub returns-then-n-s : goal.returns-then-n-s
 returns-then-n-s c =
-    let r-if3 = c in
-    let r-if2 = r-if3 in
-    let r-if1 = r-if2 in
-    let s = r-if1 in
-    short s.args.line.now s.args.s r-if1.if-s-eq0.false r-if2.if-s-gt9.false r-if3.if-n-s.true
+    short c.args.line.now c.args.s c.if-s-eq0.false c.if-s-gt9.false c.if-n-s.true
 
 pub returns-then-s-n : goal.returns-then-s-n
 returns-then-s-n c =
-    let r-if4 = c in
-    let r-if3 = r-if4 in
-    let r-if2 = r-if3 in
-    let r-if1 = r-if2 in
-    let s = r-if1 in
-    long s.args.line.now s.args.s r-if1.if-s-eq0.false r-if2.if-s-gt9.false r-if3.if-n-s.false r-if4.if-s-n.true
+    long c.args.line.now c.args.s c.if-s-eq0.false c.if-s-gt9.false c.if-n-s.false c.if-s-n.true
 
 pub returns-then-n-s-gt0 : goal.returns-then-n-s-gt0
 returns-then-n-s-gt0 c =
-    let r-if5 = c in
-    let r-if4 = r-if5 in
-    let r-if3 = r-if4 in
-    let r-if2 = r-if3 in
-    let r-if1 = r-if2 in
-    let s = r-if1 in
-    part s.args.line.now s.args.s r-if1.if-s-eq0.false r-if2.if-s-gt9.false r-if3.if-n-s.false r-if4.if-s-n.false r-if5.if-n-s-gt0.true
+    part c.args.line.now c.args.s c.if-s-eq0.false c.if-s-gt9.false c.if-n-s.false c.if-s-n.false c.if-n-s-gt0.true
 
 pub returns-then-line-s-eq32 : goal.returns-then-line-s-eq32
 returns-then-line-s-eq32 c =
-    let r-if6 = c in
-    let r-if5 = r-if6 in
-    let r-if4 = r-if5 in
-    let r-if3 = r-if4 in
-    let r-if2 = r-if3 in
-    let r-if1 = r-if2 in
-    let s = r-if1 in
-    last s.args.line.now s.args.s r-if1.if-s-eq0.false r-if2.if-s-gt9.false r-if3.if-n-s.false r-if4.if-s-n.false r-if5.if-n-s-gt0.false
-    r-if6.if-line-s-eq32.true
+    last c.args.line.now c.args.s c.if-s-eq0.false c.if-s-gt9.false c.if-n-s.false c.if-s-n.false c.if-n-s-gt0.false
+    c.if-line-s-eq32.true
 
 pub returns : goal.returns
 returns c =
-    let r-if6 = c in
-    let r-if5 = r-if6 in
-    let r-if4 = r-if5 in
-    let r-if3 = r-if4 in
-    let r-if2 = r-if3 in
-    let r-if1 = r-if2 in
-    let s = r-if1 in
-    off s.args.line.now s.args.s r-if1.if-s-eq0.false r-if2.if-s-gt9.false r-if3.if-n-s.false r-if4.if-s-n.false r-if5.if-n-s-gt0.false
-    r-if6.if-line-s-eq32.false
+    off c.args.line.now c.args.s c.if-s-eq0.false c.if-s-gt9.false c.if-n-s.false c.if-s-n.false c.if-n-s-gt0.false
+    c.if-line-s-eq32.false

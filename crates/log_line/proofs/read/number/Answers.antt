@@ -10,7 +10,5 @@ use Rattle.log_line.proofs.read.number.Goals as goal
 
 pub returns : goal.returns
 returns c =
-    let r-number = c in
-    let s = r-number in
-    let a = s.args in
-    r-number.number.ensures ∙ ap (λ (k : ℕ). as_number (number a.base (span a.line.now a.at k))) (add-sub_cancel_left a.at a.n)
+    let a = c.args in
+    c.number.ensures ∙ ap (λ (k : ℕ). as_number (number a.base (span a.line.now a.at k))) (add-sub_cancel_left a.at a.n)

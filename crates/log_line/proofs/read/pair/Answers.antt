@@ -5,25 +5,15 @@ use Rattle.log_line.proofs.read.pair.Goals as goal
 
 pub returns-in-Is : goal.returns-in-Is
 returns-in-Is c =
-    let r-b = c in
-    let r-number = r-b in
-    let r-if1 = r-number in
-    let s = r-if1 in
-    let a = s.args in
-    byte a.line.now a.at _ r-if1.if-line-at-eq32.true (is _ r-number.number.result _ r-number.number.ensures r-b.in-Is.is)
+    let a = c.args in
+    byte a.line.now a.at _ c.if-line-at-eq32.true (is _ c.number.result _ c.number.ensures c.in-Is.is)
 
 pub returns-in-Not : goal.returns-in-Not
 returns-in-Not c =
-    let r-enum-told = c in
-    let r-number = r-enum-told in
-    let r-if1 = r-number in
-    let s = r-if1 in
-    let a = s.args in
-    no_byte a.line.now a.at r-if1.if-line-at-eq32.true (not _ r-number.number.result r-number.number.ensures
-    r-enum-told.in-Not.is)
+    let a = c.args in
+    no_byte a.line.now a.at c.if-line-at-eq32.true (not _ c.number.result c.number.ensures
+    c.in-Not.is)
 
 pub returns : goal.returns
 returns c =
-    let r-if1 = c in
-    let s = r-if1 in
-    no-space s.args.line.now s.args.at r-if1.if-line-at-eq32.false
+    no-space c.args.line.now c.args.at c.if-line-at-eq32.false

@@ -22,21 +22,14 @@ overflow_add-at c = omega arith
 
 pub pair-b-requires : goal.pair-b-requires
 pair-b-requires c =
-    let r-loop = c in
-    let s = r-loop in
-    omega (arith, s.requires)
+    omega (arith, c.requires)
 
 pub returns-then-b-gt255 : goal.returns-then-b-gt255
 returns-then-b-gt255 c =
-    let r-if1 = c in
-    let r-pair = r-if1 in
-    let r-loop-test = r-pair in
-    let r-loop = r-loop-test in
-    let s = r-loop in
-    let a = s.args in (
-      off a.line.now r-loop.loop-j.bytes a.at a.k r-loop.loop-j.j r-loop-test.loop-j-test.true s.requires.1
-          r-loop.loop-j.invariant.1.1.0 r-pair.pair-b.result r-pair.pair-b.ensures r-if1.if-b-gt255.true,
-      (r-loop.loop-j.invariant.1.0, r-loop.loop-j.invariant.1.1.1),
+    let a = c.args in (
+      off a.line.now c.loop-j.bytes a.at a.k c.loop-j.j c.loop-j-test.true c.requires.1
+          c.loop-j.invariant.1.1.0 c.pair-b.result c.pair-b.ensures c.if-b-gt255.true,
+      (c.loop-j.invariant.1.0, c.loop-j.invariant.1.1.1),
     )
 
 pub overflow_cast-bytes : goal.overflow_cast-bytes
@@ -53,29 +46,22 @@ loop-j-smaller c = omega arith
 
 pub loop-j-preserved : goal.loop-j-preserved
 loop-j-preserved c =
-    let r-if1 = c in
-    let r-pair = r-if1 in
-    let r-loop-test = r-pair in
-    let r-loop = r-loop-test in
-    let s = r-loop in
-    let a = s.args in
-    let v = r-loop.loop-j.invariant.1 in (
+    let a = c.args in
+    let v = c.loop-j.invariant.1 in (
       omega arith,
       (
         simp length-set v.0,
         (
-          rw (add-one r-loop.loop-j.j) (on a.line.now r-loop.loop-j.bytes a.at a.k r-loop.loop-j.j r-loop-test.loop-j-test.true
-              s.requires.1 v.1.0 r-pair.pair-b.result r-pair.pair-b.ensures r-if1.if-b-gt255.false (omega (arith, v.0, s.requires.0))),
-          drop-set-lt a.k r-loop.loop-j.bytes r-loop.loop-j.j _ r-loop-test.loop-j-test.true ∙ v.1.1,
+          rw (add-one c.loop-j.j) (on a.line.now c.loop-j.bytes a.at a.k c.loop-j.j c.loop-j-test.true
+              c.requires.1 v.1.0 c.pair-b.result c.pair-b.ensures c.if-b-gt255.false (omega (arith, v.0, c.requires.0))),
+          drop-set-lt a.k c.loop-j.bytes c.loop-j.j _ c.loop-j-test.true ∙ v.1.1,
         ),
       ),
     )
 
 pub returns : goal.returns
 returns c =
-    let r-loop = c in
-    let s = r-loop in
-    let a = s.args in (
-      done a.line.now r-loop.loop-j.bytes a.at a.k r-loop.loop-j.j (omega arith) r-loop.loop-j.invariant.1.1.0,
-      (r-loop.loop-j.invariant.1.0, r-loop.loop-j.invariant.1.1.1),
+    let a = c.args in (
+      done a.line.now c.loop-j.bytes a.at a.k c.loop-j.j (omega arith) c.loop-j.invariant.1.1.0,
+      (c.loop-j.invariant.1.0, c.loop-j.invariant.1.1.1),
     )

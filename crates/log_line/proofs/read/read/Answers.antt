@@ -28,29 +28,17 @@ misfits l s e t = rw (← e, ← t)
 
 pub fields-requires : goal.fields-requires
 fields-requires c =
-    let r-if1 = c in
-    let r-is-shaped = r-if1 in
-    sym r-is-shaped.is_shaped.ensures ∙ r-if1.if-is_shaped.true
+    sym c.is_shaped.ensures ∙ c.if-is_shaped.true
 
 pub returns-then-is_shaped : goal.returns-then-is_shaped
 returns-then-is_shaped c =
-    let r-fields = c in
-    let r-if1 = r-fields in
-    let r-is-shaped = r-if1 in
-    let r-find = r-is-shaped in
-    let s = r-find in
-    let l = s.args.line.now in
-    fits l r-find.find-s.result r-fields.fields.result (dot l r-find.find-s.result r-find.find-s.ensures.0) (sym r-if1.if-is_shaped.true
-    ∙ r-is-shaped.is_shaped.ensures) r-fields.fields.ensures
+    let l = c.args.line.now in
+    fits l c.find-s.result c.fields.result (dot l c.find-s.result c.find-s.ensures.0) (sym c.if-is_shaped.true
+    ∙ c.is_shaped.ensures) c.fields.ensures
 
 pub returns : goal.returns
 returns c =
-    let r-ill-formed = c in
-    let r-if1 = r-ill-formed in
-    let r-is-shaped = r-if1 in
-    let r-find = r-is-shaped in
-    let s = r-find in
-    let l = s.args.line.now in
-    unread (before 46 l) (said l) r-ill-formed.ill_formed.result r-ill-formed.ill_formed.ensures
-    (misfits l r-find.find-s.result (dot l r-find.find-s.result r-find.find-s.ensures.0) (sym r-if1.if-is_shaped.false
-    ∙ r-is-shaped.is_shaped.ensures))
+    let l = c.args.line.now in
+    unread (before 46 l) (said l) c.ill_formed.result c.ill_formed.ensures
+    (misfits l c.find-s.result (dot l c.find-s.result c.find-s.ensures.0) (sym c.if-is_shaped.false
+    ∙ c.is_shaped.ensures))

@@ -11,13 +11,10 @@ put_hex-requires c = simp length-set (omega (arith, c.requires))
 
 pub shape_of-out : goal.shape_of-out
 shape_of-out c =
-    let d = c in
-    let a = d.args in
-    omega (arith, d.put_hex.auto.0, length-set a.out.now a.at 32)
+    let a = c.args in
+    omega (arith, c.put_hex.auto.0, length-set a.out.now a.at 32)
 
 pub returns : goal.returns
 returns c =
-    let d = c in
-    let s = d in
-    let a = s.args in
-    (spaced a.out.now _ d.put_hex.new.out a.at 2 a.b s.requires refl d.put_hex.ensures).out
+    let a = c.args in
+    (spaced a.out.now _ c.put_hex.new.out a.at 2 a.b c.requires refl c.put_hex.ensures).out

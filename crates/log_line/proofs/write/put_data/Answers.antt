@@ -37,16 +37,12 @@ loop-i-smaller c = omega arith
 
 pub loop-i-preserved : goal.loop-i-preserved
 loop-i-preserved c =
-    let d = c in
-    let t = d in
-    let l = t in
-    let s = l in
-    let a = s.args in (
+    let a = c.args in (
       omega arith,
       (
-        d.put_byte.auto.0 ∙ l.loop-i.invariant.1.0,
-        rw (add-one l.loop-i.i) (data-turn a.out.now l.loop-i.out d.put_byte.new.out a.s.now a.at l.loop-i.i t.loop-i-test.true s.requires
-            l.loop-i.invariant.1.1 d.put_byte.ensures),
+        c.put_byte.auto.0 ∙ c.loop-i.invariant.1.0,
+        rw (add-one c.loop-i.i) (data-turn a.out.now c.loop-i.out c.put_byte.new.out a.s.now a.at c.loop-i.i c.loop-i-test.true c.requires
+            c.loop-i.invariant.1.1 c.put_byte.ensures),
       ),
     )
 
@@ -61,10 +57,9 @@ shape_of-out c = c.loop-i.invariant.1.0
 
 pub returns : goal.returns
 returns c =
-    let l = c in
-    let a = l.args in
-    let e : l.loop-i.i ≡ length a.s.now = omega arith in
+    let a = c.args in
+    let e : c.loop-i.i ≡ length a.s.now = omega arith in
     record {
-      out = l.loop-i.invariant.1.1 ∙ ap (λ (z : List ℕ). splice a.out.now a.at (data_text z)) (take_all l.loop-i.i a.s.now (omega arith));
+      out = c.loop-i.invariant.1.1 ∙ ap (λ (z : List ℕ). splice a.out.now a.at (data_text z)) (take_all c.loop-i.i a.s.now (omega arith));
       end = omega (arith, data-length a.s.now, e);
     }

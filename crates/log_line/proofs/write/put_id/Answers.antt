@@ -11,14 +11,11 @@ put_hex-requires c = simp length-set (omega (arith, c.requires))
 
 pub shape_of-out : goal.shape_of-out
 shape_of-out c =
-    let d = c in
-    let a = d.args in
-    omega (arith, d.put_hex.auto.0, length-set a.out.now a.at 32)
+    let a = c.args in
+    omega (arith, c.put_hex.auto.0, length-set a.out.now a.at 32)
 
 pub returns : goal.returns
 returns c =
-    let d = c in
-    let s = d in
-    let a = s.args in
-    let p = spaced a.out.now _ d.put_hex.new.out a.at 8 a.id s.requires refl d.put_hex.ensures in
+    let a = c.args in
+    let p = spaced a.out.now _ c.put_hex.new.out a.at 8 a.id c.requires refl c.put_hex.ensures in
     record { out = p.out; end = omega (arith, p.end) }

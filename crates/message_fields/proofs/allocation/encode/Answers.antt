@@ -14,15 +14,11 @@ returns-then-fields-lt4 c = let a = c.args in write-short 4 a.fields.now _ a.out
 
 pub of_written-requires : goal.of_written-requires
 of_written-requires c =
-    let e = c in
-    let a = e.args in
-    word_fits allocation refl _ a.out.now _ _ e.encode.ensures
+    let a = c.args in
+    word_fits allocation refl _ a.out.now _ _ c.encode.ensures
 
 pub returns : goal.returns
 returns c =
-    let e = c in
-    let n₂ = e in
-    let n₁ = n₂ in
-    let a = n₁.args in
+    let a = c.args in
     let m = a.out.now in
-    write_as 4 a.fields.now _ m (omega arith) _ _ (e.encode.ensures ∙ ap (λ (p : ℤ × ℤ). written allocation (p.0, (p.1, a.unique-id.now)) m) (both (counted _ _ n₁.count.ensures) (counted _ _ n₂.count-2.ensures))) _ c.of_written.ensures
+    write_as 4 a.fields.now _ m (omega arith) _ _ (c.encode.ensures ∙ ap (λ (p : ℤ × ℤ). written allocation (p.0, (p.1, a.unique-id.now)) m) (both (counted _ _ c.count.ensures) (counted _ _ c.count-2.ensures))) _ c.of_written.ensures

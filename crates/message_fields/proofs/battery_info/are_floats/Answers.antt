@@ -17,8 +17,7 @@ bounds-fields-i c = omega arith
 
 pub returns-then-fields-i-gt4294967295 : goal.returns-then-fields-i-gt4294967295
 returns-then-fields-i-gt4294967295 c =
-    let l = c in
-    no-float l.args.fields.now (omega arith) l.loop-i.i (omega arith) (omega arith)
+    no-float c.args.fields.now (omega arith) c.loop-i.i (omega arith) (omega arith)
 
 pub overflow_add-i : goal.overflow_add-i
 overflow_add-i c = omega arith
@@ -28,10 +27,8 @@ loop-i-smaller c = omega arith
 
 pub loop-i-preserved : goal.loop-i-preserved
 loop-i-preserved c =
-    let l = c in
-    (omega arith, below_more (λ (k : ℕ). get_or l.args.fields.now k 0 < 2 ^ 32) l.loop-i.i l.loop-i.invariant.1 (omega arith))
+    (omega arith, below_more (λ (k : ℕ). get_or c.args.fields.now k 0 < 2 ^ 32) c.loop-i.i c.loop-i.invariant.1 (omega arith))
 
 pub returns : goal.returns
 returns c =
-    let l = c in
-    all-floats l.args.fields.now (omega arith) (λ k h. l.loop-i.invariant.1 k (omega arith))
+    all-floats c.args.fields.now (omega arith) (λ k h. c.loop-i.invariant.1 k (omega arith))

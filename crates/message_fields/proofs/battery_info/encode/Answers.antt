@@ -27,24 +27,19 @@ returns-then-fields-lt15 c = let a = c.args in write-short 15 a.fields.now _ a.o
 
 pub returns-then-not-are_floats : goal.returns-then-not-are_floats
 returns-then-not-are_floats c =
-    let s = c in
-    let a = s.args in
-    write-refused 15 a.fields.now _ a.out.now (omega arith) 17 (no_floats _ _ (sym s.are_floats.ensures ∙ not-true _ c.if-not-are_floats.true))
+    let a = c.args in
+    write-refused 15 a.fields.now _ a.out.now (omega arith) 17 (no_floats _ _ (sym c.are_floats.ensures ∙ not-true _ c.if-not-are_floats.true))
 
 pub from-requires : goal.from-requires
 from-requires c = (omega arith, sym c.are_floats.ensures ∙ not-false _ c.if-not-are_floats.false)
 
 pub of_written-requires : goal.of_written-requires
 of_written-requires c =
-    let e = c in
-    let a = e.args in
-    word_fits battery_info refl _ a.out.now _ _ e.encode_raw.ensures
+    let a = c.args in
+    word_fits battery_info refl _ a.out.now _ _ c.encode_raw.ensures
 
 pub returns : goal.returns
 returns c =
-    let e = c in
-    let f = e in
-    let t = f in
-    let a = t.args in
+    let a = c.args in
     let m = a.out.now in
-    write_as 15 a.fields.now _ m (omega arith) _ _ (e.encode_raw.ensures ∙ ap (λ (x : Raw). written battery_info (raw_values x name_only a.model-name.now) m) f.from.ensures ∙ ap (λ (r : Answer (List ℕ)). wrote r m) (floats _ _ (sym t.are_floats.ensures ∙ not-false _ t.if-not-are_floats.false))) _ c.of_written.ensures
+    write_as 15 a.fields.now _ m (omega arith) _ _ (c.encode_raw.ensures ∙ ap (λ (x : Raw). written battery_info (raw_values x name_only a.model-name.now) m) c.from.ensures ∙ ap (λ (r : Answer (List ℕ)). wrote r m) (floats _ _ (sym c.are_floats.ensures ∙ not-false _ c.if-not-are_floats.false))) _ c.of_written.ensures

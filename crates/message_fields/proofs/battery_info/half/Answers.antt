@@ -6,5 +6,4 @@ use Rattle.message_fields.proofs.battery_info.half.Goals as goal
 
 pub overflow_cast-fields : goal.overflow_cast-fields
 overflow_cast-fields c =
-    let s = c in
-    record { fits = omega (arith, float_at s.args.fields.now (omega arith) s.args.i (omega arith) s.requires.1.1) }
+    record { fits = omega (arith, float_at c.args.fields.now (omega arith) c.args.i (omega arith) c.requires.1.1) }

@@ -10,17 +10,11 @@ use Rattle.message_fields.proofs.execute_opcode_response.decode.Goals as goal
 
 pub returns-in-Refused : goal.returns-in-Refused
 returns-in-Refused c =
-    let n = c in
-    let d = n in
-    let a = d.args in
-    read-refused response_words (map_answer response_of (decoded opcode_response a.payload.now)) a.fields.now _ (sym (ap response_answer n.in-Refused.is) ∙ d.decode.ensures)
+    let a = c.args in
+    read-refused response_words (map_answer response_of (decoded opcode_response a.payload.now)) a.fields.now _ (sym (ap response_answer c.in-Refused.is) ∙ c.decode.ensures)
 
 pub returns-in-Got : goal.returns-in-Got
 returns-in-Got c =
-    let p = c in
-    let w = p in
-    let x = w in
-    let d = x in
-    let a = d.args in
-    read-got response_words (map_answer response_of (decoded opcode_response a.payload.now)) a.fields.now x.in-Got.x (sym (ap response_answer x.in-Got.is) ∙ d.decode.ensures)
-    w.words-w.result w.words-w.ensures _ p.put.ensures
+    let a = c.args in
+    read-got response_words (map_answer response_of (decoded opcode_response a.payload.now)) a.fields.now c.in-Got.x (sym (ap response_answer c.in-Got.is) ∙ c.decode.ensures)
+    c.words-w.result c.words-w.ensures _ c.put.ensures

@@ -11,14 +11,11 @@ use Rattle.message_fields.proofs.get_node_info_request.decode.Goals as goal
 
 pub returns-in-Refused : goal.returns-in-Refused
 returns-in-Refused c =
-    let n = c in
-    let d = n in
-    let a = d.args in
-    read-refused request_words (decoded request a.payload.now) a.fields.now _ (sym (ap answer_of n.in-Refused.is) ∙ d.decode.ensures)
+    let a = c.args in
+    read-refused request_words (decoded request a.payload.now) a.fields.now _ (sym (ap answer_of c.in-Refused.is) ∙ c.decode.ensures)
 
 pub returns-in-Got : goal.returns-in-Got
 returns-in-Got c =
-    let d = c in
-    let a = d.args in
+    let a = c.args in
     let m = a.fields.now in
-    read-got request_words (decoded request a.payload.now) m tt (sym (ap answer_of c.in-Got.is) ∙ d.decode.ensures) [] refl (0, m) (row-placed [] m m (omega arith) refl)
+    read-got request_words (decoded request a.payload.now) m tt (sym (ap answer_of c.in-Got.is) ∙ c.decode.ensures) [] refl (0, m) (row-placed [] m m (omega arith) refl)

@@ -9,12 +9,10 @@ use Rattle.message_fields.proofs.get_node_info_request.encode.Goals as goal
 
 pub of_written-requires : goal.of_written-requires
 of_written-requires c =
-    let e = c in
-    let a = e.args in
-    word_fits request refl tt a.out.now _ _ e.encode.ensures
+    let a = c.args in
+    word_fits request refl tt a.out.now _ _ c.encode.ensures
 
 pub returns : goal.returns
 returns c =
-    let e = c in
-    let a = e.args in
-    write_as 0 a.fields.now _ a.out.now (omega arith) _ _ e.encode.ensures _ c.of_written.ensures
+    let a = c.args in
+    write_as 0 a.fields.now _ a.out.now (omega arith) _ _ c.encode.ensures _ c.of_written.ensures

@@ -16,15 +16,12 @@ returns-then-fields-lt18 c = let a = c.args in write-short 18 a.fields.now _ a.o
 pub of_written-requires : goal.of_written-requires
 unfolding width_of width_in
 of_written-requires c =
-    let e = c in
-    let a = e.args in
-    word_fits response refl _ a.out.now _ _ e.encode.ensures
+    let a = c.args in
+    word_fits response refl _ a.out.now _ _ c.encode.ensures
 
 pub returns : goal.returns
 returns c =
-    let e = c in
-    let f = e in
-    let a = f.args in
+    let a = c.args in
     let m = a.out.now in
     let l : Values lists = (a.unique-id.now, (a.certificate-of-authenticity.now, a.name.now)) in
-    write_as 18 a.fields.now _ m (omega arith) _ _ (e.encode.ensures ∙ ap (λ (x : Numbers). written response (number_values x lists l) m) f.from-m.ensures) _ c.of_written.ensures
+    write_as 18 a.fields.now _ m (omega arith) _ _ (c.encode.ensures ∙ ap (λ (x : Numbers). written response (number_values x lists l) m) c.from-m.ensures) _ c.of_written.ensures

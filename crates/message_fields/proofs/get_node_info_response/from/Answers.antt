@@ -5,9 +5,8 @@ use Rattle.message_fields.proofs.get_node_info_response.from.Goals as goal
 
 pub returns : goal.returns
 returns c =
-    let v = c in
-    let d₁ = v.from.ensures in
-    let d₂ = v.software.ensures in
+    let d₁ = c.from.ensures in
+    let d₂ = c.software.ensures in
     let e₁ = counted _ _ c.count.ensures in
     let e₂ = counted _ _ c.count-2.ensures in
     cc

@@ -6,11 +6,8 @@ use Rattle.message_fields.proofs.get_node_info_response.software_words.Goals as 
 
 pub returns : goal.returns
 returns c =
-    let w₃ = c in
-    let w₂ = w₃ in
-    let w₁ = w₂ in
     let g = c.struct_told-4-1.given in
-    then (word-of _ (record { sfits = g.0.1 }) _ w₁.word.ensures)
-    (then (word-of _ (record { sfits = g.1.0.1 }) _ w₂.word-2.ensures)
-    (then (word-of _ (record { sfits = g.1.1.0.1 }) _ w₃.word-3.ensures)
+    then (word-of _ (record { sfits = g.0.1 }) _ c.word.ensures)
+    (then (word-of _ (record { sfits = g.1.0.1 }) _ c.word-2.ensures)
+    (then (word-of _ (record { sfits = g.1.1.0.1 }) _ c.word-3.ensures)
     (then (word-of _ (record { sfits = g.1.1.1.0.1 }) _ c.word-4.ensures) refl)))

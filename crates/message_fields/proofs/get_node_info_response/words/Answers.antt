@@ -6,9 +6,8 @@ use Rattle.message_fields.proofs.get_node_info_response.words.Goals as goal
 
 pub returns : goal.returns
 returns c =
-    let v = c in
-    let s = v.words-s.ensures in
-    let e = v.software_words-v.ensures in
+    let s = c.words-s.ensures in
+    let e = c.software_words-v.ensures in
     let g = c.struct_told-2-1.given in
     then (at 0 s) (then (at 1 s) (then (at 2 s) (then (at 3 s) (then (at 4 s)
     (then (at 0 e) (then (at 1 e) (then (at 2 e) (then (at 3 e) (then (at 4 e)

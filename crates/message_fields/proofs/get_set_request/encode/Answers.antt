@@ -18,9 +18,8 @@ returns-then-fields-lt7 c = let a = c.args in write-short 7 a.fields.now _ a.out
 
 pub returns-then-is_too_large : goal.returns-then-is_too_large
 returns-then-is_too_large c =
-    let t = c in
-    let a = t.args in
-    write-refused 7 a.fields.now _ a.out.now (omega arith) 17 (request-17 a.fields.now _ _ _ _ (sym t.is_too_large.ensures ∙ c.if-is_too_large.true))
+    let a = c.args in
+    write-refused 7 a.fields.now _ a.out.now (omega arith) 17 (request-17 a.fields.now _ _ _ _ (sym c.is_too_large.ensures ∙ c.if-is_too_large.true))
 
 pub from-v-requires : goal.from-v-requires
 from-v-requires c = (omega arith, sym c.is_too_large.ensures ∙ c.if-is_too_large.false)
@@ -28,17 +27,13 @@ from-v-requires c = (omega arith, sym c.is_too_large.ensures ∙ c.if-is_too_lar
 pub of_written-requires : goal.of_written-requires
 unfolding width_of width_in
 of_written-requires c =
-    let e = c in
-    let a = e.args in
-    word_fits request refl _ a.out.now _ _ e.encode.ensures
+    let a = c.args in
+    word_fits request refl _ a.out.now _ _ c.encode.ensures
 
 pub returns : goal.returns
 returns c =
-    let e = c in
-    let n = e in
-    let f = n in
-    let a = f.args in
+    let a = c.args in
     let m = a.out.now in
     write_as 7 a.fields.now _ m (omega arith) _ _
-    (e.encode.ensures ∙ ap (λ (p : ℤ × Value). written request (p.0, value_values p.1 a.string-value.now 5 name_only a.name.now) m) (both (counted _ _ n.count.ensures) f.from-v.ensures))
+    (c.encode.ensures ∙ ap (λ (p : ℤ × Value). written request (p.0, value_values p.1 a.string-value.now 5 name_only a.name.now) m) (both (counted _ _ c.count.ensures) c.from-v.ensures))
     _ c.of_written.ensures

@@ -6,7 +6,6 @@ use Rattle.message_fields.proofs.get_set_request.words.Goals as goal
 
 pub returns : goal.returns
 returns c =
-    let w = c in
-    let x = w.args.x in
+    let x = c.args.x in
     let g = c.struct_told-1.given in
-    then (word-of _ (record { sfits = g.0.1 }) _ c.word.ensures) (spread _ x.value _ w.words-v.ensures)
+    then (word-of _ (record { sfits = g.0.1 }) _ c.word.ensures) (spread _ x.value _ c.words-v.ensures)

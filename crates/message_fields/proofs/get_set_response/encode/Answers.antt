@@ -22,18 +22,14 @@ returns-then-fields-lt14 c = let a = c.args in write-short 14 a.fields.now _ a.o
 
 pub returns-then-known : goal.returns-then-known
 returns-then-known c =
-    let k = c in
-    let t = k in
-    let l = t in
-    let a = l.args in
+    let a = c.args in
     write-refused 14 a.fields.now _ a.out.now (omega arith) 17
-    (response-17 a.fields.now _ _ _ _ (sym l.is_too_large.ensures ∙ t.if-is_too_large.true) (sym k.known.ensures ∙ c.if-known.true))
+    (response-17 a.fields.now _ _ _ _ (sym c.is_too_large.ensures ∙ c.if-is_too_large.true) (sym c.known.ensures ∙ c.if-known.true))
 
 pub returns-then-is_too_large : goal.returns-then-is_too_large
 returns-then-is_too_large c =
-    let k = c in
-    let a = k.args in
-    write-refused 14 a.fields.now _ a.out.now (omega arith) 27 (response-27 a.fields.now _ _ _ _ (sym k.known.ensures ∙ c.if-known.false))
+    let a = c.args in
+    write-refused 14 a.fields.now _ a.out.now (omega arith) 27 (response-27 a.fields.now _ _ _ _ (sym c.known.ensures ∙ c.if-known.false))
 
 pub from-v-requires : goal.from-v-requires
 from-v-requires c = (omega arith, (small c).0.0)
@@ -50,19 +46,13 @@ from-min-requires c = (omega arith, (small c).1.1)
 pub of_written-requires : goal.of_written-requires
 unfolding width_of width_in
 of_written-requires c =
-    let e = c in
-    let a = e.args in
-    word_fits response refl _ a.out.now _ _ e.encode.ensures
+    let a = c.args in
+    word_fits response refl _ a.out.now _ _ c.encode.ensures
 
 pub returns : goal.returns
 returns c =
-    let e = c in
-    let f₄ = e in
-    let f₃ = f₄ in
-    let f₂ = f₃ in
-    let f₁ = f₂ in
-    let a = f₁.args in
+    let a = c.args in
     let m = a.out.now in
     write_as 14 a.fields.now _ m (omega arith) _ _
-    (e.encode.ensures ∙ ap (λ (p : (Value × Value) × (Value × Value)). written response (response_values p.0.0 a.string-value.now p.0.1 a.default-string-value.now p.1.0 p.1.1 a.name.now) m) (both (both f₁.from-v.ensures f₂.from-d.ensures) (both f₃.from-max.ensures f₄.from-min.ensures)))
+    (c.encode.ensures ∙ ap (λ (p : (Value × Value) × (Value × Value)). written response (response_values p.0.0 a.string-value.now p.0.1 a.default-string-value.now p.1.0 p.1.1 a.name.now) m) (both (both c.from-v.ensures c.from-d.ensures) (both c.from-max.ensures c.from-min.ensures)))
     _ c.of_written.ensures

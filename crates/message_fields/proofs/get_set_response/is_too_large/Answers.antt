@@ -4,11 +4,8 @@ use Rattle.message_fields.proofs.get_set_response.is_too_large.Goals as goal
 
 pub returns : goal.returns
 returns c =
-    let t₃ = c in
-    let t₂ = t₃ in
-    let t₁ = t₂ in
-    let e₁ = t₁.is_too_large.ensures in
-    let e₂ = t₂.is_too_large-2.ensures in
-    let e₃ = t₃.is_too_large-3.ensures in
+    let e₁ = c.is_too_large.ensures in
+    let e₂ = c.is_too_large-2.ensures in
+    let e₃ = c.is_too_large-3.ensures in
     let e₄ = c.is_too_large-4.ensures in
     cc

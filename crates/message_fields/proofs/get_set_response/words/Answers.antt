@@ -10,14 +10,10 @@ use Rattle.message_fields.proofs.get_set_response.words.Goals as goal
 
 pub returns : goal.returns
 returns c =
-    let w₄ = c in
-    let w₃ = w₄ in
-    let w₂ = w₃ in
-    let w₁ = w₂ in
-    let x = w₁.args.x in
-    spread _ x.value _ w₁.words-v.ensures
+    let x = c.args.x in
+    spread _ x.value _ c.words-v.ensures
     ∙ ap (λ (l : List ℕ). value_words x.value ++ place_words x.string_value l)
-    (spread _ x.default_value _ w₂.words-d.ensures
+    (spread _ x.default_value _ c.words-d.ensures
     ∙ ap (λ (l : List ℕ). value_words x.default_value ++ place_words x.default_string_value l)
-    (spread _ x.max_value _ w₃.words-max.ensures
-    ∙ ap (λ (l : List ℕ). value_words x.max_value ++ l) (spread _ x.min_value _ w₄.words-min.ensures)))
+    (spread _ x.max_value _ c.words-max.ensures
+    ∙ ap (λ (l : List ℕ). value_words x.max_value ++ l) (spread _ x.min_value _ c.words-min.ensures)))

@@ -10,17 +10,11 @@ use Rattle.message_fields.proofs.key_value.decode.Goals as goal
 
 pub returns-in-Refused : goal.returns-in-Refused
 returns-in-Refused c =
-    let n = c in
-    let d = n in
-    let a = d.args in
-    read-refused key_value_words (map_answer key_value_of (decoded key_value a.payload.now)) a.fields.now _ (sym (ap answer_of n.in-Refused.is) ∙ d.decode.ensures)
+    let a = c.args in
+    read-refused key_value_words (map_answer key_value_of (decoded key_value a.payload.now)) a.fields.now _ (sym (ap answer_of c.in-Refused.is) ∙ c.decode.ensures)
 
 pub returns-in-Got : goal.returns-in-Got
 returns-in-Got c =
-    let p = c in
-    let w = p in
-    let x = w in
-    let d = x in
-    let a = d.args in
-    read-got key_value_words (map_answer key_value_of (decoded key_value a.payload.now)) a.fields.now x.in-Got.x (sym (ap answer_of x.in-Got.is) ∙ d.decode.ensures)
-    w.words-w.result w.words-w.ensures _ p.put.ensures
+    let a = c.args in
+    read-got key_value_words (map_answer key_value_of (decoded key_value a.payload.now)) a.fields.now c.in-Got.x (sym (ap answer_of c.in-Got.is) ∙ c.decode.ensures)
+    c.words-w.result c.words-w.ensures _ c.put.ensures

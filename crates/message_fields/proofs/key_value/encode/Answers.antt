@@ -27,12 +27,10 @@ returns-then-x-gt4294967295 c =
 
 pub of_written-requires : goal.of_written-requires
 of_written-requires c =
-    let e = c in
-    let a = e.args in
-    word_fits key_value refl _ a.out.now _ _ e.encode.ensures
+    let a = c.args in
+    word_fits key_value refl _ a.out.now _ _ c.encode.ensures
 
 pub returns : goal.returns
 returns c =
-    let e = c in
-    let a = e.args in
-    write_as 3 a.fields.now _ a.out.now (omega arith) _ _ e.encode.ensures _ c.of_written.ensures
+    let a = c.args in
+    write_as 3 a.fields.now _ a.out.now (omega arith) _ _ c.encode.ensures _ c.of_written.ensures

@@ -16,14 +16,11 @@ returns-then-fields-lt5 c = let a = c.args in write-short 5 a.fields.now _ a.out
 pub of_written-requires : goal.of_written-requires
 unfolding width_of width_in
 of_written-requires c =
-    let e = c in
-    let a = e.args in
-    word_fits log_message refl _ a.out.now _ _ e.encode.ensures
+    let a = c.args in
+    word_fits log_message refl _ a.out.now _ _ c.encode.ensures
 
 pub returns : goal.returns
 returns c =
-    let e = c in
-    let n = e in
-    let a = n.args in
+    let a = c.args in
     let m = a.out.now in
-    write_as 5 a.fields.now _ m (omega arith) _ _ (e.encode.ensures ∙ ap (λ (z : ℤ). written log_message (z, (a.source.now, a.text.now)) m) (counted _ _ n.count.ensures)) _ c.of_written.ensures
+    write_as 5 a.fields.now _ m (omega arith) _ _ (c.encode.ensures ∙ ap (λ (z : ℤ). written log_message (z, (a.source.now, a.text.now)) m) (counted _ _ c.count.ensures)) _ c.of_written.ensures

@@ -16,14 +16,11 @@ returns-then-fields-lt5 c =
 
 pub of_written-requires : goal.of_written-requires
 of_written-requires c =
-    let e = c in
-    let a = e.args in
-    word_fits node_status refl _ a.out.now _ _ e.encode.ensures
+    let a = c.args in
+    word_fits node_status refl _ a.out.now _ _ c.encode.ensures
 
 pub returns : goal.returns
 returns c =
-    let e = c in
-    let f = e in
-    let a = f.args in
+    let a = c.args in
     let m = a.out.now in
-    write_as 5 a.fields.now _ m (omega arith) _ _ (e.encode.ensures ∙ ap (λ (x : NodeStatus). written node_status (status_values x end tt) m) f.from.ensures) _ c.of_written.ensures
+    write_as 5 a.fields.now _ m (omega arith) _ _ (c.encode.ensures ∙ ap (λ (x : NodeStatus). written node_status (status_values x end tt) m) c.from.ensures) _ c.of_written.ensures

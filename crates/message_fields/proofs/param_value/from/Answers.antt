@@ -7,9 +7,5 @@ use Rattle.message_fields.proofs.param_value.from.Goals as goal
 
 pub returns : goal.returns
 returns c =
-    let n₃ = c in
-    let n₂ = n₃ in
-    let n₁ = n₂ in
-    let s = n₁ in
     c.of_tag.ensures
-    ∙ made s.args.fields.now s.args.i s.requires.1 _ _ _ _ (counted _ _ n₁.count.ensures) (held _ _ n₂.number.ensures) refl (counted _ _ n₃.count-2.ensures)
+    ∙ made c.args.fields.now c.args.i c.requires.1 _ _ _ _ (counted _ _ c.count.ensures) (held _ _ c.number.ensures) refl (counted _ _ c.count-2.ensures)

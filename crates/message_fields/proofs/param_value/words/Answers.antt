@@ -8,17 +8,13 @@ use Rattle.message_fields.proofs.param_value.words.Goals as goal
 
 pub returns-in-Integer : goal.returns-in-Integer
 returns-in-Integer c =
-    let v = c in
-    let a = v in
-    let e = v.in-Integer.is in
-    then refl (then (word-of _ (subst Held e (held a.args.v a.well-formed.0)) _ c.word.ensures) refl) ∙ sym (ap value_words e)
+    let e = c.in-Integer.is in
+    then refl (then (word-of _ (subst Held e (held c.args.v c.well-formed.0)) _ c.word.ensures) refl) ∙ sym (ap value_words e)
 
 pub returns-in-Real : goal.returns-in-Real
 returns-in-Real c = sym (ap value_words c.in-Real.is)
 
 pub returns-in-Boolean : goal.returns-in-Boolean
 returns-in-Boolean c =
-    let v = c in
-    let a = v in
-    let e = v.in-Boolean.is in
-    then refl (then (word-of _ (subst Held e (held a.args.v a.well-formed.0)) _ c.word-in-Boolean.ensures) refl) ∙ sym (ap value_words e)
+    let e = c.in-Boolean.is in
+    then refl (then (word-of _ (subst Held e (held c.args.v c.well-formed.0)) _ c.word-in-Boolean.ensures) refl) ∙ sym (ap value_words e)

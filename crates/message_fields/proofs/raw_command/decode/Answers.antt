@@ -40,16 +40,12 @@ module _ (r : Read) where
 
 pub returns-then-r-ne0 : goal.returns-then-r-ne0
 returns-then-r-ne0 c =
-    let d = c in
-    let a = d.args in
-    read-refused command_words (command_in a.payload.now) a.fields.now _ (not-read _ (command_in a.payload.now) d.decode-r.ensures (λ e. omega arith))
+    let a = c.args in
+    read-refused command_words (command_in a.payload.now) a.fields.now _ (not-read _ (command_in a.payload.now) c.decode-r.ensures (λ e. omega arith))
 
 pub returns : goal.returns
 returns c =
-    let p = c in
-    let w = p in
-    let d = w in
-    let a = d.args in
+    let a = c.args in
     let r = command_in a.payload.now in
-    read-got command_words r a.fields.now d.decode-r.result.message (was_read _ r d.decode-r.ensures (omega arith) (never a.payload.now))
-    w.words-w.result w.words-w.ensures _ p.put.ensures
+    read-got command_words r a.fields.now c.decode-r.result.message (was_read _ r c.decode-r.ensures (omega arith) (never a.payload.now))
+    c.words-w.result c.words-w.ensures _ c.put.ensures

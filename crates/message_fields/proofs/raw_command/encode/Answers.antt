@@ -16,14 +16,11 @@ returns-then-fields-lt21 c = let a = c.args in write-short 21 a.fields.now _ a.o
 pub of_written-requires : goal.of_written-requires
 unfolding command_encoded
 of_written-requires c =
-    let e = c in
-    let a = e.args in
-    refused-fits raw_command refl _ a.out.now _ _ _ e.encode.ensures
+    let a = c.args in
+    refused-fits raw_command refl _ a.out.now _ _ _ c.encode.ensures
 
 pub returns : goal.returns
 returns c =
-    let e = c in
-    let f = e in
-    let a = f.args in
+    let a = c.args in
     let m = a.out.now in
-    write_as 21 a.fields.now _ m (omega arith) _ _ (e.encode.ensures ∙ ap (λ (x : RawCommand). wrote (command_encoded x (length m)) m) f.from.ensures) _ c.of_written.ensures
+    write_as 21 a.fields.now _ m (omega arith) _ _ (c.encode.ensures ∙ ap (λ (x : RawCommand). wrote (command_encoded x (length m)) m) c.from.ensures) _ c.of_written.ensures

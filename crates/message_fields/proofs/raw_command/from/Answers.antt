@@ -44,16 +44,14 @@ loop-i-smaller c = omega arith
 
 pub loop-i-preserved : goal.loop-i-preserved
 loop-i-preserved c =
-    let l = c in
-    let ws = l.args.fields.now in
-    let i = l.loop-i.i in
-    (omega arith, mapped (signed_of 64) (span ws 1 20) 0 (pos 0) l.loop-i.cmd i _ (omega (arith, twenty ws (omega arith))) (omega arith) l.loop-i.invariant.1 (held _ _ c.number.ensures ∙ ap (λ (n : ℕ). signed_of 64 n) (word_at ws i (omega arith))))
+    let ws = c.args.fields.now in
+    let i = c.loop-i.i in
+    (omega arith, mapped (signed_of 64) (span ws 1 20) 0 (pos 0) c.loop-i.cmd i _ (omega (arith, twenty ws (omega arith))) (omega arith) c.loop-i.invariant.1 (held _ _ c.number.ensures ∙ ap (λ (n : ℕ). signed_of 64 n) (word_at ws i (omega arith))))
 
 pub bounds-fields-0 : goal.bounds-fields-0
 bounds-fields-0 c = omega arith
 
 pub returns : goal.returns
 returns c =
-    let l = c in
-    let ws = l.args.fields.now in
-    ap (λ (z : List ℤ). record { count = get_or ws 0 0; cmd = z }) (all-mapped (signed_of 64) (span ws 1 20) (pos 0) l.loop-i.cmd l.loop-i.i (twenty ws (omega arith)) (omega arith) l.loop-i.invariant.1)
+    let ws = c.args.fields.now in
+    ap (λ (z : List ℤ). record { count = get_or ws 0 0; cmd = z }) (all-mapped (signed_of 64) (span ws 1 20) (pos 0) c.loop-i.cmd c.loop-i.i (twenty ws (omega arith)) (omega arith) c.loop-i.invariant.1)

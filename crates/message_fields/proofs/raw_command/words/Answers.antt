@@ -48,12 +48,8 @@ loop-i-smaller c = omega arith
 
 pub loop-i-preserved : goal.loop-i-preserved
 loop-i-preserved c =
-    let l = c in
-    let a = l in
-    (omega arith, turn a.args.x.cmd a.args.x.count l.loop-i.w l.loop-i.i c.word.result (omega (arith, long a)) (omega arith) l.loop-i.invariant.1 (word-of _ (record { sfits = c.v-1.given }) _ c.word.ensures))
+    (omega arith, turn c.args.x.cmd c.args.x.count c.loop-i.w c.loop-i.i c.word.result (omega (arith, long c)) (omega arith) c.loop-i.invariant.1 (word-of _ (record { sfits = c.v-1.given }) _ c.word.ensures))
 
 pub returns : goal.returns
 returns c =
-    let l = c in
-    let a = l in
-    l.loop-i.invariant.1 ∙ ap (λ (m : List ℕ). a.args.x.count ∷ m) (all-mapped word a.args.x.cmd 0 (front a.args.x.cmd l.loop-i.i) l.loop-i.i (long a) (omega arith) refl)
+    c.loop-i.invariant.1 ∙ ap (λ (m : List ℕ). c.args.x.count ∷ m) (all-mapped word c.args.x.cmd 0 (front c.args.x.cmd c.loop-i.i) c.loop-i.i (long c) (omega arith) refl)

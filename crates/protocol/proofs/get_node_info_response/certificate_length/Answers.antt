@@ -18,5 +18,4 @@ read-requires c = (omega (arith, eight, c.width.ensures), (omega arith, omega (a
 pub returns : goal.returns
 unfolding certificate_length
 returns c =
-    let w = c in
-    c.read.ensures ∙ ap (λ (k : ℕ). from_bits k (drop 320 (unpack w.args.payload.now))) w.width.ensures
+    c.read.ensures ∙ ap (λ (k : ℕ). from_bits k (drop 320 (unpack c.args.payload.now))) c.width.ensures

@@ -7,5 +7,4 @@ use Rattle.protocol.proofs.get_node_info_response.certificate_of_authenticity.Go
 
 pub returns : goal.returns
 returns c =
-    let n = c in
-    c.within.ensures ∙ ap (λ (k : ℕ). span n.args.payload.now 41 k) n.certificate_length.ensures
+    c.within.ensures ∙ ap (λ (k : ℕ). span c.args.payload.now 41 k) c.certificate_length.ensures

@@ -12,5 +12,4 @@ overflow_add-certificate_length c = omega (arith, c.certificate_length.ensures, 
 
 pub returns : goal.returns
 returns c =
-    let n = c in
-    c.behind.ensures ∙ ap (λ (k : ℕ). drop (41 + k) n.args.payload.now) n.certificate_length.ensures
+    c.behind.ensures ∙ ap (λ (k : ℕ). drop (41 + k) c.args.payload.now) c.certificate_length.ensures

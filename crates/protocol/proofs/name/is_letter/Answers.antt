@@ -29,19 +29,14 @@ returns-then-is_between c = small _ (sym c.is_between.ensures ∙ c.if-is_betwee
 
 pub returns-then-is_between-2 : goal.returns-then-is_between-2
 returns-then-is_between-2 c =
-    let e = c in
-    digit _ (sym e.is_between.ensures ∙ e.if-is_between.false) (sym c.is_between-2.ensures ∙ c.if-is_between-2.true)
+    digit _ (sym c.is_between.ensures ∙ c.if-is_between.false) (sym c.is_between-2.ensures ∙ c.if-is_between-2.true)
 
 pub returns-then-is_between-3 : goal.returns-then-is_between-3
 returns-then-is_between-3 c =
-    let f = c in
-    let e = f in
-    mark _ (sym e.is_between.ensures ∙ e.if-is_between.false) (sym f.is_between-2.ensures ∙ f.if-is_between-2.false)
+    mark _ (sym c.is_between.ensures ∙ c.if-is_between.false) (sym c.is_between-2.ensures ∙ c.if-is_between-2.false)
     (sym c.is_between-3.ensures ∙ c.if-is_between-3.true)
 
 pub returns : goal.returns
 returns c =
-    let f = c in
-    let e = f in
-    other _ (sym e.is_between.ensures ∙ e.if-is_between.false) (sym f.is_between-2.ensures ∙ f.if-is_between-2.false)
+    other _ (sym c.is_between.ensures ∙ c.if-is_between.false) (sym c.is_between-2.ensures ∙ c.if-is_between-2.false)
     (sym c.is_between-3.ensures ∙ c.if-is_between-3.false)

@@ -16,8 +16,6 @@ returns-then-out-lt7 c =
 
 pub returns : goal.returns
 returns c =
-    let w = c in
-    let k = w in
-    let a = k.args in
+    let a = c.args in
     write-all node_status (status_values a.x end tt) a.out.now refl (fit a.x) 7 (size a.x)
-    (octets-all a.out.now (λ i. omega (arith, k.slice_known-1.given i))) (omega arith) w.write_front.new.out w.write_front.ensures
+    (octets-all a.out.now (λ i. omega (arith, c.slice_known-1.given i))) (omega arith) c.write_front.new.out c.write_front.ensures

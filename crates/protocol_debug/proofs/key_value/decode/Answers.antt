@@ -16,17 +16,14 @@ use Rattle.protocol_debug.proofs.key_value.decode.Goals as goal
 
 pub returns-then-payload-lt4 : goal.returns-then-payload-lt4
 returns-then-payload-lt4 c =
-    let k = c in
-    let s = k.args.payload.now in
-    sym (short s (octets-all s (λ i. omega (arith, k.shared_slice_known-1.given i))) (omega arith))
+    let s = c.args.payload.now in
+    sym (short s (octets-all s (λ i. omega (arith, c.shared_slice_known-1.given i))) (omega arith))
 
 pub returns-then-len-gt58 : goal.returns-then-len-gt58
 returns-then-len-gt58 c =
-    let q = c in
-    let k = q in
-    let s = k.args.payload.now in
-    let e = ap (λ (l : List ℕ). length l) q.key-len.ensures in
-    sym (long s (octets-all s (λ i. omega (arith, k.shared_slice_known-1.given i))) (omega arith) (omega (arith, e)))
+    let s = c.args.payload.now in
+    let e = ap (λ (l : List ℕ). length l) c.key-len.ensures in
+    sym (long s (octets-all s (λ i. omega (arith, c.shared_slice_known-1.given i))) (omega arith) (omega (arith, e)))
 
 pub overflow_cast-result : goal.overflow_cast-result
 overflow_cast-result c =
@@ -35,9 +32,7 @@ overflow_cast-result c =
 
 pub returns : goal.returns
 returns c =
-    let q = c in
-    let k = q in
-    let s = k.args.payload.now in
-    let e = ap (λ (l : List ℕ). length l) q.key-len.ensures in
+    let s = c.args.payload.now in
+    let e = ap (λ (l : List ℕ). length l) c.key-len.ensures in
     ap (λ (x : KeyValue). numbered (got x)) (made c.read.ensures e)
-    ∙ sym (held s (octets-all s (λ i. omega (arith, k.shared_slice_known-1.given i))) (omega arith) (omega (arith, e)))
+    ∙ sym (held s (octets-all s (λ i. omega (arith, c.shared_slice_known-1.given i))) (omega arith) (omega (arith, e)))

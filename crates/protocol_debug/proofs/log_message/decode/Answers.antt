@@ -18,29 +18,21 @@ overflow_add-at c = omega (arith, c.source_length-at.ensures, below c.args.paylo
 
 pub returns-then-payload-at : goal.returns-then-payload-at
 returns-then-payload-at c =
-    let n = c in
-    let k = n in
-    let s = k.args.payload.now in
-    sym (cut s (octets-all s (λ i. omega (arith, k.shared_slice_known-1.given i))) (omega (arith, n.source_length-at.ensures)))
+    let s = c.args.payload.now in
+    sym (cut s (octets-all s (λ i. omega (arith, c.shared_slice_known-1.given i))) (omega (arith, c.source_length-at.ensures)))
 
 pub returns-then-len-gt90 : goal.returns-then-len-gt90
 returns-then-len-gt90 c =
-    let t = c in
-    let n = t in
-    let k = n in
-    let s = k.args.payload.now in
-    let e = ap (λ (l : List ℕ). length l) t.text-len.ensures in
-    sym (long s (octets-all s (λ i. omega (arith, k.shared_slice_known-1.given i))) (omega (arith, n.source_length-at.ensures)) (omega (arith, e)))
+    let s = c.args.payload.now in
+    let e = ap (λ (l : List ℕ). length l) c.text-len.ensures in
+    sym (long s (octets-all s (λ i. omega (arith, c.shared_slice_known-1.given i))) (omega (arith, c.source_length-at.ensures)) (omega (arith, e)))
 
 pub returns : goal.returns
 returns c =
-    let t = c in
-    let n = t in
-    let k = n in
-    let s = k.args.payload.now in
-    let o = octets-all s (λ i. omega (arith, k.shared_slice_known-1.given i)) in
-    let e = ap (λ (l : List ℕ). length l) t.text-len.ensures in
-    let l = source-len s o (omega (arith, n.source_length-at.ensures)) in
+    let s = c.args.payload.now in
+    let o = octets-all s (λ i. omega (arith, c.shared_slice_known-1.given i)) in
+    let e = ap (λ (l : List ℕ). length l) c.text-len.ensures in
+    let l = source-len s o (omega (arith, c.source_length-at.ensures)) in
     ap (λ (x : LogMessage). numbered (got x))
-    (made (number_read s 0 3 (lit≤ tt) (omega (arith, n.source_length-at.ensures)) c.read.result c.read.ensures) (ap (λ (l : List ℕ). length l) c.source.ensures) (omega (arith, l, n.source_length-at.ensures)) e)
-    ∙ sym (held s o (omega (arith, n.source_length-at.ensures)) (omega (arith, e)))
+    (made (number_read s 0 3 (lit≤ tt) (omega (arith, c.source_length-at.ensures)) c.read.result c.read.ensures) (ap (λ (l : List ℕ). length l) c.source.ensures) (omega (arith, l, c.source_length-at.ensures)) e)
+    ∙ sym (held s o (omega (arith, c.source_length-at.ensures)) (omega (arith, e)))

@@ -7,5 +7,4 @@ use Rattle.protocol_debug.proofs.log_message.source.Goals as goal
 
 pub returns : goal.returns
 returns c =
-    let n = c in
-    c.within.ensures ∙ ap (λ (k : ℕ). span n.args.payload.now 1 k) n.source_length.ensures
+    c.within.ensures ∙ ap (λ (k : ℕ). span c.args.payload.now 1 k) c.source_length.ensures

@@ -18,5 +18,4 @@ read-requires c = (omega (arith, five, c.width.ensures), (omega arith, omega (ar
 pub returns : goal.returns
 unfolding source_length
 returns c =
-    let w = c in
-    c.read.ensures ∙ ap (λ (k : ℕ). from_bits k (drop 3 (unpack w.args.payload.now))) w.width.ensures
+    c.read.ensures ∙ ap (λ (k : ℕ). from_bits k (drop 3 (unpack c.args.payload.now))) c.width.ensures

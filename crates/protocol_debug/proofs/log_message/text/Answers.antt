@@ -12,5 +12,4 @@ overflow_add-source_length c = omega (arith, c.source_length.ensures, below c.ar
 
 pub returns : goal.returns
 returns c =
-    let n = c in
-    c.behind.ensures ∙ ap (λ (k : ℕ). drop (1 + k) n.args.payload.now) n.source_length.ensures
+    c.behind.ensures ∙ ap (λ (k : ℕ). drop (1 + k) c.args.payload.now) c.source_length.ensures

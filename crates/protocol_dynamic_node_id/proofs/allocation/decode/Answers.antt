@@ -15,24 +15,19 @@ use Rattle.protocol_dynamic_node_id.proofs.allocation.decode.Goals as goal
 
 pub returns-then-payload-lt1 : goal.returns-then-payload-lt1
 returns-then-payload-lt1 c =
-    let k = c in
-    let s = k.args.payload.now in
-    sym (short s (octets-all s (λ i. omega (arith, k.shared_slice_known-1.given i))) (omega arith))
+    let s = c.args.payload.now in
+    sym (short s (octets-all s (λ i. omega (arith, c.shared_slice_known-1.given i))) (omega arith))
 
 pub returns-then-len-gt16 : goal.returns-then-len-gt16
 returns-then-len-gt16 c =
-    let q = c in
-    let k = q in
-    let s = k.args.payload.now in
-    let e = ap (λ (l : List ℕ). length l) q.unique_id-len.ensures in
-    sym (long s (octets-all s (λ i. omega (arith, k.shared_slice_known-1.given i))) (omega arith) (omega (arith, e)))
+    let s = c.args.payload.now in
+    let e = ap (λ (l : List ℕ). length l) c.unique_id-len.ensures in
+    sym (long s (octets-all s (λ i. omega (arith, c.shared_slice_known-1.given i))) (omega arith) (omega (arith, e)))
 
 pub returns : goal.returns
 returns c =
-    let q = c in
-    let k = q in
-    let s = k.args.payload.now in
-    let e = ap (λ (l : List ℕ). length l) q.unique_id-len.ensures in
+    let s = c.args.payload.now in
+    let e = ap (λ (l : List ℕ). length l) c.unique_id-len.ensures in
     ap (λ (x : Allocation). numbered (got x)) (made (number_read s 0 7 (lit≤ tt) (omega arith) c.read.result c.read.ensures)
     (number_read s 7 1 (lit≤ tt) (omega arith) c.read-2.result c.read-2.ensures) e)
-    ∙ sym (held s (octets-all s (λ i. omega (arith, k.shared_slice_known-1.given i))) (omega arith) (omega (arith, e)))
+    ∙ sym (held s (octets-all s (λ i. omega (arith, c.shared_slice_known-1.given i))) (omega arith) (omega (arith, e)))

@@ -16,8 +16,7 @@ returns-then-payload-gt7 c = let p = c.args.payload.now in refuses request_of (l
 
 pub returns : goal.returns
 returns c =
-    let r = c in
-    let p = r.args.payload.now in
+    let p = c.args.payload.now in
     gives request_of
-    (made-request p _ _ (number_read p 0 8 (lit≤ tt) (omega arith) r.read.result r.read.ensures) (signed-read p 8 48 (lit≤ tt) (lit≤ tt) (omega arith) c.read_signed.result c.read_signed.ensures))
+    (made-request p _ _ (number_read p 0 8 (lit≤ tt) (omega arith) c.read.result c.read.ensures) (signed-read p 8 48 (lit≤ tt) (lit≤ tt) (omega arith) c.read_signed.result c.read_signed.ensures))
     (held-request p (omega arith))

@@ -16,13 +16,9 @@ returns-then-out-lt7 c =
 
 pub returns : goal.returns
 returns c =
-    let w₂ = c in
-    let w₁ = w₂ in
-    let g = w₁ in
-    let k = g in
-    let a = k.args in
+    let a = c.args in
     write-all opcode_request (request_values a.x) a.out.now refl (fit-request a.x) 7 (size-request a.x)
-    (octets-all a.out.now (λ i. omega (arith, k.slice_known-1.given i))) (omega (arith, g.if-out-lt7.false)) w₂.write_signed.new.s
-    (stored-request a.x a.out.now w₁.write.new.s w₂.write_signed.new.s (omega (arith, g.if-out-lt7.false))
-    (number-given a.out.now w₁.write.new.s 0 8 a.x.opcode (record { sfits = w₁.struct_told-1.given.0.1 }) w₁.write.ensures)
-    (signed-given w₁.write.new.s w₂.write_signed.new.s 8 48 a.x.argument (record { sfits = w₂.struct_told-2-1.given.1.0.1 }) w₂.write_signed.ensures))
+    (octets-all a.out.now (λ i. omega (arith, c.slice_known-1.given i))) (omega (arith, c.if-out-lt7.false)) c.write_signed.new.s
+    (stored-request a.x a.out.now c.write.new.s c.write_signed.new.s (omega (arith, c.if-out-lt7.false))
+    (number-given a.out.now c.write.new.s 0 8 a.x.opcode (record { sfits = c.struct_told-1.given.0.1 }) c.write.ensures)
+    (signed-given c.write.new.s c.write_signed.new.s 8 48 a.x.argument (record { sfits = c.struct_told-2-1.given.1.0.1 }) c.write_signed.ensures))

@@ -17,16 +17,12 @@ returns-then-payload-lt7 c = let p = c.args.payload.now in refuses response_of (
 
 pub returns-then-n-ne0 : goal.returns-then-n-ne0
 returns-then-n-ne0 c =
-    let q = c in
-    let p = q.args.payload.now in
-    refuses response_of (stop-response p (omega arith) q.refusal-n.result (refused-by (decode end (drop 49 (unpack p))) q.refusal-n.result q.refusal-n.ensures c.if-n-ne0.true))
+    let p = c.args.payload.now in
+    refuses response_of (stop-response p (omega arith) c.refusal-n.result (refused-by (decode end (drop 49 (unpack p))) c.refusal-n.result c.refusal-n.ensures c.if-n-ne0.true))
 
 pub returns : goal.returns
 returns c =
-    let r = c in
-    let f = r in
-    let q = f in
-    let p = q.args.payload.now in
+    let p = c.args.payload.now in
     gives response_of
-    (made-response p _ _ (signed-read p 0 48 (lit≤ tt) (lit≤ tt) (omega arith) r.read_signed.result r.read_signed.ensures) (number_read p 48 1 (lit≤ tt) (omega arith) c.read.result c.read.ensures))
-    (held-response p (omega arith) (end-held (drop 49 (unpack p)) (sym f.if-n-ne0.false ∙ q.refusal-n.ensures)))
+    (made-response p _ _ (signed-read p 0 48 (lit≤ tt) (lit≤ tt) (omega arith) c.read_signed.result c.read_signed.ensures) (number_read p 48 1 (lit≤ tt) (omega arith) c.read.result c.read.ensures))
+    (held-response p (omega arith) (end-held (drop 49 (unpack p)) (sym c.if-n-ne0.false ∙ c.refusal-n.ensures)))

@@ -16,14 +16,9 @@ returns-then-out-lt7 c =
 
 pub returns : goal.returns
 returns c =
-    let w₃ = c in
-    let w₂ = w₃ in
-    let w₁ = w₂ in
-    let g = w₁ in
-    let k = g in
-    let a = k.args in
+    let a = c.args in
     write-padded opcode_response (response_values a.x) a.out.now refl (fit-response a.x) 7 (bytes-response a.x)
-    (octets-all a.out.now (λ i. omega (arith, k.slice_known-1.given i))) (omega (arith, g.if-out-lt7.false)) w₃.pad.new.s
-    (stored-response a.x a.out.now w₁.write_signed.new.s w₂.write.new.s w₃.pad.new.s (omega (arith, g.if-out-lt7.false))
-    (signed-given a.out.now w₁.write_signed.new.s 0 48 a.x.argument (record { sfits = w₁.struct_told-1.given.0.1 }) w₁.write_signed.ensures)
-    (number-given w₁.write_signed.new.s w₂.write.new.s 48 1 a.x.ok (record { sfits = w₂.struct_told-2-1.given.1.0.1 }) w₂.write.ensures) w₃.pad.ensures)
+    (octets-all a.out.now (λ i. omega (arith, c.slice_known-1.given i))) (omega (arith, c.if-out-lt7.false)) c.pad.new.s
+    (stored-response a.x a.out.now c.write_signed.new.s c.write.new.s c.pad.new.s (omega (arith, c.if-out-lt7.false))
+    (signed-given a.out.now c.write_signed.new.s 0 48 a.x.argument (record { sfits = c.struct_told-1.given.0.1 }) c.write_signed.ensures)
+    (number-given c.write_signed.new.s c.write.new.s 48 1 a.x.ok (record { sfits = c.struct_told-2-1.given.1.0.1 }) c.write.ensures) c.pad.ensures)

@@ -17,43 +17,28 @@ use Rattle.protocol_param.proofs.get_set_request.decode.Goals as goal
 
 pub returns-then-n-ne0 : goal.returns-then-n-ne0
 returns-then-n-ne0 c =
-    let q = c in
-    refuses request_of (refused-by (decoded request q.args.payload.now) q.refusal-n.result q.refusal-n.ensures c.if-n-ne0.true)
+    refuses request_of (refused-by (decoded request c.args.payload.now) c.refusal-n.result c.refusal-n.ensures c.if-n-ne0.true)
 
 pub read-requires : goal.read-requires
 read-requires c =
-    let f = c in
-    let q = f in
-    let k = q in
-    let p = k.args.payload.now in
-    let o = octets-all p (λ i. omega (arith, k.shared_slice_known-1.given i)) in
-    let g = request-good p o (sym f.if-n-ne0.false ∙ q.refusal-n.ensures) in
+    let p = c.args.payload.now in
+    let o = octets-all p (λ i. omega (arith, c.shared_slice_known-1.given i)) in
+    let g = request-good p o (sym c.if-n-ne0.false ∙ c.refusal-n.ensures) in
     (lit≤ tt, (omega arith, omega (arith, request-there p o g.all)))
 
 pub read-requires-2 : goal.read-requires-2
 read-requires-2 c =
-    let f = c in
-    let q = f in
-    let k = q in
-    let p = k.args.payload.now in
-    let o = octets-all p (λ i. omega (arith, k.shared_slice_known-1.given i)) in
-    let g = request-good p o (sym f.if-n-ne0.false ∙ q.refusal-n.ensures) in
+    let p = c.args.payload.now in
+    let o = octets-all p (λ i. omega (arith, c.shared_slice_known-1.given i)) in
+    let g = request-good p o (sym c.if-n-ne0.false ∙ c.refusal-n.ensures) in
     ((lit≤ tt, lit≤ tt), subst (λ (l : List ℕ). size_at 5 l ≤ length l) (sym c.behind.ensures) g.all.there)
 
 pub returns : goal.returns
 returns c =
-    let na = c in
-    let sv = na in
-    let v = sv in
-    let b = v in
-    let r = b in
-    let f = r in
-    let q = f in
-    let k = q in
-    let p = k.args.payload.now in
-    let o = octets-all p (λ i. omega (arith, k.shared_slice_known-1.given i)) in
-    let g = request-good p o (sym f.if-n-ne0.false ∙ q.refusal-n.ensures) in
+    let p = c.args.payload.now in
+    let o = octets-all p (λ i. omega (arith, c.shared_slice_known-1.given i)) in
+    let g = request-good p o (sym c.if-n-ne0.false ∙ c.refusal-n.ensures) in
     gives request_of
-    (request-made p o g.all _ _ _ _ _ (number_read p 0 13 (lit≤ tt) (omega (arith, request-there p o g.all)) r.read.result r.read.ensures)
-    (v.read-2.ensures ∙ ap (λ (l : List ℕ). value_at 5 l) b.behind.ensures) (ap (λ (l : List ℕ). length l) sv.string_value.ensures) na.name_at.ensures
+    (request-made p o g.all _ _ _ _ _ (number_read p 0 13 (lit≤ tt) (omega (arith, request-there p o g.all)) c.read.result c.read.ensures)
+    (c.read-2.ensures ∙ ap (λ (l : List ℕ). value_at 5 l) c.behind.ensures) (ap (λ (l : List ℕ). length l) c.string_value.ensures) c.name_at.ensures
     (ap (λ (l : List ℕ). length l) c.name.ensures)) g.held

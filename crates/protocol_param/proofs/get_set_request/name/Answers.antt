@@ -7,5 +7,4 @@ use Rattle.protocol_param.proofs.get_set_request.name.Goals as goal
 
 pub returns : goal.returns
 returns c =
-    let n = c in
-    c.behind.ensures ∙ ap (λ (k : ℕ). drop k n.args.payload.now) n.name_at.ensures
+    c.behind.ensures ∙ ap (λ (k : ℕ). drop k c.args.payload.now) c.name_at.ensures

@@ -13,34 +13,21 @@ use Rattle.protocol_param.proofs.get_set_request.refusal.Goals as goal
 
 pub returns-then-n-ne0 : goal.returns-then-n-ne0
 returns-then-n-ne0 c =
-    let q = c in
-    let b = q in
-    let k = b in
-    let p = k.args.payload.now in
-    let o = octets-all p (λ i. omega (arith, k.shared_slice_known-1.given i)) in
-    let e = q.refusal-n.ensures ∙ ap (λ (l : List ℕ). number_of (sized 5 l)) b.behind.ensures in
-    sym (ap number_of (request-stop p o q.refusal-n.result (refused-by (sized 5 (drop 1 p)) q.refusal-n.result e c.if-n-ne0.true)))
+    let p = c.args.payload.now in
+    let o = octets-all p (λ i. omega (arith, c.shared_slice_known-1.given i)) in
+    let e = c.refusal-n.ensures ∙ ap (λ (l : List ℕ). number_of (sized 5 l)) c.behind.ensures in
+    sym (ap number_of (request-stop p o c.refusal-n.result (refused-by (sized 5 (drop 1 p)) c.refusal-n.result e c.if-n-ne0.true)))
 
 pub returns-then-name-gt92 : goal.returns-then-name-gt92
 returns-then-name-gt92 c =
-    let t = c in
-    let f = t in
-    let q = f in
-    let b = q in
-    let k = b in
-    let p = k.args.payload.now in
-    let o = octets-all p (λ i. omega (arith, k.shared_slice_known-1.given i)) in
-    let e = q.refusal-n.ensures ∙ ap (λ (l : List ℕ). number_of (sized 5 l)) b.behind.ensures in
-    sym (ap number_of (request-long p o (value-all 5 (drop 1 p) (sym f.if-n-ne0.false ∙ e)) (omega (arith, ap (λ (l : List ℕ). length l) t.name.ensures, c.if-name-gt92.true))))
+    let p = c.args.payload.now in
+    let o = octets-all p (λ i. omega (arith, c.shared_slice_known-1.given i)) in
+    let e = c.refusal-n.ensures ∙ ap (λ (l : List ℕ). number_of (sized 5 l)) c.behind.ensures in
+    sym (ap number_of (request-long p o (value-all 5 (drop 1 p) (sym c.if-n-ne0.false ∙ e)) (omega (arith, ap (λ (l : List ℕ). length l) c.name.ensures, c.if-name-gt92.true))))
 
 pub returns : goal.returns
 returns c =
-    let t = c in
-    let f = t in
-    let q = f in
-    let b = q in
-    let k = b in
-    let p = k.args.payload.now in
-    let o = octets-all p (λ i. omega (arith, k.shared_slice_known-1.given i)) in
-    let e = q.refusal-n.ensures ∙ ap (λ (l : List ℕ). number_of (sized 5 l)) b.behind.ensures in
-    sym (ap number_of (request-held p o (value-all 5 (drop 1 p) (sym f.if-n-ne0.false ∙ e)) (omega (arith, ap (λ (l : List ℕ). length l) t.name.ensures, c.if-name-gt92.false))))
+    let p = c.args.payload.now in
+    let o = octets-all p (λ i. omega (arith, c.shared_slice_known-1.given i)) in
+    let e = c.refusal-n.ensures ∙ ap (λ (l : List ℕ). number_of (sized 5 l)) c.behind.ensures in
+    sym (ap number_of (request-held p o (value-all 5 (drop 1 p) (sym c.if-n-ne0.false ∙ e)) (omega (arith, ap (λ (l : List ℕ). length l) c.name.ensures, c.if-name-gt92.false))))

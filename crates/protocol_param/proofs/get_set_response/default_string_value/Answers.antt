@@ -9,6 +9,4 @@ use Rattle.protocol_param.proofs.get_set_response.default_string_value.Goals as 
 
 pub returns : goal.returns
 returns c =
-    let b = c in
-    let d = b in
-    c.text.ensures ∙ ap (λ (l : List ℕ). text_in l) (b.behind.ensures ∙ ap (λ (k : ℕ). drop k d.args.payload.now) d.default_at.ensures)
+    c.text.ensures ∙ ap (λ (l : List ℕ). text_in l) (c.behind.ensures ∙ ap (λ (k : ℕ). drop k c.args.payload.now) c.default_at.ensures)

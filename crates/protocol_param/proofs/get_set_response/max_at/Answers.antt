@@ -8,13 +8,9 @@ use Rattle.protocol_param.proofs.get_set_response.max_at.Goals as goal
 
 pub overflow_add-result : goal.overflow_add-result
 overflow_add-result c =
-    let b = c in
-    let d = b in
-    omega (arith, d.default_at-at.ensures, default_lt d.args.payload.now, c.size.ensures, size-at-lt 5 b.behind.result.now)
+    omega (arith, c.default_at-at.ensures, default_lt c.args.payload.now, c.size.ensures, size-at-lt 5 c.behind.result.now)
 
 pub returns : goal.returns
 unfolding max_at
 returns c =
-    let b = c in
-    let d = b in
-    next_place d.args.payload.now 5 _ _ _ _ d.default_at-at.ensures b.behind.ensures c.size.ensures
+    next_place c.args.payload.now 5 _ _ _ _ c.default_at-at.ensures c.behind.ensures c.size.ensures

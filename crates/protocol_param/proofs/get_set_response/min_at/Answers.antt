@@ -8,13 +8,9 @@ use Rattle.protocol_param.proofs.get_set_response.min_at.Goals as goal
 
 pub overflow_add-result : goal.overflow_add-result
 overflow_add-result c =
-    let b = c in
-    let d = b in
-    omega (arith, d.max_at-at.ensures, max-lt d.args.payload.now, c.size.ensures, size-at-lt 3 b.behind.result.now)
+    omega (arith, c.max_at-at.ensures, max-lt c.args.payload.now, c.size.ensures, size-at-lt 3 c.behind.result.now)
 
 pub returns : goal.returns
 unfolding min_at
 returns c =
-    let b = c in
-    let d = b in
-    next_place d.args.payload.now 3 _ _ _ _ d.max_at-at.ensures b.behind.ensures c.size.ensures
+    next_place c.args.payload.now 3 _ _ _ _ c.max_at-at.ensures c.behind.ensures c.size.ensures

@@ -8,13 +8,9 @@ use Rattle.protocol_param.proofs.get_set_response.name_at.Goals as goal
 
 pub overflow_add-result : goal.overflow_add-result
 overflow_add-result c =
-    let b = c in
-    let d = b in
-    omega (arith, d.min_at-at.ensures, min-lt d.args.payload.now, c.size.ensures, size-at-lt 3 b.behind.result.now)
+    omega (arith, c.min_at-at.ensures, min-lt c.args.payload.now, c.size.ensures, size-at-lt 3 c.behind.result.now)
 
 pub returns : goal.returns
 unfolding name_at
 returns c =
-    let b = c in
-    let d = b in
-    next_place d.args.payload.now 3 _ _ _ _ d.min_at-at.ensures b.behind.ensures c.size.ensures
+    next_place c.args.payload.now 3 _ _ _ _ c.min_at-at.ensures c.behind.ensures c.size.ensures

@@ -13,18 +13,14 @@ overflow_sub-w c = omega (arith, c.width-w.ensures, narrow c.args.cases (omega a
 
 pub write-requires : goal.write-requires
 write-requires c =
-    let d = c in
-    let a = d.args in
+    let a = c.args in
     let n = narrow a.cases (omega arith) in
-    (omega (arith, d.width-w.ensures, n), (omega arith, omega (arith, d.width-w.ensures, n, size-some a.v (length a.text.now))))
+    (omega (arith, c.width-w.ensures, n), (omega arith, omega (arith, c.width-w.ensures, n, size-some a.v (length a.text.now))))
 
 pub returns : goal.returns
 returns c =
-    let v = c in
-    let w = v in
-    let d = w in
-    let a = d.args in (
+    let a = c.args in (
       ap (λ (k : ℕ). a.at + k) c.written_size.ensures,
-      padded-stored a.cases (omega arith) a.v a.text.now a.out.now w.write.new.s v.write-2.new.out a.at d.width-w.result
-          d.width-w.ensures (omega (arith, size-some a.v (length a.text.now))) w.write.ensures v.write-2.ensures,
+      padded-stored a.cases (omega arith) a.v a.text.now a.out.now c.write.new.s c.write-2.new.out a.at c.width-w.result
+          c.width-w.ensures (omega (arith, size-some a.v (length a.text.now))) c.write.ensures c.write-2.ensures,
     )

@@ -6,12 +6,10 @@ use Rattle.protocol_param.proofs.value.fits.Goals as goal
 
 pub returns-then-tag_of-ne4 : goal.returns-then-tag_of-ne4
 returns-then-tag_of-ne4 c =
-    let q = c in
-    let a = q.args in
-    fits-other a.v a.text.now (λ e. c.if-tag_of-ne4.true (q.tag_of.ensures ∙ e))
+    let a = c.args in
+    fits-other a.v a.text.now (λ e. c.if-tag_of-ne4.true (c.tag_of.ensures ∙ e))
 
 pub returns : goal.returns
 returns c =
-    let q = c in
-    let a = q.args in
-    fits-text a.v a.text.now (sym q.tag_of.ensures ∙ c.if-tag_of-ne4.false)
+    let a = c.args in
+    fits-text a.v a.text.now (sym c.tag_of.ensures ∙ c.if-tag_of-ne4.false)

@@ -12,36 +12,20 @@ returns-then-s-lt1 c =
 
 pub returns-then-cases-tag : goal.returns-then-cases-tag
 returns-then-cases-tag c =
-    let q = c in
-    let f = q in
-    let a = f.args in
-    sym (ap number_of (sized-tag a.cases a.s.now f.if-s-lt1.false (omega (arith, q.tag.ensures, c.if-cases-tag.true))))
+    let a = c.args in
+    sym (ap number_of (sized-tag a.cases a.s.now c.if-s-lt1.false (omega (arith, c.tag.ensures, c.if-cases-tag.true))))
 
 pub returns-then-s-n : goal.returns-then-s-n
 returns-then-s-n c =
-    let z = c in
-    let g = z in
-    let q = g in
-    let f = q in
-    let a = f.args in
-    sym (ap number_of (sized-cut a.cases a.s.now f.if-s-lt1.false (omega (arith, q.tag.ensures, g.if-cases-tag.false)) (omega (arith, z.size-n.ensures, c.if-s-n.true))))
+    let a = c.args in
+    sym (ap number_of (sized-cut a.cases a.s.now c.if-s-lt1.false (omega (arith, c.tag.ensures, c.if-cases-tag.false)) (omega (arith, c.size-n.ensures, c.if-s-n.true))))
 
 pub returns-then-n-gt130 : goal.returns-then-n-gt130
 returns-then-n-gt130 c =
-    let h = c in
-    let z = h in
-    let g = z in
-    let q = g in
-    let f = q in
-    let a = f.args in
-    sym (ap number_of (sized-long a.cases a.s.now f.if-s-lt1.false (omega (arith, q.tag.ensures, g.if-cases-tag.false)) (omega (arith, z.size-n.ensures, h.if-s-n.false)) (omega (arith, z.size-n.ensures, c.if-n-gt130.true))))
+    let a = c.args in
+    sym (ap number_of (sized-long a.cases a.s.now c.if-s-lt1.false (omega (arith, c.tag.ensures, c.if-cases-tag.false)) (omega (arith, c.size-n.ensures, c.if-s-n.false)) (omega (arith, c.size-n.ensures, c.if-n-gt130.true))))
 
 pub returns : goal.returns
 returns c =
-    let h = c in
-    let z = h in
-    let g = z in
-    let q = g in
-    let f = q in
-    let a = f.args in
-    sym (ap number_of (sized-all a.cases a.s.now f.if-s-lt1.false (omega (arith, q.tag.ensures, g.if-cases-tag.false)) (omega (arith, z.size-n.ensures, h.if-s-n.false)) (omega (arith, z.size-n.ensures, c.if-n-gt130.false))))
+    let a = c.args in
+    sym (ap number_of (sized-all a.cases a.s.now c.if-s-lt1.false (omega (arith, c.tag.ensures, c.if-cases-tag.false)) (omega (arith, c.size-n.ensures, c.if-s-n.false)) (omega (arith, c.size-n.ensures, c.if-n-gt130.false))))

@@ -24,6 +24,5 @@ read-requires c =
 pub returns : goal.returns
 unfolding tag_at
 returns c =
-    let w = c in
-    let s = w.args.s.now in
-    c.read.ensures ∙ ap (λ (k : ℕ). from_bits k (drop (8 - k) (unpack s))) w.width-w.ensures
+    let s = c.args.s.now in
+    c.read.ensures ∙ ap (λ (k : ℕ). from_bits k (drop (8 - k) (unpack s))) c.width-w.ensures

@@ -7,5 +7,4 @@ use Rattle.protocol_param.proofs.value.text.Goals as goal
 
 pub returns : goal.returns
 returns c =
-    let n = c in
-    c.within.ensures ∙ ap (λ (k : ℕ). span n.args.s.now 2 k) n.text_length.ensures
+    c.within.ensures ∙ ap (λ (k : ℕ). span c.args.s.now 2 k) c.text_length.ensures

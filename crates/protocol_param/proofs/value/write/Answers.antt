@@ -11,17 +11,12 @@ overflow_sub-w c = omega (arith, c.width-w.ensures, narrow c.args.cases (omega a
 
 pub write-requires : goal.write-requires
 write-requires c =
-    let d = c in
-    let a = d.args in
+    let a = c.args in
     let n = narrow a.cases (omega arith) in
-    (omega (arith, d.width-w.ensures, n), (omega (arith, d.width-w.ensures, n), omega (arith, d.width-w.ensures, n, size-some a.v (length a.text.now))))
+    (omega (arith, c.width-w.ensures, n), (omega (arith, c.width-w.ensures, n), omega (arith, c.width-w.ensures, n, size-some a.v (length a.text.now))))
 
 pub returns : goal.returns
 returns c =
-    let e = c in
-    let w = e in
-    let t = w in
-    let d = t in
-    let a = d.args in
-    union-stored a.cases (omega arith) a.v a.text.now a.out.now w.write.new.s e.write_content.new.out a.at d.width-w.result t.tag_of.result
-    d.width-w.ensures t.tag_of.ensures (omega (arith, size-some a.v (length a.text.now))) w.write.ensures e.write_content.ensures
+    let a = c.args in
+    union-stored a.cases (omega arith) a.v a.text.now a.out.now c.write.new.s c.write_content.new.out a.at c.width-w.result c.tag_of.result
+    c.width-w.ensures c.tag_of.ensures (omega (arith, size-some a.v (length a.text.now))) c.write.ensures c.write_content.ensures

@@ -10,8 +10,5 @@ write-requires c = (omega (arith, eight, c.width.ensures), (omega arith, omega (
 
 pub returns : goal.returns
 returns c =
-    let b = c in
-    let w = b in
-    let d = w in
-    let a = d.args in
-    text-stored a.text.now a.out.now w.write.new.s b.write_bytes.new.s a.at d.width.result d.width.ensures (omega arith) w.write.ensures b.write_bytes.ensures
+    let a = c.args in
+    text-stored a.text.now a.out.now c.write.new.s c.write_bytes.new.s a.at c.width.result c.width.ensures (omega arith) c.write.ensures c.write_bytes.ensures

@@ -25,48 +25,37 @@ at_place : (m out p : List ℕ) (h : Incoming) {o q : Option ℕ} → o ≡ q �
 at_place m out p h e = ap (λ (x : Option ℕ). lent m out (step_seek x (places_of m) (parsed_of h p))) (sym e)
 
 pub scan-i-requires : goal.scan-i-requires
-scan-i-requires c = let s = c in long s.args.state.now s.requires.sound
+scan-i-requires c = long c.args.state.now c.requires.sound
 
 pub known-requires : goal.known-requires
 known-requires c =
-    let t = c in
-    let n = t in
-    let y = n in
-    let b = y in
-    let s = b in
-    let a = s.args in
+    let a = c.args in
     let m = a.state.now in
-    let q = s.requires in
+    let q = c.requires in
     let d = stream_of a.f in
-    let f : y.key-k.result ≡ key_of d = y.key-k.ensures in
-    let o = octets-all m (λ i. omega (arith, b.slice_known-1.given i)) in
-    let z : y.key-k.result ≡ 0 → ⊥ = λ e. key-some d q.named (sym f ∙ e) in
-    let w : y.key-k.result < 4294967296 = omega (arith, f, key-word d q.transfer_type q.type q.source q.destination) in
-    let g : stream_of_key y.key-k.result ≡ d = ap stream_of_key f ∙ head-key d q.transfer_type q.type q.source q.destination in
-    (q, (t.if-i-lt-SESSIONS.true, (f, key-found m o (long m q.sound) d y.key-k.result z w g n.scan-i.result n.scan-i.ensures t.if-i-lt-SESSIONS.true)))
+    let f : c.key-k.result ≡ key_of d = c.key-k.ensures in
+    let o = octets-all m (λ i. omega (arith, c.slice_known-1.given i)) in
+    let z : c.key-k.result ≡ 0 → ⊥ = λ e. key-some d q.named (sym f ∙ e) in
+    let w : c.key-k.result < 4294967296 = omega (arith, f, key-word d q.transfer_type q.type q.source q.destination) in
+    let g : stream_of_key c.key-k.result ≡ d = ap stream_of_key f ∙ head-key d q.transfer_type q.type q.source q.destination in
+    (q, (c.if-i-lt-SESSIONS.true, (f, key-found m o (long m q.sound) d c.key-k.result z w g c.scan-i.result c.scan-i.ensures c.if-i-lt-SESSIONS.true)))
 
 pub returns-then-i-lt-SESSIONS : goal.returns-then-i-lt-SESSIONS
 unfolding step_seek parsed_of
 returns-then-i-lt-SESSIONS c =
-    let k = c in
-    let t = k in
-    let n = t in
-    let y = n in
-    let b = y in
-    let s = b in
-    let a = s.args in
+    let a = c.args in
     let m = a.state.now in
-    let q = s.requires in
+    let q = c.requires in
     let d = stream_of a.f in
-    let f : y.key-k.result ≡ key_of d = y.key-k.ensures in
-    let o = octets-all m (λ i. omega (arith, b.slice_known-1.given i)) in
-    let z : y.key-k.result ≡ 0 → ⊥ = λ e. key-some d q.named (sym f ∙ e) in
-    let w : y.key-k.result < 4294967296 = omega (arith, f, key-word d q.transfer_type q.type q.source q.destination) in
-    let g : stream_of_key y.key-k.result ≡ d = ap stream_of_key f ∙ head-key d q.transfer_type q.type q.source q.destination in
+    let f : c.key-k.result ≡ key_of d = c.key-k.ensures in
+    let o = octets-all m (λ i. omega (arith, c.slice_known-1.given i)) in
+    let z : c.key-k.result ≡ 0 → ⊥ = λ e. key-some d q.named (sym f ∙ e) in
+    let w : c.key-k.result < 4294967296 = omega (arith, f, key-word d q.transfer_type q.type q.source q.destination) in
+    let g : stream_of_key c.key-k.result ≡ d = ap stream_of_key f ∙ head-key d q.transfer_type q.type q.source q.destination in
     let v = parsed_of a.f a.p.now in
-    let i = n.scan-i.result in
-    k.known.ensures ∙ ap (λ (x : Place). lent m a.out.now (step_held (places_of m) i x v)) (sym (table.place_of m i t.if-i-lt-SESSIONS.true))
-    ∙ at_place m a.out.now a.p.now a.f (place_of m o (long m q.sound) d y.key-k.result z w g i n.scan-i.ensures t.if-i-lt-SESSIONS.true)
+    let i = c.scan-i.result in
+    c.known.ensures ∙ ap (λ (x : Place). lent m a.out.now (step_held (places_of m) i x v)) (sym (table.place_of m i c.if-i-lt-SESSIONS.true))
+    ∙ at_place m a.out.now a.p.now a.f (place_of m o (long m q.sound) d c.key-k.result z w g i c.scan-i.ensures c.if-i-lt-SESSIONS.true)
 
 pub unknown-requires : goal.unknown-requires
 unknown-requires c = (c.requires, (c.key-k.ensures, c.if-f.true))
@@ -74,9 +63,7 @@ unknown-requires c = (c.requires, (c.key-k.ensures, c.if-f.true))
 pub returns-then-f : goal.returns-then-f
 unfolding step_seek step_start parsed_of
 returns-then-f c =
-    let u = c in
-    let t = u in
-    let e = t in
+    let e = c in
     let n = e in
     let y = n in
     let b = y in
@@ -91,7 +78,7 @@ returns-then-f c =
     let w : y.key-k.result < 4294967296 = omega (arith, f, key-word d q.transfer_type q.type q.source q.destination) in
     let g : stream_of_key y.key-k.result ≡ d = ap stream_of_key f ∙ head-key d q.transfer_type q.type q.source q.destination in
     let v = parsed_of a.f a.p.now in
-    u.unknown.ensures ∙ ap (λ (x : Bool). lent m a.out.now (step_start x (places_of m) v)) (sym t.if-f.true)
+    c.unknown.ensures ∙ ap (λ (x : Bool). lent m a.out.now (step_start x (places_of m) v)) (sym c.if-f.true)
     ∙ at_place m a.out.now a.p.now a.f (no-place-of m o (long m q.sound) d y.key-k.result z w g n.scan-i.result n.scan-i.ensures e.if-i-lt-SESSIONS.false)
 
 pub returns : goal.returns

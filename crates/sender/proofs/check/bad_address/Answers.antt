@@ -13,12 +13,10 @@ returns-then-type_id-gt255 c = let a = c.args in rw (ne_eqb a.transfer-type 0 c.
 
 pub returns-then-destination-eq0 : goal.returns-then-destination-eq0
 returns-then-destination-eq0 c =
-    let e = c in
-    let a = e.args in
-    rw (ne_eqb a.transfer-type 0 e.if-transfer_type-eq0.false, le-ltb 255 a.type-id c.if-type_id-gt255.false, eq-eqb a.destination 0 c.if-destination-eq0.true)
+    let a = c.args in
+    rw (ne_eqb a.transfer-type 0 c.if-transfer_type-eq0.false, le-ltb 255 a.type-id c.if-type_id-gt255.false, eq-eqb a.destination 0 c.if-destination-eq0.true)
 
 pub returns : goal.returns
 returns c =
-    let e = c in
-    let a = e.args in
-    rw (ne_eqb a.transfer-type 0 e.if-transfer_type-eq0.false, le-ltb 255 a.type-id c.if-type_id-gt255.false, ne_eqb a.destination 0 c.if-destination-eq0.false)
+    let a = c.args in
+    rw (ne_eqb a.transfer-type 0 c.if-transfer_type-eq0.false, le-ltb 255 a.type-id c.if-type_id-gt255.false, ne_eqb a.destination 0 c.if-destination-eq0.false)

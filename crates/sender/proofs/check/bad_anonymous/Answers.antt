@@ -13,12 +13,10 @@ returns-then-type_id-gt3 c = let a = c.args in rw (le-ltb 16383 a.discriminator 
 
 pub returns-then-n-gt7 : goal.returns-then-n-gt7
 returns-then-n-gt7 c =
-    let e = c in
-    let a = e.args in
-    rw (le-ltb 16383 a.discriminator e.if-discriminator-gt16383.false, le-ltb 3 a.type-id c.if-type_id-gt3.false, lt-ltb 7 a.n c.if-n-gt7.true)
+    let a = c.args in
+    rw (le-ltb 16383 a.discriminator c.if-discriminator-gt16383.false, le-ltb 3 a.type-id c.if-type_id-gt3.false, lt-ltb 7 a.n c.if-n-gt7.true)
 
 pub returns : goal.returns
 returns c =
-    let e = c in
-    let a = e.args in
-    rw (le-ltb 16383 a.discriminator e.if-discriminator-gt16383.false, le-ltb 3 a.type-id c.if-type_id-gt3.false, le-ltb 7 a.n c.if-n-gt7.false) (sym (or-false (not (eqb a.transfer-type 0))))
+    let a = c.args in
+    rw (le-ltb 16383 a.discriminator c.if-discriminator-gt16383.false, le-ltb 3 a.type-id c.if-type_id-gt3.false, le-ltb 7 a.n c.if-n-gt7.false) (sym (or-false (not (eqb a.transfer-type 0))))

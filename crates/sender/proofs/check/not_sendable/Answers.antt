@@ -12,51 +12,31 @@ returns-then-c-gt127 c =
 
 pub returns-then-c-gt2 : goal.returns-then-c-gt2
 returns-then-c-gt2 c =
-    let e = c in
-    let a = e.args in
-    over-kind (call_of a.c a.payload.now) e.if-c-gt127.false c.if-c-gt2.true
+    let a = c.args in
+    over-kind (call_of a.c a.payload.now) c.if-c-gt127.false c.if-c-gt2.true
 
 pub returns-then-bad_address : goal.returns-then-bad_address
 returns-then-bad_address c =
-    let k = c in
-    let e = k in
-    let a = e.args in
-    off-aim (call_of a.c a.payload.now) e.if-c-gt127.false k.if-c-gt2.false (sym c.bad_address.ensures ∙ c.if-bad_address.true)
+    let a = c.args in
+    off-aim (call_of a.c a.payload.now) c.if-c-gt127.false c.if-c-gt2.false (sym c.bad_address.ensures ∙ c.if-bad_address.true)
 
 pub returns-then-c-gt31 : goal.returns-then-c-gt31
 returns-then-c-gt31 c =
-    let s = c in
-    let k = s in
-    let e = k in
-    let a = e.args in
-    over-priority (call_of a.c a.payload.now) e.if-c-gt127.false k.if-c-gt2.false (sym s.bad_address.ensures ∙ s.if-bad_address.false) c.if-c-gt31.true
+    let a = c.args in
+    over-priority (call_of a.c a.payload.now) c.if-c-gt127.false c.if-c-gt2.false (sym c.bad_address.ensures ∙ c.if-bad_address.false) c.if-c-gt31.true
 
 pub returns-then-bad_transfer_id : goal.returns-then-bad_transfer_id
 returns-then-bad_transfer_id c =
-    let p = c in
-    let s = p in
-    let k = s in
-    let e = k in
-    let a = e.args in
-    over-transfer (call_of a.c a.payload.now) e.if-c-gt127.false k.if-c-gt2.false (sym s.bad_address.ensures ∙ s.if-bad_address.false) p.if-c-gt31.false (sym c.bad_transfer_id.ensures ∙ c.if-bad_transfer_id.true)
+    let a = c.args in
+    over-transfer (call_of a.c a.payload.now) c.if-c-gt127.false c.if-c-gt2.false (sym c.bad_address.ensures ∙ c.if-bad_address.false) c.if-c-gt31.false (sym c.bad_transfer_id.ensures ∙ c.if-bad_transfer_id.true)
 
 pub returns-then-c-eq0 : goal.returns-then-c-eq0
 returns-then-c-eq0 c =
-    let n = c in
-    let p = n in
-    let s = p in
-    let k = s in
-    let e = k in
-    let a = e.args in
+    let a = c.args in
     c.bad_anonymous.ensures
-    ∙ unnamed (call_of a.c a.payload.now) e.if-c-gt127.false k.if-c-gt2.false (sym s.bad_address.ensures ∙ s.if-bad_address.false) p.if-c-gt31.false (sym n.bad_transfer_id.ensures ∙ n.if-bad_transfer_id.false) c.if-c-eq0.true
+    ∙ unnamed (call_of a.c a.payload.now) c.if-c-gt127.false c.if-c-gt2.false (sym c.bad_address.ensures ∙ c.if-bad_address.false) c.if-c-gt31.false (sym c.bad_transfer_id.ensures ∙ c.if-bad_transfer_id.false) c.if-c-eq0.true
 
 pub returns : goal.returns
 returns c =
-    let n = c in
-    let p = n in
-    let s = p in
-    let k = s in
-    let e = k in
-    let a = e.args in
-    named (call_of a.c a.payload.now) e.if-c-gt127.false k.if-c-gt2.false (sym s.bad_address.ensures ∙ s.if-bad_address.false) p.if-c-gt31.false (sym n.bad_transfer_id.ensures ∙ n.if-bad_transfer_id.false) c.if-c-eq0.false
+    let a = c.args in
+    named (call_of a.c a.payload.now) c.if-c-gt127.false c.if-c-gt2.false (sym c.bad_address.ensures ∙ c.if-bad_address.false) c.if-c-gt31.false (sym c.bad_transfer_id.ensures ∙ c.if-bad_transfer_id.false) c.if-c-eq0.false

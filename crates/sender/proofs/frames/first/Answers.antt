@@ -26,8 +26,5 @@ overflow_add-word-2 c = omega (arith, fits_word c)
 
 pub returns : goal.returns
 returns c =
-    let p = c in
-    let w = p in
-    let k = w in
-    let a = k.args in
-    first-is a.payload.now a.sum a.tail w.word.result (octets-all a.payload.now (λ i. omega (arith, k.shared_slice_known-1.given i))) (omega arith) (omega arith) (omega arith) w.word.ensures a.out.now p.put.new.out a.id p.put.ensures
+    let a = c.args in
+    first-is a.payload.now a.sum a.tail c.word.result (octets-all a.payload.now (λ i. omega (arith, c.shared_slice_known-1.given i))) (omega arith) (omega arith) (omega arith) c.word.ensures a.out.now c.put.new.out a.id c.put.ensures

@@ -73,10 +73,8 @@ overflow_add-result-then-c-eq0-2-2 c = omega (arith, message c)
 pub returns-then-c-eq0-2 : goal.returns-then-c-eq0-2
 unfolding id_of
 returns-then-c-eq0-2 c =
-    let t = c in
-    let e = t in
-    let o = e.args.c in
-    rw (ne_eqb o.own 0 e.if-c-eq0.false, eq-eqb o.transfer_type 0 t.if-c-eq0-2.true)
+    let o = c.args.c in
+    rw (ne_eqb o.own 0 c.if-c-eq0.false, eq-eqb o.transfer_type 0 c.if-c-eq0-2.true)
 
 pub overflow_mul-result-2 : goal.overflow_mul-result-2
 overflow_mul-result-2 c = omega (arith, service c)
@@ -105,7 +103,5 @@ overflow_add-result-6 c = let b = byte_le (eqb c.args.c.transfer_type 1) in omeg
 pub returns : goal.returns
 unfolding id_of
 returns c =
-    let t = c in
-    let e = t in
-    let o = e.args.c in
-    rw (ne_eqb o.own 0 e.if-c-eq0.false, ne_eqb o.transfer_type 0 t.if-c-eq0-2.false, byte_flag (eqb o.transfer_type 1))
+    let o = c.args.c in
+    rw (ne_eqb o.own 0 c.if-c-eq0.false, ne_eqb o.transfer_type 0 c.if-c-eq0-2.false, byte_flag (eqb o.transfer_type 1))

@@ -7,18 +7,10 @@ use Rattle.sender.proofs.frames.next.Goals as goal
 
 pub returns-then-left-le-FRAME_PAYLOAD : goal.returns-then-left-le-FRAME_PAYLOAD
 returns-then-left-le-FRAME_PAYLOAD c =
-    let p = c in
-    let w = p in
-    let t = w in
-    let k = t in
-    let a = k.args in
-    next_last a.out.now p.put.new.out a.unsent.now a.at a.id a.tail w.word.result (octets-all a.unsent.now (λ i. omega (arith, k.shared_slice_known-1.given i))) (omega arith) t.if-left-le-FRAME_PAYLOAD.true w.word.ensures p.put.ensures
+    let a = c.args in
+    next_last a.out.now c.put.new.out a.unsent.now a.at a.id a.tail c.word.result (octets-all a.unsent.now (λ i. omega (arith, c.shared_slice_known-1.given i))) (omega arith) c.if-left-le-FRAME_PAYLOAD.true c.word.ensures c.put.ensures
 
 pub returns : goal.returns
 returns c =
-    let p = c in
-    let w = p in
-    let t = w in
-    let k = t in
-    let a = k.args in
-    next-full a.out.now p.put-2.new.out a.unsent.now a.at a.id a.tail w.word-2.result (octets-all a.unsent.now (λ i. omega (arith, k.shared_slice_known-1.given i))) (omega arith) t.if-left-le-FRAME_PAYLOAD.false w.word-2.ensures p.put-2.ensures
+    let a = c.args in
+    next-full a.out.now c.put-2.new.out a.unsent.now a.at a.id a.tail c.word-2.result (octets-all a.unsent.now (λ i. omega (arith, c.shared_slice_known-1.given i))) (omega arith) c.if-left-le-FRAME_PAYLOAD.false c.word-2.ensures c.put-2.ensures

@@ -48,12 +48,11 @@ overflow_add-toggle c = let b = byte_le c.loop-k.toggle in omega arith
 
 pub next-requires : goal.next-requires
 next-requires c =
-    let l = c in
-    let b = byte_le l.loop-k.toggle in
-    let a = l.args in
-    let i = l.loop-k.invariant in
-    let r : l.loop-k.at + 13 ≤ length l.loop-k.out =
-    room (length a.payload.now) l.loop-k.k l.loop-k.at (length l.loop-k.out) (omega arith) i.0 i.1.0 (omega arith) in
+    let b = byte_le c.loop-k.toggle in
+    let a = c.args in
+    let i = c.loop-k.invariant in
+    let r : c.loop-k.at + 13 ≤ length c.loop-k.out =
+    room (length a.payload.now) c.loop-k.k c.loop-k.at (length c.loop-k.out) (omega arith) i.0 i.1.0 (omega arith) in
     (r, omega arith)
 
 pub overflow_add-k : goal.overflow_add-k
@@ -67,20 +66,18 @@ loop-k-smaller c = omega arith
 
 pub loop-k-preserved : goal.loop-k-preserved
 loop-k-preserved c =
-    let n = c in
-    let l = n in
-    let a = l.args in
-    let i = l.loop-k.invariant in
-    let r : l.loop-k.at + 13 ≤ length l.loop-k.out =
-    room (length a.payload.now) l.loop-k.k l.loop-k.at (length l.loop-k.out) (omega arith) i.0 i.1.0 (omega arith) in (
+    let a = c.args in
+    let i = c.loop-k.invariant in
+    let r : c.loop-k.at + 13 ≤ length c.loop-k.out =
+    room (length a.payload.now) c.loop-k.k c.loop-k.at (length c.loop-k.out) (omega arith) i.0 i.1.0 (omega arith) in (
       omega arith,
       (
         omega arith,
         (
           omega arith,
           (
-            n.next.auto.0 ∙ i.1.1.1.0,
-            others-turn l.loop-k.out n.next.new.out a.payload.now a.id a.transfer l.loop-k.k l.loop-k.at l.loop-k.toggle (omega arith) r n.next.ensures
+            c.next.auto.0 ∙ i.1.1.1.0,
+            others-turn c.loop-k.out c.next.new.out a.payload.now a.id a.transfer c.loop-k.k c.loop-k.at c.loop-k.toggle (omega arith) r c.next.ensures
                 ∙ i.1.1.1.1,
           ),
         ),
@@ -92,7 +89,6 @@ shape_of-out c = c.loop-k.invariant.1.1.1.0
 
 pub returns : goal.returns
 returns c =
-    let l = c in
-    let a = l.args in
-    written l.loop-k.out _ a.payload.now a.id a.transfer l.loop-k.k l.loop-k.at l.loop-k.toggle (omega arith) l.loop-k.invariant.1.1.1.1
+    let a = c.args in
+    written c.loop-k.out _ a.payload.now a.id a.transfer c.loop-k.k c.loop-k.at c.loop-k.toggle (omega arith) c.loop-k.invariant.1.1.1.1
     ∙ ap (λ x. splice a.out.now 13 (records_of a.id x)) (others-are a.transfer a.payload.now (omega arith))

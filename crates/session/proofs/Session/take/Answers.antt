@@ -7,6 +7,5 @@ use Rattle.session.proofs.Session.take.Goals as goal
 
 pub returns : goal.returns
 returns c =
-    let q = c in
-    let a = q.args in
-    ap (λ (t : ℕ). record { expected = a.self.expected; toggle = not a.self.toggle; time = t; follows = a.self.follows; len = a.self.len + a.n }) q.started-since.ensures
+    let a = c.args in
+    ap (λ (t : ℕ). record { expected = a.self.expected; toggle = not a.self.toggle; time = t; follows = a.self.follows; len = a.self.len + a.n }) c.started-since.ensures

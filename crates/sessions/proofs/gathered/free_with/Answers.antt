@@ -50,12 +50,10 @@ pub loop-j-preserved : goal.loop-j-preserved
 loop-j-preserved c =
     let a = c.args in
     let p = c.requires in
-    let l = c in
-    (omega arith, c.include-all.ensures ∙ one_more a.state.now (block_lists_at + a.i * 9) l.loop-j.j (free_of a.state.now) l.loop-j.all (omega (arith, p.0, p.1.0)) l.loop-j.invariant.1)
+    (omega arith, c.include-all.ensures ∙ one_more a.state.now (block_lists_at + a.i * 9) c.loop-j.j (free_of a.state.now) c.loop-j.all (omega (arith, p.0, p.1.0)) c.loop-j.invariant.1)
 
 pub returns : goal.returns
 returns c =
     let a = c.args in
-    let l = c in
-    let e : l.loop-j.j ≡ a.n = omega arith in
-    l.loop-j.invariant.1 ∙ ap (λ (j : ℕ). including_all (free_of a.state.now) (span a.state.now (block_lists_at + a.i * 9) j)) e
+    let e : c.loop-j.j ≡ a.n = omega arith in
+    c.loop-j.invariant.1 ∙ ap (λ (j : ℕ). including_all (free_of a.state.now) (span a.state.now (block_lists_at + a.i * 9) j)) e

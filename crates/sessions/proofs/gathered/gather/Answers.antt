@@ -67,9 +67,7 @@ pub loop-j-preserved : goal.loop-j-preserved
 loop-j-preserved c =
     let a = c.args in
     let p = c.requires in
-    let l = c in
-    let k = c in
-    let more = gather-more a.state.now (block_lists_at + a.i * 9) a.n l.loop-j.j a.all.now l.loop-j.all _ k.chunk.result p.0.1 (omega (arith, p.0, p.1.0)) p.1.1 (omega (arith, p.1.0)) c.loop-j-test.true k.chunk.ensures l.loop-j.invariant.1.1 c.copy_span.ensures in
+    let more = gather-more a.state.now (block_lists_at + a.i * 9) a.n c.loop-j.j a.all.now c.loop-j.all _ c.chunk.result p.0.1 (omega (arith, p.0, p.1.0)) p.1.1 (omega (arith, p.1.0)) c.loop-j-test.true c.chunk.ensures c.loop-j.invariant.1.1 c.copy_span.ensures in
     (omega arith, (more.0 ∙ refl, more.1))
 
 pub shape_of-all : goal.shape_of-all
@@ -78,6 +76,5 @@ shape_of-all c = c.loop-j.invariant.1.0
 pub returns : goal.returns
 returns c =
     let a = c.args in
-    let l = c in
-    let e : l.loop-j.j ≡ need a.n = omega (arith, l.loop-j.invariant.0) in
-    l.loop-j.invariant.1.1 ∙ ap (λ (j : ℕ). splice a.all.now 0 (take a.n (joined a.state.now (span a.state.now (block_lists_at + a.i * 9) j)))) e
+    let e : c.loop-j.j ≡ need a.n = omega (arith, c.loop-j.invariant.0) in
+    c.loop-j.invariant.1.1 ∙ ap (λ (j : ℕ). splice a.all.now 0 (take a.n (joined a.state.now (span a.state.now (block_lists_at + a.i * 9) j)))) e

@@ -8,9 +8,7 @@ use Rattle.sessions.proofs.place.load.Goals as goal
 pub returns : goal.returns
 unfolding count_at
 returns c =
-    let t = c in
-    let g = t in
-    let a = g.args in
+    let a = c.args in
     let m = a.state.now in
     let f = fields m a.i (omega arith) (omega arith) in
-    loaded m a.i _ _ _ _ f.0 f.1 t.time-since.ensures g.count-len.ensures
+    loaded m a.i _ _ _ _ f.0 f.1 c.time-since.ensures c.count-len.ensures

@@ -24,8 +24,7 @@ overflow_add-word-2 c = omega (arith, flags-lt c, c.requires.1.1.0, c.requires.1
 
 pub returns : goal.returns
 returns c =
-    let f = c in
-    let a = f.args in
-    let p = f.requires in
-    codes a.state.now _ _ a.i a.c a.c.expected f.flags.result refl f.flags.ensures (omega (arith, p.1.0)) (omega (arith, p.1.1.0)) (omega (arith, flags-lt f))
+    let a = c.args in
+    let p = c.requires in
+    codes a.state.now _ _ a.i a.c a.c.expected c.flags.result refl c.flags.ensures (omega (arith, p.1.0)) (omega (arith, p.1.1.0)) (omega (arith, flags-lt c))
     c.put_u32.ensures c.put_u64.ensures

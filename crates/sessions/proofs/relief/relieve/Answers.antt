@@ -21,10 +21,9 @@ loop-i-init c =
 
 pub relieve_one-requires : goal.relieve_one-requires
 relieve_one-requires c =
-    let l = c in
     let a = c.args in
     let o = octets-all a.state.now (λ i. omega (arith, c.slice_known-1.given i)) in
-    (eased-ready a.state.now c.requires o a.t l.loop-i.i l.loop-i.invariant.0 l.loop-i.state l.loop-i.invariant.1.1, omega arith)
+    (eased-ready a.state.now c.requires o a.t c.loop-i.i c.loop-i.invariant.0 c.loop-i.state c.loop-i.invariant.1.1, omega arith)
 
 pub overflow_add-i : goal.overflow_add-i
 overflow_add-i c = omega arith
@@ -34,13 +33,12 @@ loop-i-smaller c = omega arith
 
 pub loop-i-preserved : goal.loop-i-preserved
 loop-i-preserved c =
-    let l = c in
     let a = c.args in
     let o = octets-all a.state.now (λ i. omega (arith, c.slice_known-1.given i)) in (
       omega arith,
       (
-        c.relieve_one.auto.0 ∙ l.loop-i.invariant.1.0,
-        rw add-one (c.relieve_one.ensures ∙ one_more a.state.now c.requires o a.t l.loop-i.i (omega arith) l.loop-i.state l.loop-i.invariant.1.1),
+        c.relieve_one.auto.0 ∙ c.loop-i.invariant.1.0,
+        rw add-one (c.relieve_one.ensures ∙ one_more a.state.now c.requires o a.t c.loop-i.i (omega arith) c.loop-i.state c.loop-i.invariant.1.1),
       ),
     )
 
@@ -49,8 +47,7 @@ shape_of-state c = c.loop-i.invariant.1.0
 
 pub returns : goal.returns
 returns c =
-    let l = c in
     let a = c.args in
     let o = octets-all a.state.now (λ i. omega (arith, c.slice_known-1.given i)) in
-    let e : l.loop-i.i ≡ sessions_max = omega arith in
-    eased-whole a.state.now c.requires o a.t l.loop-i.state (l.loop-i.invariant.1.1 ∙ ap (λ (n : ℕ). written a.state.now (eased_to a.t n (places_of a.state.now))) e)
+    let e : c.loop-i.i ≡ sessions_max = omega arith in
+    eased-whole a.state.now c.requires o a.t c.loop-i.state (c.loop-i.invariant.1.1 ∙ ap (λ (n : ℕ). written a.state.now (eased_to a.t n (places_of a.state.now))) e)

@@ -24,14 +24,12 @@ returns-then-key-eq0 c = let s = c.args in unheld s.state.now s.t s.i (sym c.key
 
 pub returns-then-since-t : goal.returns-then-since-t
 returns-then-since-t c =
-    let k = c in
-    let s = k.args in
-    by-age s.state.now s.t s.i (λ e. c.if-key-eq0.false (k.key.ensures ∙ e)) c.time-since.result c.time-since.ensures
+    let s = c.args in
+    by-age s.state.now s.t s.i (λ e. c.if-key-eq0.false (c.key.ensures ∙ e)) c.time-since.result c.time-since.ensures
 
 pub returns : goal.returns
 returns c =
-    let k = c in
-    let s = k.args in
+    let s = c.args in
     let z : s.t - c.time-since.result ≤ old_age = omega arith in
     sym (le-ltb old_age (s.t - c.time-since.result) z)
-    ∙ by-age s.state.now s.t s.i (λ e. c.if-key-eq0.false (k.key.ensures ∙ e)) c.time-since.result c.time-since.ensures
+    ∙ by-age s.state.now s.t s.i (λ e. c.if-key-eq0.false (c.key.ensures ∙ e)) c.time-since.result c.time-since.ensures

@@ -17,9 +17,8 @@ is_old-requires c = omega arith
 
 pub returns-then-is_old : goal.returns-then-is_old
 returns-then-is_old c =
-    let l = c in
-    let a = l.args in
-    sym (hit (old_at a.state.now a.t) l.loop-i.i sessions_max (omega arith) (sym c.is_old.ensures ∙ c.if-is_old.true)) ∙ l.loop-i.invariant.1
+    let a = c.args in
+    sym (hit (old_at a.state.now a.t) c.loop-i.i sessions_max (omega arith) (sym c.is_old.ensures ∙ c.if-is_old.true)) ∙ c.loop-i.invariant.1
 
 pub overflow_add-i : goal.overflow_add-i
 overflow_add-i c = omega arith
@@ -29,14 +28,12 @@ loop-i-smaller c = omega arith
 
 pub loop-i-preserved : goal.loop-i-preserved
 loop-i-preserved c =
-    let l = c in
-    let a = l.args in (
+    let a = c.args in (
       omega arith,
-      rw add-one (sym (miss (old_at a.state.now a.t) l.loop-i.i sessions_max (omega arith) (sym c.is_old.ensures ∙ c.if-is_old.false)) ∙ l.loop-i.invariant.1),
+      rw add-one (sym (miss (old_at a.state.now a.t) c.loop-i.i sessions_max (omega arith) (sym c.is_old.ensures ∙ c.if-is_old.false)) ∙ c.loop-i.invariant.1),
     )
 
 pub returns : goal.returns
 returns c =
-    let l = c in
-    let a = l.args in
-    sym (none (old_at a.state.now a.t) l.loop-i.i sessions_max (omega arith)) ∙ l.loop-i.invariant.1
+    let a = c.args in
+    sym (none (old_at a.state.now a.t) c.loop-i.i sessions_max (omega arith)) ∙ c.loop-i.invariant.1

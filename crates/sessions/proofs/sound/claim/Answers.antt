@@ -40,19 +40,15 @@ loop-j-smaller c = omega arith
 pub loop-j-preserved : goal.loop-j-preserved
 loop-j-preserved c =
     let a = c.args in
-    let l = c in
-    let q = c in
-    (omega arith, claim-more a.state.now (block_lists_at + a.i * 9) l.loop-j.j a.seen l.loop-j.all _ (omega arith) l.loop-j.invariant.1 (sym q.is_new.ensures ∙ c.if-is_new.true) c.include-all.ensures)
+    (omega arith, claim-more a.state.now (block_lists_at + a.i * 9) c.loop-j.j a.seen c.loop-j.all _ (omega arith) c.loop-j.invariant.1 (sym c.is_new.ensures ∙ c.if-is_new.true) c.include-all.ensures)
 
 pub returns-else-is_new : goal.returns-else-is_new
 returns-else-is_new c =
     let a = c.args in
-    let l = c in
-    claim-fault a.state.now (block_lists_at + a.i * 9) l.loop-j.j a.n a.seen l.loop-j.all (omega arith) (omega arith) l.loop-j.invariant.1 (sym c.is_new.ensures ∙ c.if-is_new.false)
+    claim-fault a.state.now (block_lists_at + a.i * 9) c.loop-j.j a.n a.seen c.loop-j.all (omega arith) (omega arith) c.loop-j.invariant.1 (sym c.is_new.ensures ∙ c.if-is_new.false)
 
 pub returns : goal.returns
 returns c =
     let a = c.args in
-    let l = c in
-    let e : l.loop-j.j ≡ a.n = omega arith in
-    sym (ap told (ap (λ (j : ℕ). claimed a.seen (span a.state.now (block_lists_at + a.i * 9) j)) (sym e) ∙ l.loop-j.invariant.1))
+    let e : c.loop-j.j ≡ a.n = omega arith in
+    sym (ap told (ap (λ (j : ℕ). claimed a.seen (span a.state.now (block_lists_at + a.i * 9) j)) (sym e) ∙ c.loop-j.invariant.1))

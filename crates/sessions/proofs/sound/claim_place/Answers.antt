@@ -5,7 +5,7 @@ use borrow.Author.Rules.{rules}
 use Rattle.sessions.proofs.sound.claim_place.Goals as goal
 
 pub returns-then-k-eq0 : goal.returns-then-k-eq0
-returns-then-k-eq0 c = let s = c in none-claimed s.args.state.now s.args.i s.args.k s.args.seen s.requires.1 c.if-k-eq0.true
+returns-then-k-eq0 c = none-claimed c.args.state.now c.args.i c.args.k c.args.seen c.requires.1 c.if-k-eq0.true
 
 pub claim_session-requires : goal.claim_session-requires
 claim_session-requires c = c.requires.0
@@ -18,5 +18,4 @@ returns-then-stream_fits c =
 
 pub returns : goal.returns
 returns c =
-    let s = c in
-    no_stream s.args.state.now s.args.i s.args.k s.args.seen s.requires.1 c.if-k-eq0.false (sym c.stream_fits.ensures ∙ c.if-stream_fits.false)
+    no_stream c.args.state.now c.args.i c.args.k c.args.seen c.requires.1 c.if-k-eq0.false (sym c.stream_fits.ensures ∙ c.if-stream_fits.false)

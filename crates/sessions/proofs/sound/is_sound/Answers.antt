@@ -58,7 +58,7 @@ pub overflow_cast-state : goal.overflow_cast-state
 overflow_cast-state c = omega (arith, c.shared_slice_known-3-1.given subscription_count_at)
 
 pub returns-then-state-gt-SUBSCRIPTIONS : goal.returns-then-state-gt-SUBSCRIPTIONS
-returns-then-state-gt-SUBSCRIPTIONS c = let e = c in too_many _ e.if-state-lt-SIZE.false e.if-state-gt127.false c.if-state-gt-SUBSCRIPTIONS.true
+returns-then-state-gt-SUBSCRIPTIONS c = too_many _ c.if-state-lt-SIZE.false c.if-state-gt127.false c.if-state-gt-SUBSCRIPTIONS.true
 
 pub places_sound-requires : goal.places_sound-requires
 unfolding key_at
@@ -67,20 +67,13 @@ places_sound-requires c = (omega arith, c.load.ensures)
 pub returns-then-all_fit : goal.returns-then-all_fit
 unfolding key_at
 returns-then-all_fit c =
-    let d = c in
-    let a = d in
-    let e = a in
-    let o = e in
-    let m = o.args.state.now in
-    let bytes = octets-all m (λ i. omega (arith, o.shared_slice_known-1.given i)) in
-    c.places_sound.ensures ∙ ap (λ x. (every (empty_or_fits m) 0 sessions_max && distinct x) && shares m) d.load.ensures
-    ∙ tested m o.if-state-lt-SIZE.false e.if-state-gt127.false a.if-state-gt-SUBSCRIPTIONS.false true (sym a.all_fit.ensures ∙ d.if-all_fit.true) bytes
+    let m = c.args.state.now in
+    let bytes = octets-all m (λ i. omega (arith, c.shared_slice_known-1.given i)) in
+    c.places_sound.ensures ∙ ap (λ x. (every (empty_or_fits m) 0 sessions_max && distinct x) && shares m) c.load.ensures
+    ∙ tested m c.if-state-lt-SIZE.false c.if-state-gt127.false c.if-state-gt-SUBSCRIPTIONS.false true (sym c.all_fit.ensures ∙ c.if-all_fit.true) bytes
 
 pub returns : goal.returns
 returns c =
-    let a = c in
-    let e = a in
-    let o = e in
-    let m = o.args.state.now in
-    let bytes = octets-all m (λ i. omega (arith, o.shared_slice_known-1.given i)) in
-    tested m o.if-state-lt-SIZE.false e.if-state-gt127.false a.if-state-gt-SUBSCRIPTIONS.false false (sym a.all_fit.ensures ∙ c.if-all_fit.false) bytes
+    let m = c.args.state.now in
+    let bytes = octets-all m (λ i. omega (arith, c.shared_slice_known-1.given i)) in
+    tested m c.if-state-lt-SIZE.false c.if-state-gt127.false c.if-state-gt-SUBSCRIPTIONS.false false (sym c.all_fit.ensures ∙ c.if-all_fit.false) bytes

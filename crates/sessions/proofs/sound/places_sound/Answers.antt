@@ -58,18 +58,14 @@ mark-first-requires c = c.loop-left.invariant.0.walk.marks-long
 
 pub claim_place-requires : goal.claim_place-requires
 claim_place-requires c =
-    let l = c in
-    let s = l in
-    let b = place _ _ _ s.requires.1 _ _ _ _ l.loop-left.invariant.0 (omega arith) in
-    ((b, s.requires.0), table_at (key_at s.args.state.now) sessions_max s.args.table.now s.requires.1 l.loop-left.i b)
+    let b = place _ _ _ c.requires.1 _ _ _ _ c.loop-left.invariant.0 (omega arith) in
+    ((b, c.requires.0), table_at (key_at c.args.state.now) sessions_max c.args.table.now c.requires.1 c.loop-left.i b)
 
 pub returns-in-Fault : goal.returns-in-Fault
 returns-in-Fault c =
-    let l = c in
-    let s = l in
-    let b = place _ _ _ s.requires.1 _ _ _ _ l.loop-left.invariant.0 (omega arith) in
-    fault-place s.args.state.now (every (empty_or_fits s.args.state.now) 0 sessions_max && distinct s.args.table.now) l.loop-left.i l.loop-left.seen b l.loop-left.invariant.1
-    (sym c.in-Fault.is ∙ c.claim_place.ensures) (unfit _ _ _ s.requires.1 _ _ _ _ l.loop-left.invariant.0 (omega arith))
+    let b = place _ _ _ c.requires.1 _ _ _ _ c.loop-left.invariant.0 (omega arith) in
+    fault-place c.args.state.now (every (empty_or_fits c.args.state.now) 0 sessions_max && distinct c.args.table.now) c.loop-left.i c.loop-left.seen b c.loop-left.invariant.1
+    (sym c.in-Fault.is ∙ c.claim_place.ensures) (unfit _ _ _ c.requires.1 _ _ _ _ c.loop-left.invariant.0 (omega arith))
 
 pub is_alone-requires : goal.is_alone-requires
 is_alone-requires c = omega (arith, as_long _ _ _ c.requires.1)
@@ -88,27 +84,22 @@ loop-left-smaller c = omega (arith, here _ _ _ _ c.loop-left.invariant.0.walk (o
 
 pub loop-left-preserved : goal.loop-left-preserved
 loop-left-preserved c =
-    let l = c in
-    let s = l in
     let m = c.mark-first in
     let d = both-passed _ _ _ (sym c.in-Blocks.is ∙ c.claim_place.ensures) in (
-      again _ _ _ s.requires.1 _ _ _ _ l.loop-left.invariant.0 (omega arith) d.0
+      again _ _ _ c.requires.1 _ _ _ _ c.loop-left.invariant.0 (omega arith) d.0
           m.result m.ensures.0 (sym c.is_alone.ensures ∙ c.if-is_alone.true) _ m.ensures.1,
-      seen_more (place_at s.args.state.now) (free_of s.args.state.now) l.loop-left.i l.loop-left.seen _ l.loop-left.invariant.1 d.1,
+      seen_more (place_at c.args.state.now) (free_of c.args.state.now) c.loop-left.i c.loop-left.seen _ c.loop-left.invariant.1 d.1,
     )
 
 pub returns-else-is_alone : goal.returns-else-is_alone
 returns-else-is_alone c =
-    let l = c in
     let m = c.mark-first in
-    fails (shares _) (alike _ _ _ l.requires.1 _ _ _ _ l.loop-left.invariant.0 (omega arith) m.result (sym c.is_alone.ensures ∙ c.if-is_alone.false))
+    fails (shares _) (alike _ _ _ c.requires.1 _ _ _ _ c.loop-left.invariant.0 (omega arith) m.result (sym c.is_alone.ensures ∙ c.if-is_alone.false))
 
 pub returns : goal.returns
 returns c =
-    let l = c in
-    let s = l in
-    let m = s.args.state.now in
-    let w = l.loop-left.invariant.0 in
-    end-share m (every (empty_or_fits m) 0 sessions_max && distinct s.args.table.now) l.loop-left.i l.loop-left.seen (omega (arith, w.walk.inside, as_long _ _ _ s.requires.1))
-    (λ j a b. sym (table_at (key_at m) sessions_max s.args.table.now s.requires.1 j b) ∙ rest-empty s.args.table.now l.loop-left.i (omega (arith, w.walk.to-come)) j a (omega (arith, b, as_long _ _ _ s.requires.1)))
-    l.loop-left.invariant.1 (ends _ _ _ s.requires.1 _ _ _ _ w (omega arith) (empty m))
+    let m = c.args.state.now in
+    let w = c.loop-left.invariant.0 in
+    end-share m (every (empty_or_fits m) 0 sessions_max && distinct c.args.table.now) c.loop-left.i c.loop-left.seen (omega (arith, w.walk.inside, as_long _ _ _ c.requires.1))
+    (λ j a b. sym (table_at (key_at m) sessions_max c.args.table.now c.requires.1 j b) ∙ rest-empty c.args.table.now c.loop-left.i (omega (arith, w.walk.to-come)) j a (omega (arith, b, as_long _ _ _ c.requires.1)))
+    c.loop-left.invariant.1 (ends _ _ _ c.requires.1 _ _ _ _ w (omega arith) (empty m))

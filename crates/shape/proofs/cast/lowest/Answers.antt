@@ -8,9 +8,8 @@ use Rattle.shape.proofs.cast.lowest.Goals as goal
 
 pub returns-then-x-top : goal.returns-then-x-top
 returns-then-x-top c =
-    let o = c in
-    let a = o.args in
-    lowest-all a.w o.ones-top.result (omega arith) o.ones-top.ensures a.x c.if-x-top.true
+    let a = c.args in
+    lowest-all a.w c.ones-top.result (omega arith) c.ones-top.ensures a.x c.if-x-top.true
 
 pub returns : goal.returns
-returns c = let o = c in let a = o.args in ap (λ (k : ℕ). a.x % k) o.ones-top.ensures
+returns c = let a = c.args in ap (λ (k : ℕ). a.x % k) c.ones-top.ensures

@@ -8,27 +8,15 @@ use Rattle.shape.proofs.cast.signed.Goals as goal
 
 pub overflow_sub-result : goal.overflow_sub-result
 overflow_sub-result c =
-    let m = c in
-    let s = m in
-    let o = s in
-    let a = o in
-    signed-fits a.args.w o.ones-top.result (omega arith) o.ones-top.ensures a.args.v s.size.result
-    (size_of a.args.v a.ranges.v s.size.result s.size.ensures) m.least-n.result m.least-n.ensures
+    signed-fits c.args.w c.ones-top.result (omega arith) c.ones-top.ensures c.args.v c.size.result
+    (size_of c.args.v c.ranges.v c.size.result c.size.ensures) c.least-n.result c.least-n.ensures
 
 pub returns-then-v-lt0 : goal.returns-then-v-lt0
 returns-then-v-lt0 c =
-    let m = c in
-    let s = m in
-    let o = s in
-    let a = o in
-    signed-negative a.args.w o.ones-top.result (omega arith) o.ones-top.ensures a.args.v s.size.result
-    (size_of a.args.v a.ranges.v s.size.result s.size.ensures) m.least-n.result m.least-n.ensures (sign a.args.v a.ranges.v true c.if-v-lt0.true)
+    signed-negative c.args.w c.ones-top.result (omega arith) c.ones-top.ensures c.args.v c.size.result
+    (size_of c.args.v c.ranges.v c.size.result c.size.ensures) c.least-n.result c.least-n.ensures (sign c.args.v c.ranges.v true c.if-v-lt0.true)
 
 pub returns : goal.returns
 returns c =
-    let m = c in
-    let s = m in
-    let o = s in
-    let a = o in
-    signed-positive a.args.w o.ones-top.result (omega arith) o.ones-top.ensures a.args.v s.size.result
-    (size_of a.args.v a.ranges.v s.size.result s.size.ensures) m.least-n.result m.least-n.ensures (sign a.args.v a.ranges.v false c.if-v-lt0.false)
+    signed-positive c.args.w c.ones-top.result (omega arith) c.ones-top.ensures c.args.v c.size.result
+    (size_of c.args.v c.ranges.v c.size.result c.size.ensures) c.least-n.result c.least-n.ensures (sign c.args.v c.ranges.v false c.if-v-lt0.false)

@@ -7,14 +7,10 @@ use borrow.Author.Rules.{rules}
 use Rattle.shape.proofs.cast.unsigned.Goals as goal
 
 pub returns-then-v-lt0 : goal.returns-then-v-lt0
-returns-then-v-lt0 c = let a = c in unsigned_negative a.args.w a.args.v (sign a.args.v a.ranges.v true c.if-v-lt0.true)
+returns-then-v-lt0 c = unsigned_negative c.args.w c.args.v (sign c.args.v c.ranges.v true c.if-v-lt0.true)
 
 pub returns : goal.returns
 returns c =
-    let o = c in
-    let s = o in
-    let i = s in
-    let a = i in
-    unsigned-positive a.args.w o.ones.result (omega arith) o.ones.ensures a.args.v s.size.result
-    (size_of a.args.v a.ranges.v s.size.result s.size.ensures)
-    (sign a.args.v a.ranges.v false i.if-v-lt0.false) c.least.result c.least.ensures
+    unsigned-positive c.args.w c.ones.result (omega arith) c.ones.ensures c.args.v c.size.result
+    (size_of c.args.v c.ranges.v c.size.result c.size.ensures)
+    (sign c.args.v c.ranges.v false c.if-v-lt0.false) c.least.result c.least.ensures

@@ -57,47 +57,36 @@ whole-n-requires c =
 
 pub overflow_mul-n : goal.overflow_mul-n
 overflow_mul-n c =
-    let f = c in
-    let a = f.args in
-    omega (arith, parts c, f.if-most-s.false, place-low a.m a.w (omega arith) (omega arith))
+    let a = c.args in
+    omega (arith, parts c, c.if-most-s.false, place-low a.m a.w (omega arith) (omega arith))
 
 pub overflow_add-at : goal.overflow_add-at
 overflow_add-at c =
-    let f = c in
-    let a = f.args in
-    omega (arith, parts c, f.if-most-s.false, place-low a.m a.w (omega arith) (omega arith))
+    let a = c.args in
+    omega (arith, parts c, c.if-most-s.false, place-low a.m a.w (omega arith) (omega arith))
 
 pub read-requires : goal.read-requires
 read-requires c =
-    let f = c in
-    let a = f.args in
+    let a = c.args in
     let k = length a.s.now * 8 - a.at in
     let z : 0 < a.w = omega arith in
-    omega (arith, parts c, mod-lt k z, f.if-most-s.false, place-low a.m a.w (omega arith) (omega arith))
+    omega (arith, parts c, mod-lt k z, c.if-most-s.false, place-low a.m a.w (omega arith) (omega arith))
 
 pub returns-then-number-ne0 : goal.returns-then-number-ne0
 returns-then-number-ne0 c =
-    let q = c in
-    let r = q in
-    let n = r in
-    let f = n in
-    let a = f.args in
+    let a = c.args in
     let s = a.s.now in
     let k = length s * 8 - a.at in
     ap numbered
-    (sym (refusal a.w a.m (omega arith) (drop a.at (unpack s)) k (remaining s a.at) (omega (arith, f.if-most-s.false)) r.read.result
-    (over s a.at n.whole-n.result (k / a.w) a.w (k % a.w) r.read.result r.read.ensures n.whole-n.ensures) q.refusal-number.result q.refusal-number.ensures c.if-number-ne0.true))
+    (sym (refusal a.w a.m (omega arith) (drop a.at (unpack s)) k (remaining s a.at) (omega (arith, c.if-most-s.false)) c.read.result
+    (over s a.at c.whole-n.result (k / a.w) a.w (k % a.w) c.read.result c.read.ensures c.whole-n.ensures) c.refusal-number.result c.refusal-number.ensures c.if-number-ne0.true))
 
 pub returns : goal.returns
 returns c =
-    let q = c in
-    let r = q in
-    let n = r in
-    let f = n in
-    let a = f.args in
+    let a = c.args in
     let s = a.s.now in
     let k = length s * 8 - a.at in
-    ap (λ (i : ℕ). numbered (got i)) n.whole-n.ensures
+    ap (λ (i : ℕ). numbered (got i)) c.whole-n.ensures
     ∙ ap numbered
-    (sym (count a.w a.m (omega arith) (drop a.at (unpack s)) k (remaining s a.at) (omega (arith, f.if-most-s.false)) r.read.result
-    (over s a.at n.whole-n.result (k / a.w) a.w (k % a.w) r.read.result r.read.ensures n.whole-n.ensures) q.refusal-number.result q.refusal-number.ensures c.if-number-ne0.false))
+    (sym (count a.w a.m (omega arith) (drop a.at (unpack s)) k (remaining s a.at) (omega (arith, c.if-most-s.false)) c.read.result
+    (over s a.at c.whole-n.result (k / a.w) a.w (k % a.w) c.read.result c.read.ensures c.whole-n.ensures) c.refusal-number.result c.refusal-number.ensures c.if-number-ne0.false))

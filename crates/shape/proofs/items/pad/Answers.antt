@@ -11,7 +11,6 @@ use Rattle.shape.proofs.items.pad.Goals as goal
 
 pub returns : goal.returns
 returns c =
-    let w = c in
-    let a = w.args in
+    let a = c.args in
     let k = bytes_for a.at * 8 - a.at in
-    w.write.ensures ∙ ap (λ (b : List Bool). store a.s.now a.at b) (zero_bits k (omega arith))
+    c.write.ensures ∙ ap (λ (b : List Bool). store a.s.now a.at b) (zero_bits k (omega arith))

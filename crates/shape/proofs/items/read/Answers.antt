@@ -17,22 +17,19 @@ loop-i-init c = (omega arith, (refl, refl))
 
 pub overflow_mul-i : goal.overflow_mul-i
 overflow_mul-i c =
-    let l = c in
-    let a = l.args in
-    omega (arith, place-low l.loop-i.i a.w (omega arith) (omega arith))
+    let a = c.args in
+    omega (arith, place-low c.loop-i.i a.w (omega arith) (omega arith))
 
 pub overflow_add-at : goal.overflow_add-at
 overflow_add-at c =
-    let l = c in
-    let a = l.args in
-    omega (arith, place-low l.loop-i.i a.w (omega arith) (omega arith))
+    let a = c.args in
+    omega (arith, place-low c.loop-i.i a.w (omega arith) (omega arith))
 
 pub read-requires : goal.read-requires
 read-requires c =
-    let l = c in
-    let a = l.args in
-    let p = place_in l.loop-i.i (length a.out.now) a.w (omega arith) in
-    omega (arith, place-low l.loop-i.i a.w (omega arith) (omega arith))
+    let a = c.args in
+    let p = place_in c.loop-i.i (length a.out.now) a.w (omega arith) in
+    omega (arith, place-low c.loop-i.i a.w (omega arith) (omega arith))
 
 pub offset_bounds-out-i : goal.offset_bounds-out-i
 offset_bounds-out-i c = omega arith
@@ -48,17 +45,15 @@ loop-i-smaller c = omega arith
 
 pub loop-i-preserved : goal.loop-i-preserved
 loop-i-preserved c =
-    let l = c in
-    let a = l.args in
-    let n = l.loop-i.invariant.1 in
-    (omega arith, (simp length-set n.0, rw add-one (read-turn (unpack a.s.now) a.at a.w l.loop-i.out l.loop-i.i c.read.result (omega arith) n.1 c.read.ensures)))
+    let a = c.args in
+    let n = c.loop-i.invariant.1 in
+    (omega arith, (simp length-set n.0, rw add-one (read-turn (unpack a.s.now) a.at a.w c.loop-i.out c.loop-i.i c.read.result (omega arith) n.1 c.read.ensures)))
 
 pub shape_of-out : goal.shape_of-out
 shape_of-out c = c.loop-i.invariant.1.0
 
 pub returns : goal.returns
 returns c =
-    let l = c in
-    let a = l.args in
-    let e : l.loop-i.i ≡ length a.out.now = omega arith in
-    sym (take_all l.loop-i.i l.loop-i.out (omega arith)) ∙ l.loop-i.invariant.1.1 ∙ ap (λ (n : ℕ). items_of a.w n (drop a.at (unpack a.s.now))) e
+    let a = c.args in
+    let e : c.loop-i.i ≡ length a.out.now = omega arith in
+    sym (take_all c.loop-i.i c.loop-i.out (omega arith)) ∙ c.loop-i.invariant.1.1 ∙ ap (λ (n : ℕ). items_of a.w n (drop a.at (unpack a.s.now))) e

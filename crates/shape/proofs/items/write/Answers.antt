@@ -16,21 +16,18 @@ use Rattle.shape.proofs.items.write.Goals as goal
 pub loop-i-init : goal.loop-i-init
 unfolding item_bits
 loop-i-init c =
-    let k = c in
-    let a = k.args in
-    (omega arith, (refl, sym (store-none a.s.now a.at (octets-all a.s.now (λ i. omega (arith, k.slice_known-1.given i))))))
+    let a = c.args in
+    (omega arith, (refl, sym (store-none a.s.now a.at (octets-all a.s.now (λ i. omega (arith, c.slice_known-1.given i))))))
 
 pub overflow_mul-i : goal.overflow_mul-i
 overflow_mul-i c =
-    let l = c in
-    let a = l.args in
-    omega (arith, place-low l.loop-i.i a.w (omega arith) (omega arith))
+    let a = c.args in
+    omega (arith, place-low c.loop-i.i a.w (omega arith) (omega arith))
 
 pub overflow_add-at : goal.overflow_add-at
 overflow_add-at c =
-    let l = c in
-    let a = l.args in
-    omega (arith, place-low l.loop-i.i a.w (omega arith) (omega arith))
+    let a = c.args in
+    omega (arith, place-low c.loop-i.i a.w (omega arith) (omega arith))
 
 pub offset_bounds-xs-i : goal.offset_bounds-xs-i
 offset_bounds-xs-i c = omega arith
@@ -40,10 +37,9 @@ bounds-xs-i c = omega arith
 
 pub write-requires : goal.write-requires
 write-requires c =
-    let l = c in
-    let a = l.args in
-    let p = place_in l.loop-i.i (length a.xs.now) a.w (omega arith) in
-    omega (arith, place-low l.loop-i.i a.w (omega arith) (omega arith))
+    let a = c.args in
+    let p = place_in c.loop-i.i (length a.xs.now) a.w (omega arith) in
+    omega (arith, place-low c.loop-i.i a.w (omega arith) (omega arith))
 
 pub overflow_add-i : goal.overflow_add-i
 overflow_add-i c = omega arith
@@ -53,19 +49,16 @@ loop-i-smaller c = omega arith
 
 pub loop-i-preserved : goal.loop-i-preserved
 loop-i-preserved c =
-    let d = c in
-    let l = d in
-    let a = l.args in
-    let n = l.loop-i.invariant.1 in
-    let i = l.loop-i.i in
+    let a = c.args in
+    let n = c.loop-i.invariant.1 in
+    let i = c.loop-i.i in
     let p = place_in i (length a.xs.now) a.w (omega arith) in
-    (omega arith, (ap (λ (z : List ℕ). length z) d.write.ensures ∙ length-store l.loop-i.s (a.at + i * a.w) (to_bits a.w (get_or a.xs.now i 0)) ∙ n.0, rw add-one (write-turn a.s.now l.loop-i.s d.write.new.s a.at a.w a.xs.now i (omega arith) (omega arith) n.1 d.write.ensures)))
+    (omega arith, (ap (λ (z : List ℕ). length z) c.write.ensures ∙ length-store c.loop-i.s (a.at + i * a.w) (to_bits a.w (get_or a.xs.now i 0)) ∙ n.0, rw add-one (write-turn a.s.now c.loop-i.s c.write.new.s a.at a.w a.xs.now i (omega arith) (omega arith) n.1 c.write.ensures)))
 
 pub shape_of-s : goal.shape_of-s
 shape_of-s c = c.loop-i.invariant.1.0
 
 pub returns : goal.returns
 returns c =
-    let l = c in
-    let a = l.args in
-    l.loop-i.invariant.1.1 ∙ ap (λ (xs : List ℕ). store a.s.now a.at (item_bits a.w xs)) (take_all l.loop-i.i a.xs.now (omega arith))
+    let a = c.args in
+    c.loop-i.invariant.1.1 ∙ ap (λ (xs : List ℕ). store a.s.now a.at (item_bits a.w xs)) (take_all c.loop-i.i a.xs.now (omega arith))

@@ -26,16 +26,12 @@ returns-then-at-s c =
 
 pub returns-then-read-ne0 : goal.returns-then-read-ne0
 returns-then-read-ne0 c =
-    let r = c in
-    let f = r in
-    let a = f.args in
+    let a = c.args in
     let n = a.s.now in
-    sym (ap number (end-set (drop a.at (unpack n)) (length n * 8 - a.at) (omega (arith, f.if-at-s.false)) (size n a.at) (λ z. c.if-read-ne0.true (r.read.ensures ∙ z))))
+    sym (ap number (end-set (drop a.at (unpack n)) (length n * 8 - a.at) (omega (arith, c.if-at-s.false)) (size n a.at) (λ z. c.if-read-ne0.true (c.read.ensures ∙ z))))
 
 pub returns : goal.returns
 returns c =
-    let r = c in
-    let f = r in
-    let a = f.args in
+    let a = c.args in
     let n = a.s.now in
-    sym (ap number (end-clear (drop a.at (unpack n)) (length n * 8 - a.at) (omega (arith, f.if-at-s.false)) (size n a.at) (sym r.read.ensures ∙ c.if-read-ne0.false)))
+    sym (ap number (end-clear (drop a.at (unpack n)) (length n * 8 - a.at) (omega (arith, c.if-at-s.false)) (size n a.at) (sym c.read.ensures ∙ c.if-read-ne0.false)))

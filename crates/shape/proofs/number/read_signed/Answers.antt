@@ -14,7 +14,6 @@ value-requires c =
 
 pub returns : goal.returns
 returns c =
-    let r = c in
-    let a = r.args in
+    let a = c.args in
     signed-read a.s.now a.at a.w (omega arith) (omega arith) (omega arith) c.value.result
-    (c.value.ensures ∙ ap (λ (n : ℕ). signed_of a.w n) r.read.ensures)
+    (c.value.ensures ∙ ap (λ (n : ℕ). signed_of a.w n) c.read.ensures)

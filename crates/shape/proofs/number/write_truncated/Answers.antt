@@ -10,8 +10,5 @@ use Rattle.shape.proofs.number.write_truncated.Goals as goal
 
 pub returns : goal.returns
 returns c =
-    let w = c in
-    let u = w in
-    let b = u in
-    let a = b.args in
-    w.write.ensures ∙ ap (λ (n : ℕ). store a.s.now a.at (to_bits a.w n)) (u.truncated.ensures ∙ ap (λ (z : ℤ). low_bits a.w z) (is a.v b.ranges.v))
+    let a = c.args in
+    c.write.ensures ∙ ap (λ (n : ℕ). store a.s.now a.at (to_bits a.w n)) (c.truncated.ensures ∙ ap (λ (z : ℤ). low_bits a.w z) (is a.v c.ranges.v))

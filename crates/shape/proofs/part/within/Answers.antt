@@ -11,14 +11,12 @@ use Rattle.shape.proofs.part.within.Goals as goal
 
 pub returns-then-rest-n : goal.returns-then-rest-n
 returns-then-rest-n c =
-    let b = c in
-    let n = b.args.n in
-    let r = b.behind-rest.result.now in
+    let n = c.args.n in
+    let r = c.behind-rest.result.now in
     let h : length r ≤ n = omega arith in
-    sym (take_all n r h) ∙ ap (λ (l : List ℕ). take n l) b.behind-rest.ensures
+    sym (take_all n r h) ∙ ap (λ (l : List ℕ). take n l) c.behind-rest.ensures
 
 pub returns : goal.returns
 returns c =
-    let b = c in
-    let n = b.args.n in
-    ap (λ (k : ℕ). take k b.behind-rest.result.now) (sub-zero n) ∙ ap (λ (l : List ℕ). take n l) b.behind-rest.ensures
+    let n = c.args.n in
+    ap (λ (k : ℕ). take k c.behind-rest.result.now) (sub-zero n) ∙ ap (λ (l : List ℕ). take n l) c.behind-rest.ensures

@@ -13,9 +13,7 @@ number (Used n) = omega arith
 number Faulty = refl
 
 used : (a : Progress) → many_word a / 2 ^ 8 ≡ used_in a
-
 used (Used n) = omega arith
-
 used Faulty = refl
 
 pub returns : goal.returns
