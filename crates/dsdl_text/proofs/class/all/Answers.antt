@@ -1,5 +1,4 @@
 -- `class::all` meets its contract.
-use borrow.Author.Rules.{rules}
 use Rattle.dsdl_text.proofs.class.all.Goals as goal
 
 pub returns : goal.returns

@@ -2,7 +2,6 @@
 use Rattle.dsdl_text.specs.Class.{is_in}
 use mathlib.Core.Bool.{not}
 use mathlib.Core.Path.{refl, ap}
-use borrow.Author.Rules.{rules}
 use Rattle.dsdl_text.proofs.class.is.Goals as goal
 
 pub returns-in-Inline : goal.returns-in-Inline

@@ -1,5 +1,4 @@
 use Rattle.dsdl_text.proofs.Choices.{or-first, or-next, by}
-use borrow.Author.Rules.{rules}
 use Rattle.dsdl_text.proofs.class.is_hexadecimal.Goals as goal
 
 pub returns-then-within : goal.returns-then-within

@@ -1,6 +1,5 @@
 use mathlib.Core.Path.{refl}
 use Rattle.dsdl_text.proofs.Choices.{or-first, or-next, by}
-use borrow.Author.Rules.{rules}
 use Rattle.dsdl_text.proofs.class.is_naming.Goals as goal
 
 pub returns-then-is_letter : goal.returns-then-is_letter

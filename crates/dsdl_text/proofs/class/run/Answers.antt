@@ -1,14 +1,8 @@
 -- `class::run` meets its contract.
 use Rattle.dsdl_text.proofs.Choices.{by}
 use Rattle.dsdl_text.proofs.Runs.{hit, miss, at-end}
-use Rattle.dsdl_text.specs.Class.{run}
-use borrow.Author.Tests.{not-true, not-false}
-use borrow.Author.Rules.{rules}
-use lib.ListN.{length, drop}
 use native.Mathlib.Omega.{arith}
 use native.Mathlib.Numerals.{add-one}
-use Prim.Native.Nat.{◌+◌, ◌-◌, ◌≤◌}
-use mathlib.Core.Path.{◌≡◌}
 use Rattle.dsdl_text.proofs.class.run.Goals as goal
 
 pub loop-i-init : goal.loop-i-init
@@ -19,8 +13,10 @@ bounds-s-i c = omega arith
 
 pub returns-then-not-is : goal.returns-then-not-is
 returns-then-not-is c =
-    let a = c.args in
-    let h = hit a.class a.s.now c.loop-i.i (omega arith) (by c.is.ensures (not-true _ c.if-not-is.true)) in
+    let d = c in
+    let l = d in
+    let a = l.args in
+    let h = hit a.class a.s.now l.loop-i.i (omega arith) (by d.is.ensures c.if-not-is.true) in
     (omega arith, omega arith)
 
 pub overflow_add-i : goal.overflow_add-i
@@ -31,12 +27,15 @@ loop-i-smaller c = omega arith
 
 pub loop-i-preserved : goal.loop-i-preserved
 loop-i-preserved c =
-    let a = c.args in
-    let h = miss a.class a.s.now c.loop-i.i (omega arith) (by c.is.ensures (not-false _ c.if-not-is.false)) in
+    let d = c in
+    let l = d in
+    let a = l.args in
+    let h = miss a.class a.s.now l.loop-i.i (omega arith) (by d.is.ensures c.if-not-is.false) in
     (omega arith, rw add-one (omega arith))
 
 pub returns : goal.returns
 returns c =
-    let a = c.args in
-    let h = at-end a.class a.s.now c.loop-i.i (omega arith) in
+    let l = c in
+    let a = l.args in
+    let h = at-end a.class a.s.now l.loop-i.i (omega arith) in
     (omega arith, omega arith)

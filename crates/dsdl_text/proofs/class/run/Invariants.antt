@@ -1,11 +1,5 @@
-use Rattle.dsdl_text.proofs.Choices.{by}
-use Rattle.dsdl_text.proofs.Runs.{hit, miss, at-end}
 use Rattle.dsdl_text.specs.Class.{run}
-use borrow.Author.Tests.{not-true, not-false}
-use borrow.Author.Rules.{rules}
 use lib.ListN.{length, drop}
-use native.Mathlib.Omega.{arith}
-use native.Mathlib.Numerals.{add-one}
 use Prim.Native.Nat.{◌+◌, ◌-◌, ◌≤◌}
 use mathlib.Core.Path.{◌≡◌}
 use Rattle.dsdl_text.proofs.class.run.Given as goal

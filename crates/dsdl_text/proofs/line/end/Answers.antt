@@ -1,6 +1,5 @@
 -- `line::end` meets its contract.
 use Rattle.dsdl_text.proofs.Lines.{ends}
-use borrow.Author.Rules.{rules}
 use Rattle.dsdl_text.proofs.line.end.Goals as goal
 
 pub returns : goal.returns

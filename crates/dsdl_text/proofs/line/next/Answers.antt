@@ -1,7 +1,6 @@
 -- `line::next` meets its contract.
 use Rattle.dsdl_text.proofs.LineEnds.{returned, with-feed, without-feed, last}
 use native.Mathlib.Omega.{arith}
-use borrow.Author.Rules.{rules}
 use Rattle.dsdl_text.proofs.line.next.Goals as goal
 
 pub returns-then-text-behind-eq10 : goal.returns-then-text-behind-eq10

@@ -1,7 +1,6 @@
 -- `name::goes_on` meets its contract.
 use Rattle.dsdl_text.proofs.Choices.{or-first, or-next, by}
 use mathlib.Core.Path.{refl}
-use borrow.Author.Rules.{rules}
 use Rattle.dsdl_text.proofs.name.goes_on.Goals as goal
 
 pub returns-then-begins : goal.returns-then-begins

@@ -1,7 +1,6 @@
 -- `name::has_dot` meets its contract.
 use mathlib.Core.Bool.{not}
 use mathlib.Core.Path.{ap}
-use borrow.Author.Rules.{rules}
 use Rattle.dsdl_text.proofs.name.has_dot.Goals as goal
 
 pub returns : goal.returns

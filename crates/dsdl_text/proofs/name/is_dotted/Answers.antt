@@ -1,15 +1,9 @@
 -- `name::is_dotted` meets its contract.
 use Rattle.dsdl_text.proofs.Choices.{by}
 use Rattle.dsdl_text.proofs.Names.{on, off, done}
-use Rattle.dsdl_text.specs.Names.{dotted_from}
-use mathlib.Core.Bool.{true}
-use borrow.Author.Tests.{not-true, not-false}
-use lib.ListN.{length, drop}
 use native.Mathlib.Omega.{arith}
 use native.Mathlib.Numerals.{add-one}
-use borrow.Author.Rules.{rules}
-use Prim.Native.Nat.{◌-◌, ◌≤◌}
-use mathlib.Core.Path.{◌≡◌, refl, sym, ◌∙◌}
+use mathlib.Core.Path.{refl, sym, ◌∙◌}
 use Rattle.dsdl_text.proofs.name.is_dotted.Goals as goal
 
 pub loop-i-init : goal.loop-i-init
@@ -20,8 +14,10 @@ bounds-s-i c = omega arith
 
 pub returns-then-not-goes_on : goal.returns-then-not-goes_on
 returns-then-not-goes_on c =
-    let a = c.args in
-    sym (sym c.loop-i.invariant.1 ∙ off c.loop-i.begins a.s.now c.loop-i.i (omega arith) (by c.goes_on.ensures (not-true _ c.if-not-goes_on.true)))
+    let d = c in
+    let l = d in
+    let a = l.args in
+    sym (sym l.loop-i.invariant.1 ∙ off l.loop-i.begins a.s.now l.loop-i.i (omega arith) (by d.goes_on.ensures c.if-not-goes_on.true))
 
 pub overflow_add-i : goal.overflow_add-i
 overflow_add-i c = omega arith
@@ -31,13 +27,16 @@ loop-i-smaller c = omega arith
 
 pub loop-i-preserved : goal.loop-i-preserved
 loop-i-preserved c =
-    let a = c.args in (
+    let d = c in
+    let l = d in
+    let a = l.args in (
       omega arith,
-      rw add-one (sym (on c.loop-i.begins a.s.now c.loop-i.i (omega arith) (by c.goes_on.ensures (not-false _ c.if-not-goes_on.false)))
-          ∙ c.loop-i.invariant.1),
+      rw add-one (sym (on l.loop-i.begins a.s.now l.loop-i.i (omega arith) (by d.goes_on.ensures c.if-not-goes_on.false))
+          ∙ l.loop-i.invariant.1),
     )
 
 pub returns : goal.returns
 returns c =
-    let a = c.args in
-    sym (done c.loop-i.begins a.s.now c.loop-i.i (omega arith)) ∙ c.loop-i.invariant.1
+    let l = c in
+    let a = l.args in
+    sym (done l.loop-i.begins a.s.now l.loop-i.i (omega arith)) ∙ l.loop-i.invariant.1

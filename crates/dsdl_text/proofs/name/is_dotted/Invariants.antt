@@ -1,14 +1,8 @@
-use Rattle.dsdl_text.proofs.Choices.{by}
-use Rattle.dsdl_text.proofs.Names.{on, off, done}
 use Rattle.dsdl_text.specs.Names.{dotted_from}
 use mathlib.Core.Bool.{true}
-use borrow.Author.Tests.{not-true, not-false}
 use lib.ListN.{length, drop}
-use native.Mathlib.Omega.{arith}
-use native.Mathlib.Numerals.{add-one}
-use borrow.Author.Rules.{rules}
 use Prim.Native.Nat.{◌-◌, ◌≤◌}
-use mathlib.Core.Path.{◌≡◌, refl, sym, ◌∙◌}
+use mathlib.Core.Path.{◌≡◌}
 use Rattle.dsdl_text.proofs.name.is_dotted.Given as goal
 
 abbrev pub invariant-loop-i : goal.invariant-loop-i

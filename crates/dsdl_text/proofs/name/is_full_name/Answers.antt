@@ -1,15 +1,13 @@
 -- `name::is_full_name` meets its contract.
 use Rattle.dsdl_text.proofs.Choices.{and_first, and-next, by}
-use borrow.Author.Tests.{not-true, not-false}
 use mathlib.Core.Path.{refl}
-use borrow.Author.Rules.{rules}
 use Rattle.dsdl_text.proofs.name.is_full_name.Goals as goal
 
 pub returns-then-not-is_dotted : goal.returns-then-not-is_dotted
-returns-then-not-is_dotted c = and_first _ _ (by c.is_dotted.ensures (not-true _ c.if-not-is_dotted.true))
+returns-then-not-is_dotted c = and_first _ _ (by c.is_dotted.ensures c.if-not-is_dotted.true)
 
 pub returns-then-not-has_dot : goal.returns-then-not-has_dot
-returns-then-not-has_dot c = and-next _ _ _ (by c.is_dotted.ensures (not-false _ c.if-not-is_dotted.false)) (and_first _ _ (by c.has_dot.ensures (not-true _ c.if-not-has_dot.true)))
+returns-then-not-has_dot c = let f = c in and-next _ _ _ (by f.is_dotted.ensures f.if-not-is_dotted.false) (and_first _ _ (by c.has_dot.ensures c.if-not-has_dot.true))
 
 pub returns : goal.returns
-returns c = and-next _ _ _ (by c.is_dotted.ensures (not-false _ c.if-not-is_dotted.false)) (and-next _ _ _ (by c.has_dot.ensures (not-false _ c.if-not-has_dot.false)) refl)
+returns c = let f = c in and-next _ _ _ (by f.is_dotted.ensures f.if-not-is_dotted.false) (and-next _ _ _ (by c.has_dot.ensures c.if-not-has_dot.false) refl)

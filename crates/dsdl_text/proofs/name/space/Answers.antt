@@ -1,11 +1,8 @@
 -- `name::space` meets its contract.
 use Rattle.dsdl_text.proofs.Names.{dot, other, found}
-use Rattle.dsdl_text.specs.Names.{last_dot}
-use lib.ListN.{length, drop}
 use native.Mathlib.Omega.{arith}
 use native.Mathlib.Numerals.{add-one}
-use Prim.Native.Nat.{◌-◌, ◌≤◌}
-use mathlib.Core.Path.{◌≡◌, refl, sym, ◌∙◌}
+use mathlib.Core.Path.{refl, sym, ◌∙◌}
 use Rattle.dsdl_text.proofs.name.space.Goals as goal
 
 pub loop-i-init : goal.loop-i-init

@@ -1,11 +1,8 @@
 -- `text::same` meets its contract.
 use Rattle.dsdl_text.proofs.Texts.{unlike, like, differs, done}
-use Rattle.dsdl_text.specs.Text.{same}
-use lib.ListN.{length, drop}
 use native.Mathlib.Omega.{arith}
 use native.Mathlib.Numerals.{add-one}
-use Prim.Native.Nat.{◌-◌, ◌≤◌}
-use mathlib.Core.Path.{◌≡◌, refl, sym, ◌∙◌}
+use mathlib.Core.Path.{refl, sym, ◌∙◌}
 use Rattle.dsdl_text.proofs.text.same.Goals as goal
 
 pub returns-then-n-b : goal.returns-then-n-b

@@ -1,10 +1,7 @@
-use Rattle.dsdl_text.proofs.Texts.{unlike, like, differs, done}
 use Rattle.dsdl_text.specs.Text.{same}
 use lib.ListN.{length, drop}
-use native.Mathlib.Omega.{arith}
-use native.Mathlib.Numerals.{add-one}
 use Prim.Native.Nat.{◌-◌, ◌≤◌}
-use mathlib.Core.Path.{◌≡◌, refl, sym, ◌∙◌}
+use mathlib.Core.Path.{◌≡◌}
 use Rattle.dsdl_text.proofs.text.same.Given as goal
 
 abbrev pub invariant-loop-i : goal.invariant-loop-i

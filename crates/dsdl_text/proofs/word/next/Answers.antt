@@ -1,6 +1,5 @@
 -- `word::next` meets its contract.
 use Rattle.dsdl_text.proofs.Words.{found}
-use borrow.Author.Rules.{rules}
 use Rattle.dsdl_text.proofs.word.next.Goals as goal
 
 pub returns : goal.returns
