@@ -1,6 +1,5 @@
 -- `character::is_closed` meets its contract.
 use Rattle.dsdl_number.proofs.Characters.{too_few, no-quote, closed}
-use borrow.Author.Rules.{rules}
 use Rattle.dsdl_number.proofs.character.is_closed.Goals as goal
 
 pub returns-then-s-n : goal.returns-then-s-n

@@ -1,7 +1,6 @@
 -- `character::plain` meets its contract.
 use Rattle.dsdl_number.proofs.Characters.{low, high, quote, other}
 use mathlib.Core.Path.{◌∙◌}
-use borrow.Author.Rules.{rules}
 use Rattle.dsdl_number.proofs.character.plain.Goals as goal
 
 pub returns-then-c-lt32 : goal.returns-then-c-lt32

@@ -1,6 +1,5 @@
 -- `floating::fraction_length` meets its contract.
 use Rattle.dsdl_number.proofs.Floats.{no_text, no-point, digits}
-use borrow.Author.Rules.{rules}
 use Rattle.dsdl_number.proofs.floating.fraction_length.Goals as goal
 
 pub returns-then-s-eq0 : goal.returns-then-s-eq0

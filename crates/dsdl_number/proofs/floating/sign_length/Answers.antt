@@ -1,6 +1,5 @@
 -- `floating::sign_length` meets its contract.
 use Rattle.dsdl_number.proofs.Floats.{no_sign, plus, minus, other}
-use borrow.Author.Rules.{rules}
 use Rattle.dsdl_number.proofs.floating.sign_length.Goals as goal
 
 pub returns-then-s-eq0 : goal.returns-then-s-eq0

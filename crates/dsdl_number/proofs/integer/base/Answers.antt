@@ -2,7 +2,6 @@
 use Rattle.dsdl_number.specs.Integer.{base_of}
 use mathlib.Core.Path.{refl}
 use Rattle.dsdl_text.proofs.Choices.{first, next, by}
-use borrow.Author.Rules.{rules}
 use Rattle.dsdl_number.proofs.integer.base.Goals as goal
 
 pub returns-then-is_decimal : goal.returns-then-is_decimal

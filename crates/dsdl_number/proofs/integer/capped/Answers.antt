@@ -1,14 +1,10 @@
 -- `integer::capped` meets its contract.
 use Rattle.dsdl_number.proofs.Capped.{on, done}
-use Rattle.dsdl_number.specs.Integer.{value_from}
 use Rattle.dsdl_number.specs.inside.Capped.{cap}
-use borrow.Author.Rules.{rules}
-use lib.ListN.{length, drop}
 use native.Mathlib.Nat.{mul-le-mul}
 use native.Mathlib.Omega.{arith}
 use native.Mathlib.Numerals.{add-one}
-use Prim.Native.Nat.{◌-◌, ◌≤◌, min}
-use mathlib.Core.Path.{◌≡◌, refl, ◌∙◌}
+use mathlib.Core.Path.{refl, ◌∙◌}
 use Rattle.dsdl_number.proofs.integer.capped.Goals as goal
 
 pub loop-i-init : goal.loop-i-init

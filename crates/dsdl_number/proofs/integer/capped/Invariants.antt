@@ -1,13 +1,8 @@
-use Rattle.dsdl_number.proofs.Capped.{on, done}
 use Rattle.dsdl_number.specs.Integer.{value_from}
 use Rattle.dsdl_number.specs.inside.Capped.{cap}
-use borrow.Author.Rules.{rules}
 use lib.ListN.{length, drop}
-use native.Mathlib.Nat.{mul-le-mul}
-use native.Mathlib.Omega.{arith}
-use native.Mathlib.Numerals.{add-one}
 use Prim.Native.Nat.{◌-◌, ◌≤◌, min}
-use mathlib.Core.Path.{◌≡◌, refl, ◌∙◌}
+use mathlib.Core.Path.{◌≡◌}
 use Rattle.dsdl_number.proofs.integer.capped.Given as goal
 
 abbrev pub invariant-loop-i : goal.invariant-loop-i

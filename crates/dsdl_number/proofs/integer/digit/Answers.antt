@@ -1,7 +1,6 @@
 -- `integer::digit` meets its contract.
 use borrow.Author.Tests.{lt-ltb, le-ltb}
 use native.Mathlib.Omega.{arith}
-use borrow.Author.Rules.{rules}
 use Rattle.dsdl_number.proofs.integer.digit.Goals as goal
 
 pub returns-then-c-lt48 : goal.returns-then-c-lt48

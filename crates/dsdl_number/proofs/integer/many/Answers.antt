@@ -1,6 +1,5 @@
 -- `integer::many` meets its contract.
 use Rattle.dsdl_number.proofs.Literals.{none, some_more}
-use borrow.Author.Rules.{rules}
 use Rattle.dsdl_number.proofs.integer.many.Goals as goal
 
 pub returns-then-s-eq0 : goal.returns-then-s-eq0

@@ -1,13 +1,9 @@
 -- `integer::up_to` meets its contract.
 use Rattle.dsdl_number.proofs.Bounded.{turn, cut-over, quotient-below, quotient_fits}
 use Rattle.dsdl_number.proofs.Capped.{done}
-use Rattle.dsdl_number.specs.Integer.{value_from, value}
-use borrow.Author.Rules.{rules}
-use lib.ListN.{length, drop}
 use native.Mathlib.Omega.{arith}
 use native.Mathlib.Numerals.{add-one}
-use Prim.Native.Nat.{◌-◌, ◌≤◌}
-use mathlib.Core.Path.{◌≡◌, refl, sym, ◌∙◌}
+use mathlib.Core.Path.{refl, sym, ◌∙◌}
 use Rattle.dsdl_number.proofs.integer.up_to.Goals as goal
 
 pub loop-i-init : goal.loop-i-init

@@ -1,12 +1,7 @@
-use Rattle.dsdl_number.proofs.Bounded.{turn, cut-over, quotient-below, quotient_fits}
-use Rattle.dsdl_number.proofs.Capped.{done}
 use Rattle.dsdl_number.specs.Integer.{value_from, value}
-use borrow.Author.Rules.{rules}
 use lib.ListN.{length, drop}
-use native.Mathlib.Omega.{arith}
-use native.Mathlib.Numerals.{add-one}
 use Prim.Native.Nat.{◌-◌, ◌≤◌}
-use mathlib.Core.Path.{◌≡◌, refl, sym, ◌∙◌}
+use mathlib.Core.Path.{◌≡◌}
 use Rattle.dsdl_number.proofs.integer.up_to.Given as goal
 
 abbrev pub invariant-loop-i : goal.invariant-loop-i

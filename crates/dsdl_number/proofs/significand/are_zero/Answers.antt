@@ -1,11 +1,10 @@
 -- `significand::are_zero` meets its contract.
 use Rattle.dsdl_number.proofs.Significands.{padded-length, padded-at, zero-on, zero-stop, zero-end}
-use Rattle.dsdl_number.specs.inside.Significand.{significand, padded, are_zero}
+use Rattle.dsdl_number.specs.inside.Significand.{significand, padded}
 use Rattle.dsdl_number.specs.Integer.{digit_of}
-use lib.ListN.{get_or, drop}
+use lib.ListN.{get_or}
 use native.Mathlib.Omega.{arith}
 use native.Mathlib.Numerals.{add-one}
-use Prim.Native.Nat.{◌-◌}
 use mathlib.Core.Path.{◌≡◌, refl, sym, ap, ◌∙◌}
 use Rattle.dsdl_number.proofs.significand.are_zero.Goals as goal
 

@@ -1,11 +1,7 @@
-use Rattle.dsdl_number.proofs.Significands.{padded-length, padded-at, zero-on, zero-stop, zero-end}
 use Rattle.dsdl_number.specs.inside.Significand.{significand, padded, are_zero}
-use Rattle.dsdl_number.specs.Integer.{digit_of}
-use lib.ListN.{get_or, drop}
-use native.Mathlib.Omega.{arith}
-use native.Mathlib.Numerals.{add-one}
+use lib.ListN.{drop}
 use Prim.Native.Nat.{◌-◌}
-use mathlib.Core.Path.{◌≡◌, refl, sym, ap, ◌∙◌}
+use mathlib.Core.Path.{◌≡◌}
 use Rattle.dsdl_number.proofs.significand.are_zero.Given as goal
 
 abbrev pub invariant-loop-k : goal.invariant-loop-k

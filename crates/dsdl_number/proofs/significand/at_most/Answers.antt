@@ -1,14 +1,11 @@
 -- `significand::at_most` meets its contract.
 use Rattle.dsdl_number.proofs.Bounded.{over, quotient-below, quotient_fits}
 use Rattle.dsdl_number.proofs.Significands.{next-digit, no_digit}
-use Rattle.dsdl_number.specs.Integer.{value_from, value}
-use Rattle.dsdl_number.specs.inside.Significand.{significand, padded}
+use Rattle.dsdl_number.specs.inside.Significand.{significand}
 use borrow.Author.Tests.{le-leb}
-use lib.ListN.{drop}
 use native.Mathlib.Omega.{arith}
 use native.Mathlib.Numerals.{add-one}
-use Prim.Native.Nat.{◌-◌, ◌≤◌}
-use mathlib.Core.Path.{◌≡◌, refl, sym, ◌∙◌}
+use mathlib.Core.Path.{refl, sym, ◌∙◌}
 use Rattle.dsdl_number.proofs.significand.at_most.Goals as goal
 
 pub loop-k-init : goal.loop-k-init

@@ -1,13 +1,8 @@
-use Rattle.dsdl_number.proofs.Bounded.{over, quotient-below, quotient_fits}
-use Rattle.dsdl_number.proofs.Significands.{next-digit, no_digit}
 use Rattle.dsdl_number.specs.Integer.{value_from, value}
 use Rattle.dsdl_number.specs.inside.Significand.{significand, padded}
-use borrow.Author.Tests.{le-leb}
 use lib.ListN.{drop}
-use native.Mathlib.Omega.{arith}
-use native.Mathlib.Numerals.{add-one}
 use Prim.Native.Nat.{◌-◌, ◌≤◌}
-use mathlib.Core.Path.{◌≡◌, refl, sym, ◌∙◌}
+use mathlib.Core.Path.{◌≡◌}
 use Rattle.dsdl_number.proofs.significand.at_most.Given as goal
 
 abbrev pub invariant-loop-k : goal.invariant-loop-k

@@ -6,7 +6,6 @@ use native.Mathlib.Numerals.{add-one}
 use Prim.Native.Nat.{ℕ}
 use lib.ListN.{get_or}
 use mathlib.Core.Path.{ap, ◌∙◌}
-use borrow.Author.Rules.{rules}
 use Rattle.dsdl_number.proofs.significand.digit_at.Goals as goal
 
 pub returns-then-k-point : goal.returns-then-k-point

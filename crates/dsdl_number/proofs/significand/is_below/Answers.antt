@@ -1,9 +1,7 @@
 -- `significand::is_below` meets its contract.
 use Rattle.dsdl_number.proofs.Compared.{fewer, not_zeros, behind-zeros}
 use Rattle.dsdl_number.specs.inside.Significand.{significand}
-use borrow.Author.Tests.{not-true, not-false}
 use mathlib.Core.Path.{sym, ◌∙◌}
-use borrow.Author.Rules.{rules}
 use Rattle.dsdl_number.proofs.significand.is_below.Goals as goal
 
 pub returns-then-n-m : goal.returns-then-n-m
@@ -13,11 +11,13 @@ returns-then-n-m c =
 
 pub returns-then-not-are_zero : goal.returns-then-not-are_zero
 returns-then-not-are_zero c =
-    let a = c.args in
-    not_zeros (significand a.point a.s.now) a.bound.now a.n c.if-n-m.false (sym c.are_zero.ensures ∙ not-true c.are_zero.result c.if-not-are_zero.true)
+    let z = c in
+    let a = z.args in
+    not_zeros (significand a.point a.s.now) a.bound.now a.n z.if-n-m.false (sym z.are_zero.ensures ∙ c.if-not-are_zero.true)
 
 pub returns : goal.returns
 returns c =
-    let a = c.args in
-    behind-zeros (significand a.point a.s.now) a.bound.now a.n c.if-n-m.false _ (sym c.are_zero.ensures ∙ not-false c.are_zero.result c.if-not-are_zero.false)
+    let z = c in
+    let a = z.args in
+    behind-zeros (significand a.point a.s.now) a.bound.now a.n z.if-n-m.false _ (sym z.are_zero.ensures ∙ c.if-not-are_zero.false)
     c.is_less.ensures

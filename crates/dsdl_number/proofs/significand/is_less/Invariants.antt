@@ -1,14 +1,7 @@
-use Rattle.dsdl_number.proofs.Significands.{padded-length, padded-at}
-use Rattle.dsdl_number.proofs.Compared.{less-here, more-here, same_here, less-end}
-use Rattle.dsdl_number.specs.Integer.{digit_of}
 use Rattle.dsdl_number.specs.inside.Significand.{significand, padded, is_less}
-use borrow.Author.Rules.{rules}
-use lib.ListN.{length, get_or, drop}
-use native.Mathlib.Omega.{arith}
-use native.Mathlib.Nat.{add-zero}
-use native.Mathlib.Numerals.{add-one}
-use Prim.Native.Nat.{ℕ, suc, ◌+◌, ◌-◌, ◌≤◌, ◌<◌}
-use mathlib.Core.Path.{◌≡◌, sym, ap, ◌∙◌}
+use lib.ListN.{length, drop}
+use Prim.Native.Nat.{ℕ, ◌+◌, ◌-◌, ◌≤◌}
+use mathlib.Core.Path.{◌≡◌}
 use mathlib.Core.List.{List}
 use Rattle.dsdl_number.proofs.significand.is_less.Given as goal
 
