@@ -1,4 +1,4 @@
-// BatteryInfo under C names: its floats by an array, its other numbers as those of NodeStatus.
+// BatteryInfo: its floats by an array, its other numbers as those of NodeStatus.
 use equipment_power::battery_info;
 use equipment_power::battery_info::{BatteryInfo, Read};
 use shape::answer::{Place, Written};
@@ -13,8 +13,7 @@ fn number(x: BatteryInfo, name: Place) -> u64 {
     state ^ (size(x.model_instance_id) << 28) ^ (name.at ^ (name.len << 5)) as u64
 }
 
-#[unsafe(no_mangle)]
-pub extern "C" fn bench_battery_decode(payload: &[u8], floats: &mut [f32; 7]) -> u64 {
+pub fn bench_battery_decode(payload: &[u8], floats: &mut [f32; 7]) -> u64 {
     match battery_info::decode(payload) {
         Read::Refused(n) => u64::MAX - n as u64,
         Read::Got(x, name) => {
@@ -30,8 +29,7 @@ pub extern "C" fn bench_battery_decode(payload: &[u8], floats: &mut [f32; 7]) ->
     }
 }
 
-#[unsafe(no_mangle)]
-pub extern "C" fn bench_battery_encode(
+pub fn bench_battery_encode(
     floats: &[f32; 7],
     v: &[i64; 6],
     model_name: &[u8],

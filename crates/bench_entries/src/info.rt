@@ -1,4 +1,4 @@
-// The response of GetNodeInfo under C names, with the same results as those of NodeStatus.
+// The response of GetNodeInfo, with the same results as those of NodeStatus.
 use super::status::of_status;
 use protocol::get_node_info_response;
 use protocol::get_node_info_response::{Numbers, Read, SoftwareVersion};
@@ -13,8 +13,7 @@ fn of_software(v: SoftwareVersion) -> u64 {
     version ^ (size(v.vcs_commit) << 32) ^ v.image_crc
 }
 
-#[unsafe(no_mangle)]
-pub extern "C" fn bench_info_decode(payload: &[u8]) -> u64 {
+pub fn bench_info_decode(payload: &[u8]) -> u64 {
     match get_node_info_response::decode(payload) {
         Read::Refused(n) => u64::MAX - n as u64,
         Read::Got(x) => {
@@ -36,8 +35,7 @@ pub extern "C" fn bench_info_decode(payload: &[u8]) -> u64 {
     }
 }
 
-#[unsafe(no_mangle)]
-pub extern "C" fn bench_info_encode(
+pub fn bench_info_encode(
     v: &[i64; 11],
     image_crc: u64,
     unique_id: &[u8],

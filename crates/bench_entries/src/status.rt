@@ -1,4 +1,4 @@
-// NodeStatus under C names.
+// NodeStatus.
 use protocol::node_status;
 use protocol::node_status::{NodeStatus, Read};
 use shape::answer::Written;
@@ -14,8 +14,7 @@ pub fn of_status(x: NodeStatus) -> u64 {
 }
 
 // Of a refusal, its number from the top.
-#[unsafe(no_mangle)]
-pub extern "C" fn bench_status_decode(payload: &[u8]) -> u64 {
+pub fn bench_status_decode(payload: &[u8]) -> u64 {
     match node_status::decode(payload) {
         Read::Refused(n) => u64::MAX - n as u64,
         Read::Got(x) => of_status(x),
@@ -23,8 +22,7 @@ pub extern "C" fn bench_status_decode(payload: &[u8]) -> u64 {
 }
 
 // The number of bytes written. Of a refusal, its number from the top.
-#[unsafe(no_mangle)]
-pub extern "C" fn bench_status_encode(v: &[i64; 5], out: &mut [u8]) -> u64 {
+pub fn bench_status_encode(v: &[i64; 5], out: &mut [u8]) -> u64 {
     let x = NodeStatus {
         uptime_sec: v[0],
         health: v[1],

@@ -1,7 +1,7 @@
-// The C interface: extern "C" entry points around the proved calls. include/tecelume.h documents them.
+// What C calls: a function for each C entry, around the proved calls. tecelume_c gives them to C; include/tecelume.h documents them.
 #![tactic(auto)]
 
-mod messages;
+pub mod messages;
 
 ghost use Rattle.std.specs.Prelude.{◌≡◌, ◌%◌};
 ghost use Rattle.tecelume.specs.Condition3.{word_bytes};
@@ -30,32 +30,28 @@ use allocator_table::free::Reserved;
 use transport::Outgoing;
 
 // The version of the library: major, minor and patch in bits 16 up, 8 to 15 and 0 to 7.
-#[unsafe(no_mangle)]
-pub extern "C" fn tecelume_version() -> u32
+pub fn tecelume_version() -> u32
     ensures { result ≡ version }
 {
     0x000200
 }
 
 // The bytes of a receiver's state.
-#[unsafe(no_mangle)]
-pub extern "C" fn tecelume_receiver_size() -> u64
+pub fn tecelume_receiver_size() -> u64
     ensures { result ≡ size }
 {
     state::layout::SIZE as u64
 }
 
 // Sets a receiver up in a lent state: 0, 13 or 20.
-#[unsafe(no_mangle)]
-pub extern "C" fn tecelume_setup(state: &mut [u8], own: u32, subscriptions: &[u8]) -> u32
+pub fn tecelume_setup(state: &mut [u8], own: u32, subscriptions: &[u8]) -> u32
     ensures { record { number = result; state = state.new } ≡ numbered (after_setup state.old own subscriptions.now) }
 {
     transport::setup(state, own, subscriptions).number()
 }
 
 // One frame on a lent state: the result word.
-#[unsafe(no_mangle)]
-pub extern "C" fn tecelume_receive_word(
+pub fn tecelume_receive_word(
     state: &mut [u8],
     id: u32,
     frame: &[u8],
@@ -69,8 +65,7 @@ pub extern "C" fn tecelume_receive_word(
 }
 
 // Several frames on a lent state: the number and, from bit 8 on, how many records were used up; a result word for each in `results`.
-#[unsafe(no_mangle)]
-pub extern "C" fn tecelume_receive_many_word(
+pub fn tecelume_receive_many_word(
     state: &mut [u8],
     records: &[u8],
     results: &mut [u8],
@@ -82,24 +77,21 @@ pub extern "C" fn tecelume_receive_many_word(
 }
 
 // The bytes of a transfer-ID map.
-#[unsafe(no_mangle)]
-pub extern "C" fn tecelume_map_size() -> u64
+pub fn tecelume_map_size() -> u64
     ensures { result ≡ layout.size }
 {
     transport::map_size() as u64
 }
 
 // Makes a lent map one without an entry: 0 or 20.
-#[unsafe(no_mangle)]
-pub extern "C" fn tecelume_map_setup(map: &mut [u8]) -> u32
+pub fn tecelume_map_setup(map: &mut [u8]) -> u32
     ensures { record { number = result; state = map.new } ≡ numbered_map (setting.after_setup map.old) }
 {
     transport::map_setup(map).number()
 }
 
 // A payload as records of frames, on a lent map: the number and, from bit 8 on, how many frames.
-#[unsafe(no_mangle)]
-pub extern "C" fn tecelume_send_word(
+pub fn tecelume_send_word(
     map: &mut [u8],
     own: u32,
     transfer_type: u32,
@@ -131,8 +123,7 @@ pub extern "C" fn tecelume_send_word(
 
 // A transfer's checksum after a byte of its payload was rewritten: the number and, from bit 8 on, the corrected checksum. No number refuses a
 // checksum of more than 16 bits or a byte of more than 8: their low bits count.
-#[unsafe(no_mangle)]
-pub extern "C" fn tecelume_patch_word(checksum: u32, old: u32, new: u32, after: u64) -> u64
+pub fn tecelume_patch_word(checksum: u32, old: u32, new: u32, after: u64) -> u64
     ensures { result ≡ patch_word (patches (checksum % 65536) (old % 256) (new % 256) after) }
 {
     words::of_patched(transport::patch(
@@ -144,32 +135,28 @@ pub extern "C" fn tecelume_patch_word(checksum: u32, old: u32, new: u32, after: 
 }
 
 // The signature of a standard type, of kind 0 (message) or 1 (service); 0 of any other.
-#[unsafe(no_mangle)]
-pub extern "C" fn tecelume_signature(kind: u32, type_id: u32) -> u64
+pub fn tecelume_signature(kind: u32, type_id: u32) -> u64
     ensures { result ≡ signature_of kind type_id }
 {
     types::signature(kind, type_id)
 }
 
 // The bytes of an allocator's state.
-#[unsafe(no_mangle)]
-pub extern "C" fn tecelume_allocator_size() -> u64
+pub fn tecelume_allocator_size() -> u64
     ensures { result ≡ table.size }
 {
     allocator::size() as u64
 }
 
 // Makes a lent state an allocator with an empty table: 0 or 20.
-#[unsafe(no_mangle)]
-pub extern "C" fn tecelume_allocator_setup(state: &mut [u8]) -> u32
+pub fn tecelume_allocator_setup(state: &mut [u8]) -> u32
     ensures { record { number = result; state = state.new } ≡ numbered_allocator (allocator.after_setup state.old) }
 {
     allocator::setup(state).number()
 }
 
 // One Allocation message on a lent state: the number and, from bit 8 on, the length of the reply's payload.
-#[unsafe(no_mangle)]
-pub extern "C" fn tecelume_allocate_word(
+pub fn tecelume_allocate_word(
     state: &mut [u8],
     own: u32,
     marks_low: u64,
@@ -195,8 +182,7 @@ pub extern "C" fn tecelume_allocate_word(
 }
 
 // Signatures of type definitions: the result word, the forms in `out`, a record of 12 bytes for each.
-#[unsafe(no_mangle)]
-pub extern "C" fn tecelume_signatures_word(
+pub fn tecelume_signatures_word(
     source: &[u8],
     lengths: &[u8],
     out: &mut [u8],
@@ -208,24 +194,21 @@ pub extern "C" fn tecelume_signatures_word(
 }
 
 // A log as a capture: the number and, from bit 8 on, its length.
-#[unsafe(no_mangle)]
-pub extern "C" fn tecelume_capture_word(log: &[u8], out: &mut [u8]) -> u64
+pub fn tecelume_capture_word(log: &[u8], out: &mut [u8]) -> u64
     ensures { record { word = result; out = out.new } ≡ packed_conversion (captured log.now out.old) }
 {
     words::of_converted(capture_convert::capture(log, out))
 }
 
 // A capture as a log: the number and, from bit 8 on, its length.
-#[unsafe(no_mangle)]
-pub extern "C" fn tecelume_uncapture_word(capture: &[u8], out: &mut [u8]) -> u64
+pub fn tecelume_uncapture_word(capture: &[u8], out: &mut [u8]) -> u64
     ensures { record { word = result; out = out.new } ≡ packed_conversion (uncaptured capture.now out.old) }
 {
     words::of_converted(capture_convert::uncapture(capture, out))
 }
 
 // A capture judged under subscriptions: the number and, from bit 8 on, the frame that it is for.
-#[unsafe(no_mangle)]
-pub extern "C" fn tecelume_judge_word(subscriptions: &[u8], capture: &[u8]) -> u64
+pub fn tecelume_judge_word(subscriptions: &[u8], capture: &[u8]) -> u64
     ensures { result ≡ verdict_word (judges subscriptions.now capture.now) }
 {
     words::of_verdict(judge_capture::judge(subscriptions, capture))
