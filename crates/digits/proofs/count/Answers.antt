@@ -2,8 +2,8 @@
 use Rattle.digits.proofs.Digits.{count-one, count-more, count-le}
 use Rattle.digits.specs.Digits.{count_of}
 use native.Mathlib.Omega.{arith}
-use Prim.Native.Nat.{ℕ, ◌+◌, ◌≤◌, ◌^◌, ◌<◌}
-use mathlib.Core.Path.{◌≡◌, refl}
+use Prim.Native.Nat.{ℕ, ◌≤◌, ◌^◌, ◌<◌}
+use mathlib.Core.Path.{refl}
 use Rattle.digits.proofs.count.Goals as goal
 
 -- a word has at most twenty digits

@@ -1,8 +1,6 @@
-use Rattle.digits.proofs.Digits.{count-one, count-more, count-le}
 use Rattle.digits.specs.Digits.{count_of}
-use native.Mathlib.Omega.{arith}
-use Prim.Native.Nat.{ℕ, ◌+◌, ◌≤◌, ◌^◌, ◌<◌}
-use mathlib.Core.Path.{◌≡◌, refl}
+use Prim.Native.Nat.{◌+◌, ◌≤◌}
+use mathlib.Core.Path.{◌≡◌}
 use Rattle.digits.proofs.count.Given as goal
 
 abbrev pub invariant-loop-x : goal.invariant-loop-x

@@ -1,7 +1,6 @@
 -- `digit` meets its contract.
 use Rattle.digits.specs.Digits.{digit_of}
 use borrow.Author.Tests.{lt-ltb, le-ltb}
-use borrow.Author.Rules.{rules}
 use Rattle.digits.proofs.digit.Goals as goal
 
 pub returns-then-c-lt48 : goal.returns-then-c-lt48

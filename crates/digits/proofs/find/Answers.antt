@@ -1,11 +1,8 @@
 -- `find` meets its contract.
 use Rattle.digits.proofs.Before.{hit, miss, past}
-use Rattle.digits.specs.Find.{before}
-use lib.ListN.{length, drop}
 use native.Mathlib.Omega.{arith}
 use native.Mathlib.Numerals.{add-one}
-use Prim.Native.Nat.{◌+◌, ◌-◌, ◌≤◌}
-use mathlib.Core.Path.{◌≡◌, refl}
+use mathlib.Core.Path.{refl}
 use Rattle.digits.proofs.find.Goals as goal
 
 pub loop-i-init : goal.loop-i-init

@@ -1,10 +1,7 @@
-use Rattle.digits.proofs.Before.{hit, miss, past}
 use Rattle.digits.specs.Find.{before}
 use lib.ListN.{length, drop}
-use native.Mathlib.Omega.{arith}
-use native.Mathlib.Numerals.{add-one}
 use Prim.Native.Nat.{◌+◌, ◌-◌, ◌≤◌}
-use mathlib.Core.Path.{◌≡◌, refl}
+use mathlib.Core.Path.{◌≡◌}
 use Rattle.digits.proofs.find.Given as goal
 
 abbrev pub invariant-loop-i : goal.invariant-loop-i

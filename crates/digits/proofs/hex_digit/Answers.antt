@@ -1,7 +1,6 @@
 -- `hex_digit` meets its contract.
 use Rattle.digits.proofs.Digits.{glyph-low, glyph-high}
 use mathlib.Core.Path.{sym}
-use borrow.Author.Rules.{rules}
 use Rattle.digits.proofs.hex_digit.Goals as goal
 
 pub returns-then-d-lt10 : goal.returns-then-d-lt10

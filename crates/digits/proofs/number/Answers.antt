@@ -2,13 +2,12 @@
 use Rattle.digits.proofs.Digits.{taken, stopped, grows}
 use Rattle.digits.specs.Digits.{digit_of, number_from}
 use Rattle.digits.specs.inside.Text.{as_number}
-use borrow.Author.Rules.{rules}
 use lib.Seq.{drop-cons, drop-length}
 use lib.ListN.{length, get_or, drop}
 use lib.Dec.{lit<}
 use native.Mathlib.Omega.{arith}
 use native.Mathlib.Numerals.{add-one}
-use Prim.Native.Nat.{ℕ, suc, ◌+◌, ◌*◌, ◌-◌, ◌^◌, ◌≤◌, ◌<◌}
+use Prim.Native.Nat.{ℕ, suc, ◌+◌, ◌*◌, ◌≤◌, ◌<◌}
 use mathlib.Core.Option.{some, none}
 use mathlib.Core.List.{List}
 use mathlib.Core.Path.{◌≡◌, refl, sym, ap, ◌∙◌}

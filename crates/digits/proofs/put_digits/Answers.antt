@@ -1,12 +1,10 @@
 -- `put_digits` meets its contract.
 use Rattle.digits.proofs.Puts.{digit-turn, digits-done}
 use Rattle.digits.proofs.Digits.{glyph-low}
-use Rattle.digits.specs.Digits.{digits}
-use Rattle.bits.specs.Part.{splice}
-use lib.ListN.{length, length-set}
+use lib.ListN.{length-set}
 use native.Mathlib.Omega.{arith}
-use Prim.Native.Nat.{◌%◌, ◌≤◌}
-use mathlib.Core.Path.{◌≡◌, refl, sym, ◌∙◌}
+use Prim.Native.Nat.{◌%◌}
+use mathlib.Core.Path.{refl, sym, ◌∙◌}
 use Rattle.digits.proofs.put_digits.Goals as goal
 
 pub loop-i-init : goal.loop-i-init

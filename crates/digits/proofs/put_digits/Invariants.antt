@@ -1,11 +1,8 @@
-use Rattle.digits.proofs.Puts.{digit-turn, digits-done}
-use Rattle.digits.proofs.Digits.{glyph-low}
 use Rattle.digits.specs.Digits.{digits}
 use Rattle.bits.specs.Part.{splice}
-use lib.ListN.{length, length-set}
-use native.Mathlib.Omega.{arith}
-use Prim.Native.Nat.{◌%◌, ◌≤◌}
-use mathlib.Core.Path.{◌≡◌, refl, sym, ◌∙◌}
+use lib.ListN.{length}
+use Prim.Native.Nat.{◌≤◌}
+use mathlib.Core.Path.{◌≡◌}
 use Rattle.digits.proofs.put_digits.Given as goal
 
 abbrev pub invariant-loop-i : goal.invariant-loop-i

@@ -1,11 +1,8 @@
 -- `put_hex` meets its contract.
 use Rattle.digits.proofs.Puts.{digit-turn, digits-done}
-use Rattle.digits.specs.Digits.{digits}
-use Rattle.bits.specs.Part.{splice}
-use lib.ListN.{length, length-set}
+use lib.ListN.{length-set}
 use native.Mathlib.Omega.{arith}
-use Prim.Native.Nat.{◌≤◌}
-use mathlib.Core.Path.{◌≡◌, refl, ◌∙◌}
+use mathlib.Core.Path.{refl, ◌∙◌}
 use Rattle.digits.proofs.put_hex.Goals as goal
 
 pub loop-i-init : goal.loop-i-init

@@ -1,10 +1,8 @@
-use Rattle.digits.proofs.Puts.{digit-turn, digits-done}
 use Rattle.digits.specs.Digits.{digits}
 use Rattle.bits.specs.Part.{splice}
-use lib.ListN.{length, length-set}
-use native.Mathlib.Omega.{arith}
+use lib.ListN.{length}
 use Prim.Native.Nat.{◌≤◌}
-use mathlib.Core.Path.{◌≡◌, refl, ◌∙◌}
+use mathlib.Core.Path.{◌≡◌}
 use Rattle.digits.proofs.put_hex.Given as goal
 
 abbrev pub invariant-loop-i : goal.invariant-loop-i

@@ -1,14 +1,8 @@
-use Rattle.digits.proofs.Puts.{set-splice, splice-nil, two_digits, hexes-snoc, length-hexes}
-use Rattle.digits.specs.Digits.{glyph, digits, hexes}
-use Rattle.bits.proofs.Splice.{splice-next}
+use Rattle.digits.specs.Digits.{hexes}
 use Rattle.bits.specs.Part.{splice}
-use lib.Seq.{take-suc, take_all, length-take-le}
-use lib.ListN.{length, take, get_or, set, length-set}
-use native.Mathlib.Omega.{arith}
-use native.Mathlib.Numerals.{add-one}
-use Prim.Native.Nat.{ℕ, suc, ◌+◌, ◌*◌, ◌-◌, ◌/◌, ◌%◌, ◌≤◌, ◌<◌}
-use mathlib.Core.List.{List, [], ◌∷◌, ◌++◌}
-use mathlib.Core.Path.{◌≡◌, refl, sym, ap, ◌∙◌}
+use lib.ListN.{length, take}
+use Prim.Native.Nat.{◌-◌, ◌≤◌}
+use mathlib.Core.Path.{◌≡◌}
 use Rattle.digits.proofs.put_hexes.Given as goal
 
 abbrev pub invariant-loop-i : goal.invariant-loop-i

@@ -7,7 +7,7 @@ use lib.ListN.{length, take, get_or}
 use native.Mathlib.Omega.{arith}
 use native.Mathlib.Numerals.{add-one}
 use native.Mathlib.Nat.{add-zero}
-use Prim.Native.Nat.{ℕ, suc, ◌+◌, ◌*◌, ◌-◌, ◌≤◌, ◌<◌}
+use Prim.Native.Nat.{ℕ, suc, ◌+◌, ◌≤◌, ◌<◌}
 use mathlib.Core.List.{List, [], ◌∷◌, ◌++◌}
 use mathlib.Core.Path.{◌≡◌, refl, sym, ap, ◌∙◌}
 use Rattle.digits.proofs.put_words.Goals as goal
@@ -49,7 +49,7 @@ loop-i-preserved c =
     let v = c.loop-i.invariant.1 in (
       omega arith,
       (
-        omega (arith, c.word-p.auto.0, v.0),
+        omega (arith, c.word-p.auto.out, v.0),
         (
           omega (arith, c.word-p.ensures.1, v.1.0),
           rw (add-one i) (turn a.out.now c.loop-i.out c.word-p.new.out a.vs.now a.at i c.loop-i.p c.word-p.result

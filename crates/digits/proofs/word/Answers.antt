@@ -9,7 +9,6 @@ use native.Mathlib.Omega.{arith}
 use Prim.Native.Nat.{ℕ, ◌+◌, ◌≤◌}
 use mathlib.Core.List.{List, [], ◌∷◌, append-nil}
 use mathlib.Core.Path.{◌≡◌, refl, sym, ap, ◌∙◌}
-use borrow.Author.Rules.{rules}
 use Rattle.digits.proofs.word.Goals as goal
 
 put : (m m' : List ℕ) (at w v : ℕ) → at + 21 ≤ length m → w ≡ count_of v → m' ≡ splice (set m at 32) (at + 1) (digits 10 w v)
@@ -32,7 +31,7 @@ pub shape_of-out : goal.shape_of-out
 shape_of-out c =
     omega (
       arith,
-      c.put_digits.auto.0,
+      c.put_digits.auto.out,
       length-set c.args.out.now
           c.args.at 32,
     )

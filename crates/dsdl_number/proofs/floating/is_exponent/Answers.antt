@@ -11,8 +11,5 @@ returns-then-not-is_e c = and_first _ _ (by c.is_e.ensures c.if-not-is_e.true)
 
 pub returns : goal.returns
 returns c =
-    let k = c in
-    let f = k in
-    let e = f in
-    let s = e.args.s.now in
-    and-next _ _ _ (by e.is_e.ensures f.if-not-is_e.false) (exponent-digits s k.sign_length-n.result _ k.sign_length-n.ensures.0 c.many.ensures)
+    let s = c.args.s.now in
+    and-next _ _ _ (by c.is_e.ensures c.if-not-is_e.false) (exponent-digits s c.sign_length-n.result _ c.sign_length-n.ensures.0 c.many.ensures)

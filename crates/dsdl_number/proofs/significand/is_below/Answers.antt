@@ -11,13 +11,11 @@ returns-then-n-m c =
 
 pub returns-then-not-are_zero : goal.returns-then-not-are_zero
 returns-then-not-are_zero c =
-    let z = c in
-    let a = z.args in
-    not_zeros (significand a.point a.s.now) a.bound.now a.n z.if-n-m.false (sym z.are_zero.ensures ∙ c.if-not-are_zero.true)
+    let a = c.args in
+    not_zeros (significand a.point a.s.now) a.bound.now a.n c.if-n-m.false (sym c.are_zero.ensures ∙ c.if-not-are_zero.true)
 
 pub returns : goal.returns
 returns c =
-    let z = c in
-    let a = z.args in
-    behind-zeros (significand a.point a.s.now) a.bound.now a.n z.if-n-m.false _ (sym z.are_zero.ensures ∙ c.if-not-are_zero.false)
+    let a = c.args in
+    behind-zeros (significand a.point a.s.now) a.bound.now a.n c.if-n-m.false _ (sym c.are_zero.ensures ∙ c.if-not-are_zero.false)
     c.is_less.ensures

@@ -13,10 +13,8 @@ bounds-s-i c = omega arith
 
 pub returns-then-not-is : goal.returns-then-not-is
 returns-then-not-is c =
-    let d = c in
-    let l = d in
-    let a = l.args in
-    let h = hit a.class a.s.now l.loop-i.i (omega arith) (by d.is.ensures c.if-not-is.true) in
+    let a = c.args in
+    let h = hit a.class a.s.now c.loop-i.i (omega arith) (by c.is.ensures c.if-not-is.true) in
     (omega arith, omega arith)
 
 pub overflow_add-i : goal.overflow_add-i
@@ -27,15 +25,12 @@ loop-i-smaller c = omega arith
 
 pub loop-i-preserved : goal.loop-i-preserved
 loop-i-preserved c =
-    let d = c in
-    let l = d in
-    let a = l.args in
-    let h = miss a.class a.s.now l.loop-i.i (omega arith) (by d.is.ensures c.if-not-is.false) in
+    let a = c.args in
+    let h = miss a.class a.s.now c.loop-i.i (omega arith) (by c.is.ensures c.if-not-is.false) in
     (omega arith, rw add-one (omega arith))
 
 pub returns : goal.returns
 returns c =
-    let l = c in
-    let a = l.args in
-    let h = at-end a.class a.s.now l.loop-i.i (omega arith) in
+    let a = c.args in
+    let h = at-end a.class a.s.now c.loop-i.i (omega arith) in
     (omega arith, omega arith)

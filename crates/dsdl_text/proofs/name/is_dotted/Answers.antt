@@ -14,10 +14,8 @@ bounds-s-i c = omega arith
 
 pub returns-then-not-goes_on : goal.returns-then-not-goes_on
 returns-then-not-goes_on c =
-    let d = c in
-    let l = d in
-    let a = l.args in
-    sym (sym l.loop-i.invariant.1 ∙ off l.loop-i.begins a.s.now l.loop-i.i (omega arith) (by d.goes_on.ensures c.if-not-goes_on.true))
+    let a = c.args in
+    sym (sym c.loop-i.invariant.1 ∙ off c.loop-i.begins a.s.now c.loop-i.i (omega arith) (by c.goes_on.ensures c.if-not-goes_on.true))
 
 pub overflow_add-i : goal.overflow_add-i
 overflow_add-i c = omega arith
@@ -27,16 +25,13 @@ loop-i-smaller c = omega arith
 
 pub loop-i-preserved : goal.loop-i-preserved
 loop-i-preserved c =
-    let d = c in
-    let l = d in
-    let a = l.args in (
+    let a = c.args in (
       omega arith,
-      rw add-one (sym (on l.loop-i.begins a.s.now l.loop-i.i (omega arith) (by d.goes_on.ensures c.if-not-goes_on.false))
-          ∙ l.loop-i.invariant.1),
+      rw add-one (sym (on c.loop-i.begins a.s.now c.loop-i.i (omega arith) (by c.goes_on.ensures c.if-not-goes_on.false))
+          ∙ c.loop-i.invariant.1),
     )
 
 pub returns : goal.returns
 returns c =
-    let l = c in
-    let a = l.args in
-    sym (done l.loop-i.begins a.s.now l.loop-i.i (omega arith)) ∙ l.loop-i.invariant.1
+    let a = c.args in
+    sym (done c.loop-i.begins a.s.now c.loop-i.i (omega arith)) ∙ c.loop-i.invariant.1

@@ -7,7 +7,7 @@ pub returns-then-not-is_dotted : goal.returns-then-not-is_dotted
 returns-then-not-is_dotted c = and_first _ _ (by c.is_dotted.ensures c.if-not-is_dotted.true)
 
 pub returns-then-not-has_dot : goal.returns-then-not-has_dot
-returns-then-not-has_dot c = let f = c in and-next _ _ _ (by f.is_dotted.ensures f.if-not-is_dotted.false) (and_first _ _ (by c.has_dot.ensures c.if-not-has_dot.true))
+returns-then-not-has_dot c = and-next _ _ _ (by c.is_dotted.ensures c.if-not-is_dotted.false) (and_first _ _ (by c.has_dot.ensures c.if-not-has_dot.true))
 
 pub returns : goal.returns
-returns c = let f = c in and-next _ _ _ (by f.is_dotted.ensures f.if-not-is_dotted.false) (and-next _ _ _ (by c.has_dot.ensures c.if-not-has_dot.false) refl)
+returns c = and-next _ _ _ (by c.is_dotted.ensures c.if-not-is_dotted.false) (and-next _ _ _ (by c.has_dot.ensures c.if-not-has_dot.false) refl)

@@ -10,4 +10,4 @@ pub returns-then-not-is : goal.returns-then-not-is
 returns-then-not-is c = and_first _ _ (by c.is.ensures c.if-not-is.true)
 
 pub returns : goal.returns
-returns c = let f = c in and-next _ _ _ (by f.is.ensures f.if-not-is.false) c.all.ensures
+returns c = and-next _ _ _ (by c.is.ensures c.if-not-is.false) c.all.ensures
