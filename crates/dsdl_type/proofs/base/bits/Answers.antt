@@ -1,9 +1,7 @@
 -- `base::bits` meets its contract.
 use Rattle.dsdl_text.proofs.Choices.{by}
-use borrow.Author.Tests.{not-true, not-false}
 use Rattle.dsdl_type.proofs.Bases.{no-digits, too_many, no_number, not-digits, digits}
 use native.Mathlib.Omega.{arith}
-use borrow.Author.Rules.{rules}
 use Rattle.dsdl_type.proofs.base.bits.Goals as goal
 
 pub returns-then-s-eq0 : goal.returns-then-s-eq0
@@ -14,13 +12,13 @@ returns-then-s-gt2 c = (too_many c.args.s.now c.if-s-gt2.true, omega arith)
 
 pub returns-then-not-is : goal.returns-then-not-is
 returns-then-not-is c =
-    (no_number c.args.s.now (by c.is.ensures (not-true _ c.if-not-is.true)), omega arith)
+    (no_number c.args.s.now (by c.is.ensures c.if-not-is.true), omega arith)
 
 pub returns-then-not-all : goal.returns-then-not-all
 returns-then-not-all c =
-    (not-digits c.args.s.now (by c.all.ensures (not-true _ c.if-not-all.true)), omega arith)
+    (not-digits c.args.s.now (by c.all.ensures c.if-not-all.true), omega arith)
 
 pub returns : goal.returns
 returns c =
-    digits c.args.s.now c.capped.result (by c.is.ensures (not-false _ c.if-not-is.false)) (by c.all.ensures (not-false _ c.if-not-all.false))
+    digits c.args.s.now c.capped.result (by c.is.ensures c.if-not-is.false) (by c.all.ensures c.if-not-all.false)
     c.if-s-gt2.false c.capped.ensures

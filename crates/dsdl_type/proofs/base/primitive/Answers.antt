@@ -1,7 +1,6 @@
 -- `base::primitive` meets its contract.
 use Rattle.dsdl_text.proofs.Choices.{first, next, by}
 use mathlib.Core.Path.{refl}
-use borrow.Author.Rules.{rules}
 use Rattle.dsdl_type.proofs.base.primitive.Goals as goal
 
 pub returns-then-is_of : goal.returns-then-is_of

@@ -7,7 +7,6 @@ use lib.ListN.{length, take, drop}
 use native.Mathlib.Omega.{arith}
 use Prim.Native.Nat.{ℕ, ◌-◌}
 use mathlib.Core.Path.{◌≡◌, ap}
-use borrow.Author.Rules.{rules}
 use Rattle.dsdl_type.proofs.base.read.Goals as goal
 
 pub returns-then-same : goal.returns-then-same

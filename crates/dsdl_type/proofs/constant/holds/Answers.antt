@@ -4,7 +4,6 @@ use Rattle.dsdl_type.proofs.Holding.{signed-bits, unsigned-bits, held-boolean, h
 use lib.Pow.{pow_mono}
 use Prim.Native.Nat.{◌-◌, ◌^◌, ◌≤◌}
 use native.Mathlib.Omega.{arith}
-use borrow.Author.Rules.{rules}
 use Rattle.dsdl_type.proofs.constant.holds.Goals as goal
 
 pub is_within-requires : goal.is_within-requires
@@ -36,7 +35,7 @@ pub returns-in-Boolean : goal.returns-in-Boolean
 returns-in-Boolean c =
     λ d en ew ev.
     let a = c.args in
-    held-boolean a.b d a.s.now a.point a.n a.base a.negative _ en ew ev c.side.result c.in-Boolean.is c.side.ensures c.is_Within.ensures
+    held-boolean a.b d a.s.now a.point a.n a.base a.negative _ en ew ev c.side.result c.in-Boolean.is c.side.ensures c.is_within.ensures
 
 pub returns-in-Signed : goal.returns-in-Signed
 returns-in-Signed c =

@@ -1,7 +1,6 @@
 -- `constant::holds_code` meets its contract.
 use Rattle.dsdl_type.proofs.Holding.{signed-bits, unsigned-bits, code-boolean, code-signed, code-unsigned, code-floating, of-void, of-nested, of-unknown}
 use native.Mathlib.Omega.{arith}
-use borrow.Author.Rules.{rules}
 use Rattle.dsdl_type.proofs.constant.holds_code.Goals as goal
 
 pub overflow_sub-bits : goal.overflow_sub-bits

@@ -1,6 +1,5 @@
 -- `constant::is_finite` meets its contract.
 use Rattle.dsdl_type.proofs.Finite.{base-bounds, of-32, of-16, of-64}
-use borrow.Author.Rules.{rules}
 use Rattle.dsdl_type.proofs.constant.is_finite.Goals as goal
 
 pub returns-then-bits-eq32 : goal.returns-then-bits-eq32

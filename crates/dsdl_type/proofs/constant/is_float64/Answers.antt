@@ -4,7 +4,6 @@ use Rattle.dsdl_type.specs.Constant.{infinity_from}
 use Rattle.dsdl_number.specs.inside.Significand.{significand}
 use native.Mathlib.Omega.{arith}
 use mathlib.Core.Path.{refl}
-use borrow.Author.Rules.{rules}
 use Rattle.dsdl_type.proofs.constant.is_float64.Goals as goal
 
 pub returns-then-base-eq10 : goal.returns-then-base-eq10

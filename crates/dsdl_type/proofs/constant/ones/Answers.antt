@@ -2,7 +2,6 @@
 use lib.Pow.{pow_pos, pow-lt}
 use Prim.Native.Nat.{◌^◌, ◌<◌}
 use native.Mathlib.Omega.{arith}
-use borrow.Author.Rules.{rules}
 use Rattle.dsdl_type.proofs.constant.ones.Goals as goal
 
 pub returns-then-bits-eq64 : goal.returns-then-bits-eq64

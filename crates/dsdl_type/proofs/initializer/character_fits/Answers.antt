@@ -1,6 +1,5 @@
 -- `initializer::character_fits` meets its contract.
 use Rattle.dsdl_type.proofs.Initializers.{a-code, no_code}
-use borrow.Author.Rules.{rules}
 use Rattle.dsdl_type.proofs.initializer.character_fits.Goals as goal
 
 pub returns-then-code-lt256 : goal.returns-then-code-lt256

@@ -4,7 +4,6 @@ use Rattle.dsdl_text.proofs.Parts.{rest}
 use lib.ListN.{length, length-drop}
 use mathlib.Core.Path.{ap}
 use native.Mathlib.Omega.{arith}
-use borrow.Author.Rules.{rules}
 use Rattle.dsdl_type.proofs.initializer.fits.Goals as goal
 
 pub slice_bounds-quoted-count : goal.slice_bounds-quoted-count

@@ -5,7 +5,6 @@ use lib.ListN.{length-take}
 use Prim.Native.Nat.{◌+◌, ◌-◌}
 use mathlib.Core.Path.{◌≡◌, refl}
 use native.Mathlib.Omega.{arith}
-use borrow.Author.Rules.{rules}
 use Rattle.dsdl_type.proofs.initializer.floating_fits.Goals as goal
 
 pub with_point-requires : goal.with_point-requires

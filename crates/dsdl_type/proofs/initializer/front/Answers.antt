@@ -2,7 +2,6 @@
 use Rattle.dsdl_text.proofs.LineEnds.{beyond}
 use mathlib.Core.Path.{sym}
 use native.Mathlib.Omega.{arith}
-use borrow.Author.Rules.{rules}
 use Rattle.dsdl_type.proofs.initializer.front.Goals as goal
 
 pub returns-then-l-eq0 : goal.returns-then-l-eq0

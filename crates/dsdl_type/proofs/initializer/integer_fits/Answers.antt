@@ -6,7 +6,6 @@ use lib.ListN.{length, take, drop, length-drop}
 use Prim.Native.Nat.{◌-◌}
 use mathlib.Core.Path.{refl, ap, ◌∙◌}
 use native.Mathlib.Omega.{arith}
-use borrow.Author.Rules.{rules}
 use Rattle.dsdl_type.proofs.initializer.integer_fits.Goals as goal
 
 pub holds-requires : goal.holds-requires

@@ -3,7 +3,6 @@ use Rattle.dsdl_text.proofs.Choices.{and_first}
 use Rattle.dsdl_type.proofs.Initializers.{sign-before, no-sign-before}
 use borrow.Author.Tests.{le-ltb}
 use native.Mathlib.Omega.{arith}
-use borrow.Author.Rules.{rules}
 use Rattle.dsdl_type.proofs.initializer.is_integer.Goals as goal
 
 pub returns-then-base-eq0 : goal.returns-then-base-eq0

@@ -1,6 +1,5 @@
 -- `initializer::number_fits` meets its contract.
 use Rattle.dsdl_type.proofs.Initializers.{base_there, an-integer, a-floating, no_number}
-use borrow.Author.Rules.{rules}
 use Rattle.dsdl_type.proofs.initializer.number_fits.Goals as goal
 
 pub integer_fits-requires : goal.integer_fits-requires
@@ -15,9 +14,9 @@ returns-then-is_integer c =
 pub returns-then-is_floating : goal.returns-then-is_floating
 returns-then-is_floating c =
     let a = c.args in
-    a-floating a.b a.signed a.negative a.w.now c.base-base.result c.is_integer.result c.base-base.ensures c.is_integer.ensures _ _ c.if-is_integer.false c.is_Floating.ensures c.if-is_floating.true c.floating_fits.ensures
+    a-floating a.b a.signed a.negative a.w.now c.base-base.result c.is_integer.result c.base-base.ensures c.is_integer.ensures _ _ c.if-is_integer.false c.is_floating.ensures c.if-is_floating.true c.floating_fits.ensures
 
 pub returns : goal.returns
 returns c =
     let a = c.args in
-    no_number a.b a.signed a.negative a.w.now c.base-base.result c.is_integer.result c.base-base.ensures c.is_integer.ensures _ c.if-is_integer.false c.is_Floating.ensures c.if-is_floating.false
+    no_number a.b a.signed a.negative a.w.now c.base-base.result c.is_integer.result c.base-base.ensures c.is_integer.ensures _ c.if-is_integer.false c.is_floating.ensures c.if-is_floating.false

@@ -1,7 +1,6 @@
 -- `initializer::with_point` meets its contract.
 use borrow.Author.Tests.{lt-ltb}
 use native.Mathlib.Omega.{arith}
-use borrow.Author.Rules.{rules}
 use Rattle.dsdl_type.proofs.initializer.with_point.Goals as goal
 
 pub returns-then-f-eq0 : goal.returns-then-f-eq0

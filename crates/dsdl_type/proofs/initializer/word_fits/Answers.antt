@@ -1,6 +1,5 @@
 -- `initializer::word_fits` meets its contract.
 use Rattle.dsdl_type.proofs.Initializers.{a-true, a-false, no_truth}
-use borrow.Author.Rules.{rules}
 use Rattle.dsdl_type.proofs.initializer.word_fits.Goals as goal
 
 pub returns-then-same : goal.returns-then-same

@@ -1,6 +1,5 @@
 -- `size::bounds_of` meets its contract.
 use Rattle.dsdl_type.proofs.Sizes.{no-bounds, exact, alone, at-most, below}
-use borrow.Author.Rules.{rules}
 use Rattle.dsdl_type.proofs.size.bounds_of.Goals as goal
 
 pub returns-then-s-eq0 : goal.returns-then-s-eq0

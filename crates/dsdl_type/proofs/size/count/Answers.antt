@@ -1,6 +1,5 @@
 -- `size::count` meets its contract.
 use Rattle.dsdl_type.proofs.Sizes.{no-count, with-plus, no_plus}
-use borrow.Author.Rules.{rules}
 use Rattle.dsdl_type.proofs.size.count.Goals as goal
 
 pub returns-then-s-eq0 : goal.returns-then-s-eq0

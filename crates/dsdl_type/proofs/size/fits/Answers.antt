@@ -1,6 +1,5 @@
 -- `size::fits` meets its contract.
 use Rattle.dsdl_type.proofs.Sizes.{unsized, some-items}
-use borrow.Author.Rules.{rules}
 use Rattle.dsdl_type.proofs.size.fits.Goals as goal
 
 pub returns-then-s-eq0 : goal.returns-then-s-eq0

@@ -2,7 +2,6 @@
 use Rattle.dsdl_text.proofs.Choices.{and_first, and-next}
 use borrow.Author.Tests.{lt-leb, le-leb, eq-eqb, ne_eqb}
 use mathlib.Core.Path.{refl}
-use borrow.Author.Rules.{rules}
 use Rattle.dsdl_type.proofs.size.is_bracketed.Goals as goal
 
 pub returns-then-n-lt2 : goal.returns-then-n-lt2

@@ -1,6 +1,5 @@
 -- `size::items_by` meets its contract.
 use Rattle.dsdl_type.proofs.Sizes.{told, one-there, two-there, exactly-items, none_below, below-items, at-most-items}
-use borrow.Author.Rules.{rules}
 use Rattle.dsdl_type.proofs.size.items_by.Goals as goal
 
 pub slice_bounds-count-count : goal.slice_bounds-count-count

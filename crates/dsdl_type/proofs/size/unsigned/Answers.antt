@@ -3,7 +3,6 @@ use Rattle.dsdl_type.proofs.Sizes.{no-literal, decimals, prefixed-digits}
 use Rattle.dsdl_number.proofs.Literals.{prefixed, base-bound}
 use native.Mathlib.Omega.{arith}
 use mathlib.Core.Path.{◌∙◌}
-use borrow.Author.Rules.{rules}
 use Rattle.dsdl_type.proofs.size.unsigned.Goals as goal
 
 pub returns-then-b-eq0 : goal.returns-then-b-eq0
