@@ -6,6 +6,8 @@
 ghost use Rattle.std.specs.Prelude.{◌≡◌, ◌≤◌, length};
 
 use capture_convert::{records, trailer};
+use console::Progress;
+use std::io::{Read, Write};
 
 // A block, with what was kept in front of it, and room for as many records as it could have lines.
 const BLOCK: usize = 32768;
@@ -53,34 +55,32 @@ fn keep(block: &mut [u8], from: usize, to: usize) -> usize
 }
 
 // 18, with the line.
-fn ill_formed(line: u64) {
-    io::write_all(libc::STDERR_FILENO, b"18: not a well-formed log, line ");
-    io::print_decimal(libc::STDERR_FILENO, line);
-    io::write_all(libc::STDERR_FILENO, b"\n");
+fn ill_formed(rt: &impl Eprint, line: u64) {
+    let _ = eprintln!(rt; "18: not a well-formed log, line {line}");
 }
 
 // Writes records, unless there are too many lines already.
-fn stored(records: &[u8], count: u64) -> bool {
+fn stored(rt: &(impl Print + Eprint), records: &[u8], count: u64) -> bool {
     if LINES_OVER <= count {
         return true;
     }
-    console::written(records)
+    console::written(rt, records)
 }
 
 // The lines among the first n bytes of the block: their records are written, and what follows them is kept.
-fn feed(block: &mut [u8], n: usize, out: &mut [u8], s: After) -> After
+fn feed(rt: &(impl Print + Eprint), block: &mut [u8], n: usize, out: &mut [u8], s: After) -> After
     requires { (n ≤ 32768) × ((length block.old ≡ 32768) × (length out.old ≡ 688128)) }
     ensures { result.kept ≤ 32768 }
 {
     let r = records::records(&block[0..n], out);
     let from = r.from;
     let size = r.count * capture_record::SIZE;
-    let count = std::num::wrapping_add_u64(s.count, r.count as u64);
+    let count = s.count.wrapping_add(r.count as u64);
     if !r.ok {
-        ill_formed(std::num::wrapping_add_u64(count, 1));
+        ill_formed(rt, count.wrapping_add(1));
         return stop(true, 0, count, s.sum);
     }
-    let good = stored(&out[0..size], count);
+    let good = stored(rt, &out[0..size], count);
     let sum = checksum::crc16::over(s.sum, &out[0..size]);
     After {
         more: good,
@@ -92,46 +92,53 @@ fn feed(block: &mut [u8], n: usize, out: &mut [u8], s: After) -> After
 }
 
 // One read.
-fn turn(block: &mut [u8], out: &mut [u8], s: After) -> After
+fn turn(
+    rt: &(impl Print + Eprint),
+    input: &mut impl Read,
+    block: &mut [u8],
+    out: &mut [u8],
+    s: After,
+) -> After
     requires { (s.kept ≤ 32768) × ((length block.old ≡ 32768) × (length out.old ≡ 688128)) }
     ensures { result.kept ≤ 32768 }
 {
     let kept = s.kept;
-    let got = libc::read(0, &mut block[kept..]);
-    if got < 0 {
-        console::cannot_read();
+    let Ok(got) = input.read(&mut block[kept..]) else {
+        console::cannot_read(rt);
         return stop(true, kept, s.count, s.sum);
-    }
-    let n = kept + io::count(got, &block[kept..]);
+    };
+    let n = kept + got;
     if n == kept {
         return stop(false, kept, s.count, s.sum);
     }
-    feed(block, n, out, s)
+    feed(rt, block, n, out, s)
 }
 
 // After the last block: an unfinished line, too many lines, or the trailer.
-fn end(out: &mut [u8], s: After)
+fn end(rt: &(impl Print + Eprint), out: &mut [u8], s: After)
     requires { length out.old ≡ 688128 }
 {
     if 0 < s.kept {
-        return ill_formed(std::num::wrapping_add_u64(s.count, 1));
+        return ill_formed(rt, s.count.wrapping_add(1));
     }
     let count = s.count;
     if LINES_OVER <= count {
-        io::write_all(
-            libc::STDERR_FILENO,
-            b"9: more lines than a capture can count\n",
-        );
-        return;
+        return console::say(rt, "9: more lines than a capture can count\n");
     }
     trailer::put(out, 0, count as usize, s.sum);
-    if console::written(&out[0..trailer::SIZE]) {
-        console::done();
+    if console::written(rt, &out[0..trailer::SIZE]) {
+        console::done(rt);
     }
 }
 
 // All blocks, and the end, which does not come after a refusal or a failure. From time to time a line on descriptor 3 says how far it is.
-fn run(block: &mut [u8], out: &mut [u8])
+fn run(
+    rt: &(impl Print + Eprint),
+    input: &mut impl Read,
+    progress: &mut Progress<impl Write>,
+    block: &mut [u8],
+    out: &mut [u8],
+)
     requires { (length block.old ≡ 32768) × (length out.old ≡ 688128) }
 {
     let mut s = After {
@@ -143,20 +150,21 @@ fn run(block: &mut [u8], out: &mut [u8])
     };
     let mut turns = u64::MAX;
     while turns > 0 && s.more {
-        s = turn(block, out, s);
+        s = turn(rt, input, block, out, s);
         turns -= 1;
         if turns % 2048 == 0 {
-            console::progress(std::num::wrapping_sub_u64(u64::MAX, turns) / 32);
+            progress.tell(u64::MAX.wrapping_sub(turns) / 32);
         }
     }
     if s.told {
         return;
     }
-    end(out, s);
+    end(rt, out, s);
 }
 
-fn main() {
+fn main(rt: HostRuntime) {
     let mut block = [0u8; BLOCK];
     let mut out = [0u8; OUT];
-    run(&mut block, &mut out);
+    let mut progress = console::open_progress(&rt);
+    run(&rt, &mut rt.stdin(), &mut progress, &mut block, &mut out);
 }

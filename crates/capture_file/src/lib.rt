@@ -1,4 +1,5 @@
-// A capture on standard input, which must be a file (RULES 18.2): its trailer first, then its records, a block at a time. For programs that read one.
+// A capture in a file (RULES 18.2): its trailer first, then its records, a block at a time. For programs that read one. The file is the one that a
+// program's argument names, or else standard input, which must be a file.
 #![tactic(auto)]
 
 ghost use Rattle.std.specs.Prelude.{◌*◌, ◌^◌, ◌≤◌, ◌<◌, length};
@@ -6,16 +7,22 @@ ghost use Rattle.capture_record.specs.Record.{record_size};
 
 use capture_convert::trailer;
 use capture_convert::trailer::Trailer;
+use console::Progress;
+use std::env::FillError;
+use std::fs;
+use std::io::{Read, Seek, SeekFrom, Write};
+use std::os::unix::fs::FileTypeExt;
+use std::rt::{Env, Files};
 
 // The records of a block, and its bytes.
 pub const RECORDS: usize = 1024;
 
 pub const BLOCK: usize = RECORDS * capture_record::SIZE;
 
-// What standard input is: a capture, by its trailer and length; none; or it cannot be read.
+// What the file is: a capture, by its trailer and length; none; or it cannot be read.
 #[derive(Drop)]
-pub enum Opened {
-    Capture(Trailer),
+pub enum Opened<F> {
+    Capture(F, Trailer),
     NoCapture,
     Unreadable,
 }
@@ -44,9 +51,9 @@ fn begin(t: Trailer, end: u64) -> i64
 }
 
 // Reads the trailer, which is at `end`, and goes to the first record.
-fn at_trailer(end: u64) -> Opened {
+fn at_trailer<F: Read + Seek + Drop>(mut file: F, end: u64) -> Opened<F> {
     let mut bytes = [0u8; trailer::SIZE];
-    if io::read_full(0, &mut bytes) < trailer::SIZE {
+    if file.read_exact(&mut bytes).is_err() {
         return Opened::Unreadable;
     }
     let t = trailer::read(&bytes);
@@ -57,39 +64,75 @@ fn at_trailer(end: u64) -> Opened {
     if from < 0 {
         return Opened::NoCapture;
     }
-    if libc::lseek(0, from, libc::SEEK_SET) < 0 {
+    if file.seek(SeekFrom::Start(shape::signed::size(from))).is_err() {
         return Opened::Unreadable;
     }
-    Opened::Capture(t)
+    Opened::Capture(file, t)
 }
 
 // Internal. Reads the trailer, and goes to the first record. The checksum is not looked at.
-pub fn open() -> Opened {
-    if libc::lseek(0, 0, libc::SEEK_END) < 0 {
+pub fn open<R: Files + Env>(rt: &R) -> Opened<R::File> {
+    let Some(mut file) = input(rt) else {
+        return Opened::Unreadable;
+    };
+    if file.seek(SeekFrom::End(0)).is_err() {
         return Opened::Unreadable;
     }
-    let end = libc::lseek(0, -16, libc::SEEK_END);
-    if end < 0 {
-        return Opened::NoCapture;
+    match file.seek(SeekFrom::End(-16)) {
+        Ok(end) => at_trailer(file, end),
+        Err(_) => Opened::NoCapture,
     }
-    at_trailer(shape::signed::size(end))
+}
+
+// The file that the first argument names, or standard input.
+fn input<R: Files + Env>(rt: &R) -> Option<R::File> {
+    let mut name = [0u8; 4096];
+    match rt.arg(1, &mut name) {
+        Ok(n) => named(rt, &name[..n]),
+        Err(FillError::NotPresent) => standard_input(rt),
+        Err(FillError::TooLong) => None,
+    }
+}
+
+fn named<R: Files>(rt: &R, name: &[u8]) -> Option<R::File> {
+    match std::str::from_utf8(name) {
+        Ok(name) => fs::open(rt, name).ok(),
+        Err(_) => None,
+    }
+}
+
+// Standard input with a position of its own, from its first byte on.
+fn standard_input<R: Files>(rt: &R) -> Option<R::File> {
+    let name = "/dev/fd/0";
+    if !console::is_open(rt, name, 0o400) || is_pipe(rt, name) {
+        return None;
+    }
+    fs::open(rt, name).ok()
+}
+
+// Of a pipe there is no end to go to, and to open one by its name may wait for a writer.
+fn is_pipe(rt: &impl Files, name: &str) -> bool {
+    match fs::metadata(rt, name) {
+        Ok(m) => m.file_type().is_fifo(),
+        Err(_) => true,
+    }
 }
 
 // Internal. Reads the next records into a block, as many as are left and it has room for; how many, 0 if reading fails.
-pub fn next(block: &mut [u8], left: usize) -> usize
+pub fn next(file: &mut impl Read, block: &mut [u8], left: usize) -> usize
     ensures { (result ≤ left) × (result * record_size ≤ length block.old) }
 {
     let k = least(left, block.len() / capture_record::SIZE);
     let n = k * capture_record::SIZE;
-    if io::read_full(0, &mut block[0..n]) < n {
+    if file.read_exact(&mut block[0..n]).is_err() {
         return 0;
     }
     k
 }
 
 // Internal. Says after every 63 MiB how many records are done.
-pub fn tell(done: u64) {
+pub fn tell(progress: &mut Progress<impl Write>, done: u64) {
     if done % 3_145_728 == 0 {
-        console::progress(done / 3_145_728 * 63);
+        progress.tell(done / 3_145_728 * 63);
     }
 }

@@ -31,13 +31,14 @@ fn values(m: Raw) -> [i64; 13] {
     ]
 }
 
-pub fn decode(payload: &[u8], out: &mut [u8], at: usize) -> usize {
+pub fn decode(rt: &(impl Print + Eprint), payload: &[u8], out: &mut [u8], at: usize) -> usize {
     match battery_info::decode_raw(payload) {
-        ReadRaw::Refused(n) => answer::refused(out, at, n),
+        ReadRaw::Refused(n) => answer::refused(rt, out, at, n),
         ReadRaw::Got(m, _) => {
             let v = values(m);
-            let a = answer::numbers(out, at, &NAMES, &v);
+            let a = answer::numbers(rt, out, at, &NAMES, &v);
             answer::list(
+                rt,
                 out,
                 a,
                 names::nth(&NAMES, 13),

@@ -13,22 +13,22 @@ use codec_text::{answer, number, put};
 fn service(name: &[u8], words: &[u8], bytes: &mut [u8], message: &mut [u8]) -> Encoded
     requires { length words.now ≤ length bytes.old }
 {
-    if check::same(name, b"GetNodeInfo.Request") {
+    if name == b"GetNodeInfo.Request".as_slice() {
         return get_node_info_request::encode(words, bytes, message);
     }
-    if check::same(name, b"GetNodeInfo.Response") {
+    if name == b"GetNodeInfo.Response".as_slice() {
         return get_node_info_response::encode(words, bytes, message);
     }
-    if check::same(name, b"GetSet.Request") {
+    if name == b"GetSet.Request".as_slice() {
         return get_set_request::encode(words, bytes, message);
     }
-    if check::same(name, b"GetSet.Response") {
+    if name == b"GetSet.Response".as_slice() {
         return get_set_response::encode(words, bytes, message);
     }
-    if check::same(name, b"ExecuteOpcode.Request") {
+    if name == b"ExecuteOpcode.Request".as_slice() {
         return execute_opcode_request::encode(words, bytes, message);
     }
-    if check::same(name, b"ExecuteOpcode.Response") {
+    if name == b"ExecuteOpcode.Response".as_slice() {
         return execute_opcode_response::encode(words, bytes, message);
     }
     Encoded::IllFormed
@@ -38,22 +38,22 @@ fn service(name: &[u8], words: &[u8], bytes: &mut [u8], message: &mut [u8]) -> E
 fn typed(name: &[u8], words: &[u8], bytes: &mut [u8], message: &mut [u8]) -> Encoded
     requires { length words.now ≤ length bytes.old }
 {
-    if check::same(name, b"NodeStatus") {
+    if name == b"NodeStatus".as_slice() {
         return node_status::encode(words, bytes, message);
     }
-    if check::same(name, b"Allocation") {
+    if name == b"Allocation".as_slice() {
         return allocation::encode(words, bytes, message);
     }
-    if check::same(name, b"KeyValue") {
+    if name == b"KeyValue".as_slice() {
         return key_value::encode(words, bytes, message);
     }
-    if check::same(name, b"LogMessage") {
+    if name == b"LogMessage".as_slice() {
         return log_message::encode(words, bytes, message);
     }
-    if check::same(name, b"BatteryInfo") {
+    if name == b"BatteryInfo".as_slice() {
         return battery_info::encode(words, bytes, message);
     }
-    if check::same(name, b"RawCommand") {
+    if name == b"RawCommand".as_slice() {
         return raw_command::encode(words, message);
     }
     service(name, words, bytes, message)
@@ -61,6 +61,7 @@ fn typed(name: &[u8], words: &[u8], bytes: &mut [u8], message: &mut [u8]) -> Enc
 
 // By way of the buffers for the lists and for the message.
 fn through(
+    rt: &(impl Print + Eprint),
     name: &[u8],
     words: &[u8],
     bytes: &mut [u8],
@@ -71,26 +72,39 @@ fn through(
     requires { length words.now ≤ length bytes.old }
 {
     let e = typed(name, words, bytes, message);
-    answer::written(out, at, e, message)
+    answer::written(rt, out, at, e, message)
 }
 
 // The answer for a message buffer of that room.
-fn into(name: &[u8], words: &[u8], room: usize, out: &mut [u8], at: usize) -> usize
+fn into(
+    rt: &(impl Print + Eprint),
+    name: &[u8],
+    words: &[u8],
+    room: usize,
+    out: &mut [u8],
+    at: usize,
+) -> usize
     requires { (room ≤ 512) × (length words.now ≤ 8192) }
 {
     let mut bytes = [0u8; 8192];
     let mut message = [0u8; 512];
-    through(name, words, &mut bytes, &mut message[0..room], out, at)
+    through(rt, name, words, &mut bytes, &mut message[0..room], out, at)
 }
 
 // Internal. The answer to `encode`, a type's name and the rest: the room, then the fields.
-pub fn answer(name: &[u8], rest: &[u8], out: &mut [u8], at: usize) -> usize
+pub fn answer(
+    rt: &(impl Print + Eprint),
+    name: &[u8],
+    rest: &[u8],
+    out: &mut [u8],
+    at: usize,
+) -> usize
     requires { length rest.now ≤ 8192 }
 {
     let e = digits::find(rest, 0, 32);
     let n = number::digits(&rest[0..e]);
     if answer::is_none(n) {
-        return put::ill_formed(out, at);
+        return put::ill_formed(rt, out, at);
     }
-    into(name, &rest[e..], answer::room(n), out, at)
+    into(rt, name, &rest[e..], answer::room(n), out, at)
 }

@@ -8,12 +8,12 @@ use protocol_param::execute_opcode_request::{Read, Request};
 
 const NAMES: [u8; 15] = *b"opcode argument";
 
-pub fn decode(payload: &[u8], out: &mut [u8], at: usize) -> usize {
+pub fn decode(rt: &(impl Print + Eprint), payload: &[u8], out: &mut [u8], at: usize) -> usize {
     match execute_opcode_request::decode(payload) {
-        Read::Refused(n) => answer::refused(out, at, n),
+        Read::Refused(n) => answer::refused(rt, out, at, n),
         Read::Got(x) => {
             let v = [x.opcode, x.argument];
-            answer::numbers(out, at, &NAMES, &v)
+            answer::numbers(rt, out, at, &NAMES, &v)
         }
     }
 }

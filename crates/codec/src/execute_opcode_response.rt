@@ -8,12 +8,12 @@ use protocol_param::execute_opcode_response::{Read, Response};
 
 const NAMES: [u8; 11] = *b"argument ok";
 
-pub fn decode(payload: &[u8], out: &mut [u8], at: usize) -> usize {
+pub fn decode(rt: &(impl Print + Eprint), payload: &[u8], out: &mut [u8], at: usize) -> usize {
     match execute_opcode_response::decode(payload) {
-        Read::Refused(n) => answer::refused(out, at, n),
+        Read::Refused(n) => answer::refused(rt, out, at, n),
         Read::Got(x) => {
             let v = [x.argument, x.ok];
-            answer::numbers(out, at, &NAMES, &v)
+            answer::numbers(rt, out, at, &NAMES, &v)
         }
     }
 }

@@ -4,10 +4,10 @@ use codec_text::answer::Encoded;
 use protocol::get_node_info_request;
 use protocol::get_node_info_request::Read;
 
-pub fn decode(payload: &[u8], out: &mut [u8], at: usize) -> usize {
+pub fn decode(rt: &(impl Print + Eprint), payload: &[u8], out: &mut [u8], at: usize) -> usize {
     match get_node_info_request::decode(payload) {
-        Read::Refused(n) => answer::refused(out, at, n),
-        Read::Got => answer::numbers(out, at, b"", &[0i64; 0]),
+        Read::Refused(n) => answer::refused(rt, out, at, n),
+        Read::Got => answer::numbers(rt, out, at, b"", &[0i64; 0]),
     }
 }
 

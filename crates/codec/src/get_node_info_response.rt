@@ -13,7 +13,13 @@ const NAMES: [u8; 356] =
 software_version.major software_version.minor software_version.optional_field_flags software_version.vcs_commit \
 software_version.image_crc hardware_version.major hardware_version.minor hardware_version.unique_id hardware_version.certificate_of_authenticity name";
 
-fn put_software(s: NodeStatus, w: SoftwareVersion, out: &mut [u8], at: usize) -> usize {
+fn put_software(
+    rt: &(impl Print + Eprint),
+    s: NodeStatus,
+    w: SoftwareVersion,
+    out: &mut [u8],
+    at: usize,
+) -> usize {
     let v = [
         s.uptime_sec,
         s.health,
@@ -25,21 +31,27 @@ fn put_software(s: NodeStatus, w: SoftwareVersion, out: &mut [u8], at: usize) ->
         w.optional_field_flags,
         w.vcs_commit,
     ];
-    let a = answer::numbers(out, at, &NAMES, &v);
-    answer::unsigned(out, a, names::nth(&NAMES, 9), w.image_crc)
+    let a = answer::numbers(rt, out, at, &NAMES, &v);
+    answer::unsigned(rt, out, a, names::nth(&NAMES, 9), w.image_crc)
 }
 
-fn put_hardware(h: HardwareVersion, out: &mut [u8], at: usize) -> usize {
-    let a = answer::number(out, at, names::nth(&NAMES, 10), h.major);
-    answer::number(out, a, names::nth(&NAMES, 11), h.minor)
+fn put_hardware(
+    rt: &(impl Print + Eprint),
+    h: HardwareVersion,
+    out: &mut [u8],
+    at: usize,
+) -> usize {
+    let a = answer::number(rt, out, at, names::nth(&NAMES, 10), h.major);
+    answer::number(rt, out, a, names::nth(&NAMES, 11), h.minor)
 }
 
-fn put_lists(payload: &[u8], out: &mut [u8], at: usize) -> usize {
+fn put_lists(rt: &(impl Print + Eprint), payload: &[u8], out: &mut [u8], at: usize) -> usize {
     let unique_id = get_node_info_response::unique_id(payload);
     let certificate = get_node_info_response::certificate_of_authenticity(payload);
-    let a = answer::list(out, at, names::nth(&NAMES, 12), unique_id);
-    let b = answer::list(out, a, names::nth(&NAMES, 13), certificate);
+    let a = answer::list(rt, out, at, names::nth(&NAMES, 12), unique_id);
+    let b = answer::list(rt, out, a, names::nth(&NAMES, 13), certificate);
     answer::list(
+        rt,
         out,
         b,
         names::nth(&NAMES, 14),
@@ -47,16 +59,16 @@ fn put_lists(payload: &[u8], out: &mut [u8], at: usize) -> usize {
     )
 }
 
-pub fn decode(payload: &[u8], out: &mut [u8], at: usize) -> usize {
+pub fn decode(rt: &(impl Print + Eprint), payload: &[u8], out: &mut [u8], at: usize) -> usize {
     match get_node_info_response::decode(payload) {
-        Read::Refused(n) => answer::refused(out, at, n),
+        Read::Refused(n) => answer::refused(rt, out, at, n),
         Read::Got(x) => {
             let s = x.status;
             let w = x.software_version;
             let h = x.hardware_version;
-            let a = put_software(s, w, out, at);
-            let b = put_hardware(h, out, a);
-            put_lists(payload, out, b)
+            let a = put_software(rt, s, w, out, at);
+            let b = put_hardware(rt, h, out, a);
+            put_lists(rt, payload, out, b)
         }
     }
 }

@@ -11,12 +11,19 @@ use shape::answer::Written;
 const NAMES: [u8; 96] =
     *b"index value.tag value.integer_value value.real_value value.boolean_value value.string_value name";
 
-fn put_fields(x: Request, payload: &[u8], out: &mut [u8], at: usize) -> usize {
+fn put_fields(
+    rt: &(impl Print + Eprint),
+    x: Request,
+    payload: &[u8],
+    out: &mut [u8],
+    at: usize,
+) -> usize {
     let v = x.value;
     let text = get_set_request::string_value(payload);
-    let a = answer::number(out, at, names::nth(&NAMES, 0), x.index);
-    let b = param_value::put(out, a, &NAMES, 1, v, names::nth(&NAMES, 5), text);
+    let a = answer::number(rt, out, at, names::nth(&NAMES, 0), x.index);
+    let b = param_value::put(rt, out, a, &NAMES, 1, v, names::nth(&NAMES, 5), text);
     answer::list(
+        rt,
         out,
         b,
         names::nth(&NAMES, 6),
@@ -24,12 +31,12 @@ fn put_fields(x: Request, payload: &[u8], out: &mut [u8], at: usize) -> usize {
     )
 }
 
-pub fn decode(payload: &[u8], out: &mut [u8], at: usize) -> usize {
+pub fn decode(rt: &(impl Print + Eprint), payload: &[u8], out: &mut [u8], at: usize) -> usize {
     match get_set_request::decode(payload) {
-        Read::Refused(n) => answer::refused(out, at, n),
+        Read::Refused(n) => answer::refused(rt, out, at, n),
         Read::Got(x) => {
-            let o = put::byte(out, at, 48);
-            put_fields(x, payload, out, o)
+            let o = put::byte(rt, out, at, 48);
+            put_fields(rt, x, payload, out, o)
         }
     }
 }

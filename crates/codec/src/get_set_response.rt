@@ -13,13 +13,20 @@ default_value.tag default_value.integer_value default_value.real_value default_v
 max_value.tag max_value.integer_value max_value.real_value min_value.tag min_value.integer_value min_value.real_value \
 value.string_value default_value.string_value name";
 
-fn put_values(x: Response, payload: &[u8], out: &mut [u8], at: usize) -> usize {
+fn put_values(
+    rt: &(impl Print + Eprint),
+    x: Response,
+    payload: &[u8],
+    out: &mut [u8],
+    at: usize,
+) -> usize {
     let value = x.value;
     let default_value = x.default_value;
     let text = get_set_response::string_value(payload);
     let other = get_set_response::default_string_value(payload);
-    let a = param_value::put(out, at, &NAMES, 0, value, names::nth(&NAMES, 14), text);
+    let a = param_value::put(rt, out, at, &NAMES, 0, value, names::nth(&NAMES, 14), text);
     param_value::put(
+        rt,
         out,
         a,
         &NAMES,
@@ -31,17 +38,30 @@ fn put_values(x: Response, payload: &[u8], out: &mut [u8], at: usize) -> usize {
 }
 
 // NumericValue has no text.
-fn put_limits(x: Response, none: &[u8], out: &mut [u8], at: usize) -> usize {
+fn put_limits(
+    rt: &(impl Print + Eprint),
+    x: Response,
+    none: &[u8],
+    out: &mut [u8],
+    at: usize,
+) -> usize {
     let max_value = x.max_value;
     let min_value = x.min_value;
-    let a = param_value::put(out, at, &NAMES, 8, max_value, none, none);
-    param_value::put(out, a, &NAMES, 11, min_value, none, none)
+    let a = param_value::put(rt, out, at, &NAMES, 8, max_value, none, none);
+    param_value::put(rt, out, a, &NAMES, 11, min_value, none, none)
 }
 
-fn put_fields(x: Response, payload: &[u8], out: &mut [u8], at: usize) -> usize {
-    let a = put_values(x, payload, out, at);
-    let b = put_limits(x, &payload[0..0], out, a);
+fn put_fields(
+    rt: &(impl Print + Eprint),
+    x: Response,
+    payload: &[u8],
+    out: &mut [u8],
+    at: usize,
+) -> usize {
+    let a = put_values(rt, x, payload, out, at);
+    let b = put_limits(rt, x, &payload[0..0], out, a);
     answer::list(
+        rt,
         out,
         b,
         names::nth(&NAMES, 16),
@@ -49,12 +69,12 @@ fn put_fields(x: Response, payload: &[u8], out: &mut [u8], at: usize) -> usize {
     )
 }
 
-pub fn decode(payload: &[u8], out: &mut [u8], at: usize) -> usize {
+pub fn decode(rt: &(impl Print + Eprint), payload: &[u8], out: &mut [u8], at: usize) -> usize {
     match get_set_response::decode(payload) {
-        Read::Refused(n) => answer::refused(out, at, n),
+        Read::Refused(n) => answer::refused(rt, out, at, n),
         Read::Got(x) => {
-            let o = put::byte(out, at, 48);
-            put_fields(x, payload, out, o)
+            let o = put::byte(rt, out, at, 48);
+            put_fields(rt, x, payload, out, o)
         }
     }
 }

@@ -9,13 +9,13 @@ use shape::answer::Written;
 
 const NAMES: [u8; 9] = *b"value key";
 
-pub fn decode(payload: &[u8], out: &mut [u8], at: usize) -> usize {
+pub fn decode(rt: &(impl Print + Eprint), payload: &[u8], out: &mut [u8], at: usize) -> usize {
     match key_value::decode(payload) {
-        Read::Refused(n) => answer::refused(out, at, n),
+        Read::Refused(n) => answer::refused(rt, out, at, n),
         Read::Got(x) => {
             let v = [x.value as i64];
-            let o = answer::numbers(out, at, &NAMES, &v);
-            answer::list(out, o, names::nth(&NAMES, 1), key_value::key(payload))
+            let o = answer::numbers(rt, out, at, &NAMES, &v);
+            answer::list(rt, out, o, names::nth(&NAMES, 1), key_value::key(payload))
         }
     }
 }

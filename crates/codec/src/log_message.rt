@@ -8,14 +8,26 @@ use protocol_debug::log_message::Read;
 
 const NAMES: [u8; 23] = *b"level.value source text";
 
-pub fn decode(payload: &[u8], out: &mut [u8], at: usize) -> usize {
+pub fn decode(rt: &(impl Print + Eprint), payload: &[u8], out: &mut [u8], at: usize) -> usize {
     match log_message::decode(payload) {
-        Read::Refused(n) => answer::refused(out, at, n),
+        Read::Refused(n) => answer::refused(rt, out, at, n),
         Read::Got(x) => {
             let v = [x.level];
-            let a = answer::numbers(out, at, &NAMES, &v);
-            let b = answer::list(out, a, names::nth(&NAMES, 1), log_message::source(payload));
-            answer::list(out, b, names::nth(&NAMES, 2), log_message::text(payload))
+            let a = answer::numbers(rt, out, at, &NAMES, &v);
+            let b = answer::list(
+                rt,
+                out,
+                a,
+                names::nth(&NAMES, 1),
+                log_message::source(payload),
+            );
+            answer::list(
+                rt,
+                out,
+                b,
+                names::nth(&NAMES, 2),
+                log_message::text(payload),
+            )
         }
     }
 }

@@ -22,6 +22,7 @@ mod request;
 ghost use Rattle.std.specs.Prelude.{◌≤◌, length};
 
 use codec_text::put;
+use std::io::Read;
 
 // A line may have 8,192 bytes.
 const LONGEST: usize = 8192;
@@ -34,18 +35,18 @@ struct At {
 }
 
 // Answers the line that is in hand.
-fn end_line(line: &[u8], n: usize, out: &mut [u8], at: usize) -> usize
+fn end_line(rt: &(impl Print + Eprint), line: &[u8], n: usize, out: &mut [u8], at: usize) -> usize
     requires { 8192 ≤ length line.now }
 {
     if LONGEST < n {
-        return put::bytes(out, at, b"?\n");
+        return put::bytes(rt, out, at, b"?\n");
     }
-    let o = request::answer(&line[0..n], out, at);
-    put::byte(out, o, 10)
+    let o = request::answer(rt, &line[0..n], out, at);
+    put::byte(rt, out, o, 10)
 }
 
 // One more byte of the input.
-fn step(line: &mut [u8], out: &mut [u8], a: At, b: u8) -> At
+fn step(rt: &(impl Print + Eprint), line: &mut [u8], out: &mut [u8], a: At, b: u8) -> At
     requires { 8192 ≤ length line.old }
 {
     let n = a.line;
@@ -53,7 +54,7 @@ fn step(line: &mut [u8], out: &mut [u8], a: At, b: u8) -> At
     if b == 10 {
         return At {
             line: 0,
-            out: end_line(line, n, out, at),
+            out: end_line(rt, line, n, out, at),
         };
     }
     if n < LONGEST {
@@ -69,13 +70,13 @@ fn step(line: &mut [u8], out: &mut [u8], a: At, b: u8) -> At
     }
 }
 
-fn chunk(src: &[u8], line: &mut [u8], out: &mut [u8], a: At) -> At
+fn chunk(rt: &(impl Print + Eprint), src: &[u8], line: &mut [u8], out: &mut [u8], a: At) -> At
     requires { 8192 ≤ length line.old }
 {
     let mut st = a;
     let mut i = 0;
     while i < src.len() {
-        st = step(line, out, st, src[i]);
+        st = step(rt, line, out, st, src[i]);
         i += 1;
     }
     st
@@ -98,22 +99,26 @@ fn stop(failed: bool, a: At) -> Go {
 }
 
 // One read, and the answers to its lines: who types a request sees the answer before the next one.
-fn some(line: &mut [u8], out: &mut [u8], a: At) -> Go
+fn some(
+    rt: &(impl Print + Eprint),
+    input: &mut impl Read,
+    line: &mut [u8],
+    out: &mut [u8],
+    a: At,
+) -> Go
     requires { 8192 ≤ length line.old }
 {
-    let mut buf = io::large_buffer();
-    let got = libc::read(0, &mut buf);
-    if got < 0 {
-        console::cannot_read();
+    let mut buf = [0u8; 65536];
+    let Ok(n) = input.read(&mut buf) else {
+        console::cannot_read(rt);
         return stop(true, a);
-    }
-    if got == 0 {
+    };
+    if n == 0 {
         return stop(false, a);
     }
-    let n = io::count(got, &buf);
-    let after = chunk(&buf[..n], line, out, a);
+    let after = chunk(rt, &buf[..n], line, out, a);
     let at = after.out;
-    let good = put::flush(out, at);
+    let good = put::flush(rt, out, at);
     Go {
         more: good,
         failed: !good,
@@ -125,7 +130,7 @@ fn some(line: &mut [u8], out: &mut [u8], a: At) -> Go
 }
 
 // Every line; one without line feed at the end of the input too.
-fn all(line: &mut [u8], out: &mut [u8])
+fn all(rt: &(impl Print + Eprint), input: &mut impl Read, line: &mut [u8], out: &mut [u8])
     requires { 8192 ≤ length line.old }
 {
     let mut turns = u64::MAX;
@@ -133,31 +138,31 @@ fn all(line: &mut [u8], out: &mut [u8])
     let mut more = true;
     let mut failed = false;
     while turns > 0 && more {
-        let g = some(line, out, st);
+        let g = some(rt, input, line, out, st);
         st = g.at;
         more = g.more;
         failed = g.failed;
         turns -= 1;
     }
     if !failed {
-        last(line, out, st);
+        last(rt, line, out, st);
     }
 }
 
 // The line without line feed, if there is one. All others are answered and written.
-fn last(line: &[u8], out: &mut [u8], a: At)
+fn last(rt: &(impl Print + Eprint), line: &[u8], out: &mut [u8], a: At)
     requires { 8192 ≤ length line.now }
 {
     let n = a.line;
     if n == 0 {
         return;
     }
-    let o = end_line(line, n, out, 0);
-    put::flush(out, o);
+    let o = end_line(rt, line, n, out, 0);
+    put::flush(rt, out, o);
 }
 
-fn main() {
+fn main(rt: HostRuntime) {
     let mut line = [0u8; 8192];
     let mut out = [0u8; 65536];
-    all(&mut line, &mut out);
+    all(&rt, &mut rt.stdin(), &mut line, &mut out);
 }

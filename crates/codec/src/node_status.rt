@@ -8,9 +8,9 @@ use protocol::node_status::{NodeStatus, Read};
 
 const NAMES: [u8; 59] = *b"uptime_sec health mode sub_mode vendor_specific_status_code";
 
-pub fn decode(payload: &[u8], out: &mut [u8], at: usize) -> usize {
+pub fn decode(rt: &(impl Print + Eprint), payload: &[u8], out: &mut [u8], at: usize) -> usize {
     match node_status::decode(payload) {
-        Read::Refused(n) => answer::refused(out, at, n),
+        Read::Refused(n) => answer::refused(rt, out, at, n),
         Read::Got(x) => {
             let v = [
                 x.uptime_sec,
@@ -19,7 +19,7 @@ pub fn decode(payload: &[u8], out: &mut [u8], at: usize) -> usize {
                 x.sub_mode,
                 x.vendor_specific_status_code,
             ];
-            answer::numbers(out, at, &NAMES, &v)
+            answer::numbers(rt, out, at, &NAMES, &v)
         }
     }
 }

@@ -7,6 +7,7 @@ use protocol_param::value::Value;
 
 // Internal. The tag, under the i-th name, and the field of the case: a number under one of the names after it, or the text under its own.
 pub fn put(
+    rt: &(impl Print + Eprint),
     out: &mut [u8],
     at: usize,
     names: &[u8],
@@ -18,22 +19,22 @@ pub fn put(
     requires { i ≤ 100 }
 {
     match v {
-        Value::Empty => answer::number(out, at, names::nth(names, i), 0),
+        Value::Empty => answer::number(rt, out, at, names::nth(names, i), 0),
         Value::Integer(z) => {
-            let a = answer::number(out, at, names::nth(names, i), 1);
-            answer::number(out, a, names::nth(names, i + 1), z)
+            let a = answer::number(rt, out, at, names::nth(names, i), 1);
+            answer::number(rt, out, a, names::nth(names, i + 1), z)
         }
         Value::Real(x) => {
-            let a = answer::number(out, at, names::nth(names, i), 2);
-            answer::number(out, a, names::nth(names, i + 2), x as i64)
+            let a = answer::number(rt, out, at, names::nth(names, i), 2);
+            answer::number(rt, out, a, names::nth(names, i + 2), x as i64)
         }
         Value::Boolean(z) => {
-            let a = answer::number(out, at, names::nth(names, i), 3);
-            answer::number(out, a, names::nth(names, i + 3), z)
+            let a = answer::number(rt, out, at, names::nth(names, i), 3);
+            answer::number(rt, out, a, names::nth(names, i + 3), z)
         }
         Value::Text => {
-            let a = answer::number(out, at, names::nth(names, i), 4);
-            answer::list(out, a, text_name, text)
+            let a = answer::number(rt, out, at, names::nth(names, i), 4);
+            answer::list(rt, out, a, text_name, text)
         }
         Value::Unknown => at,
     }

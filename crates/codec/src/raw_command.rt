@@ -8,21 +8,21 @@ use equipment_esc::raw_command::RawCommand;
 const NAME: [u8; 3] = *b"cmd";
 
 // The first n of the commands.
-fn shown(cmd: [i64; 20], n: usize, out: &mut [u8], at: usize) -> usize {
-    let a = answer::numbers(out, at, &NAME, &[]);
-    answer::signed_list(out, a, &NAME, signed::first(&cmd, n))
+fn shown(rt: &(impl Print + Eprint), cmd: [i64; 20], n: usize, out: &mut [u8], at: usize) -> usize {
+    let a = answer::numbers(rt, out, at, &NAME, &[]);
+    answer::signed_list(rt, out, a, &NAME, signed::first(&cmd, n))
 }
 
-pub fn decode(payload: &[u8], out: &mut [u8], at: usize) -> usize {
+pub fn decode(rt: &(impl Print + Eprint), payload: &[u8], out: &mut [u8], at: usize) -> usize {
     let r = raw_command::decode(payload);
     let number = r.number;
     if number != 0 {
-        return answer::refused(out, at, number);
+        return answer::refused(rt, out, at, number);
     }
     let x = r.message;
     let n = x.count;
     let cmd = x.cmd;
-    shown(cmd, n, out, at)
+    shown(rt, cmd, n, out, at)
 }
 
 // Internal.

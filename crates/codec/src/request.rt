@@ -5,34 +5,40 @@ use super::{decode, encode};
 use codec_text::put;
 
 // What comes after the verb: a type's name, and the rest after a space.
-fn of_type(encodes: bool, rest: &[u8], out: &mut [u8], at: usize) -> usize
+fn of_type(
+    rt: &(impl Print + Eprint),
+    encodes: bool,
+    rest: &[u8],
+    out: &mut [u8],
+    at: usize,
+) -> usize
     requires { length rest.now ≤ 8192 }
 {
     let e = digits::find(rest, 0, 32);
     if e == rest.len() {
-        return put::ill_formed(out, at);
+        return put::ill_formed(rt, out, at);
     }
     if encodes {
-        return encode::answer(&rest[0..e], &rest[e + 1..], out, at);
+        return encode::answer(rt, &rest[0..e], &rest[e + 1..], out, at);
     }
-    decode::answer(&rest[0..e], &rest[e + 1..], out, at)
+    decode::answer(rt, &rest[0..e], &rest[e + 1..], out, at)
 }
 
 // Internal. The answer to a line.
-pub fn answer(line: &[u8], out: &mut [u8], at: usize) -> usize
+pub fn answer(rt: &(impl Print + Eprint), line: &[u8], out: &mut [u8], at: usize) -> usize
     requires { length line.now ≤ 8192 }
 {
     let e = digits::find(line, 0, 32);
     if e == line.len() {
-        return put::ill_formed(out, at);
+        return put::ill_formed(rt, out, at);
     }
     let verb = &line[0..e];
     let rest = &line[e + 1..];
-    if check::same(verb, b"decode") {
-        return of_type(false, rest, out, at);
+    if verb == b"decode".as_slice() {
+        return of_type(rt, false, rest, out, at);
     }
-    if check::same(verb, b"encode") {
-        return of_type(true, rest, out, at);
+    if verb == b"encode".as_slice() {
+        return of_type(rt, true, rest, out, at);
     }
-    put::ill_formed(out, at)
+    put::ill_formed(rt, out, at)
 }

@@ -14,62 +14,86 @@ pub enum Encoded {
 }
 
 // A name, after a space, and the equals sign.
-fn label(out: &mut [u8], at: usize, name: &[u8]) -> usize {
-    let a = put::byte(out, at, 32);
-    let b = put::bytes(out, a, name);
-    put::byte(out, b, 61)
+fn label(rt: &(impl Print + Eprint), out: &mut [u8], at: usize, name: &[u8]) -> usize {
+    let a = put::byte(rt, out, at, 32);
+    let b = put::bytes(rt, out, a, name);
+    put::byte(rt, out, b, 61)
 }
 
 // Internal. A refusal's number.
-pub fn refused(out: &mut [u8], at: usize, number: u32) -> usize {
-    put::decimal(out, at, number as u64)
+pub fn refused(rt: &(impl Print + Eprint), out: &mut [u8], at: usize, number: u32) -> usize {
+    put::decimal(rt, out, at, number as u64)
 }
 
 // Internal. A number under its name.
-pub fn number(out: &mut [u8], at: usize, name: &[u8], v: i64) -> usize {
-    let a = label(out, at, name);
-    signed::number(out, a, v)
+pub fn number(rt: &(impl Print + Eprint), out: &mut [u8], at: usize, name: &[u8], v: i64) -> usize {
+    let a = label(rt, out, at, name);
+    signed::number(rt, out, a, v)
 }
 
 // Internal. The same of a field of 64 bits without a sign.
-pub fn unsigned(out: &mut [u8], at: usize, name: &[u8], v: u64) -> usize {
-    let a = label(out, at, name);
-    put::decimal(out, a, v)
+pub fn unsigned(
+    rt: &(impl Print + Eprint),
+    out: &mut [u8],
+    at: usize,
+    name: &[u8],
+    v: u64,
+) -> usize {
+    let a = label(rt, out, at, name);
+    put::decimal(rt, out, a, v)
 }
 
 // Internal. Success, and the numbers of a message under the first names.
-pub fn numbers(out: &mut [u8], at: usize, names: &[u8], values: &[i64]) -> usize {
-    let mut o = put::byte(out, at, 48);
+pub fn numbers(
+    rt: &(impl Print + Eprint),
+    out: &mut [u8],
+    at: usize,
+    names: &[u8],
+    values: &[i64],
+) -> usize {
+    let mut o = put::byte(rt, out, at, 48);
     let mut i = 0;
     while i < values.len() {
         let v = values[i];
-        o = number(out, o, names::nth(names, i), v);
+        o = number(rt, out, o, names::nth(names, i), v);
         i += 1;
     }
     o
 }
 
 // Internal. A list under its name.
-pub fn list(out: &mut [u8], at: usize, name: &[u8], s: &[u8]) -> usize {
-    let a = label(out, at, name);
-    put::list(out, a, s)
+pub fn list(rt: &(impl Print + Eprint), out: &mut [u8], at: usize, name: &[u8], s: &[u8]) -> usize {
+    let a = label(rt, out, at, name);
+    put::list(rt, out, a, s)
 }
 
 // Internal. A list of signed numbers under its name.
-pub fn signed_list(out: &mut [u8], at: usize, name: &[u8], s: &[i64]) -> usize {
-    let a = label(out, at, name);
-    signed::list(out, a, s)
+pub fn signed_list(
+    rt: &(impl Print + Eprint),
+    out: &mut [u8],
+    at: usize,
+    name: &[u8],
+    s: &[i64],
+) -> usize {
+    let a = label(rt, out, at, name);
+    signed::list(rt, out, a, s)
 }
 
 // Internal. What was written, of which `message` has the bytes in front.
-pub fn written(out: &mut [u8], at: usize, e: Encoded, message: &[u8]) -> usize {
+pub fn written(
+    rt: &(impl Print + Eprint),
+    out: &mut [u8],
+    at: usize,
+    e: Encoded,
+    message: &[u8],
+) -> usize {
     match e {
-        Encoded::IllFormed => put::ill_formed(out, at),
+        Encoded::IllFormed => put::ill_formed(rt, out, at),
         Encoded::Answer(w) => match w {
-            Written::Refused(n) => refused(out, at, n),
+            Written::Refused(n) => refused(rt, out, at, n),
             Written::Wrote(n) => {
-                let o = put::bytes(out, at, b"0 ");
-                put::list(out, o, part::within(message, 0, n))
+                let o = put::bytes(rt, out, at, b"0 ");
+                put::list(rt, out, o, part::within(message, 0, n))
             }
         },
     }

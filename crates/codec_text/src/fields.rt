@@ -17,7 +17,7 @@ fn find(words: &[u8], name: &[u8]) -> Place
         let e = digits::find(words, p + 1, 32);
         let q = digits::find(&words[0..e], p + 1, 61);
         if q < e {
-            if check::same(&words[p + 1..q], name) {
+            if &words[p + 1..q] == name {
                 return Place {
                     at: q + 1,
                     len: e - (q + 1),

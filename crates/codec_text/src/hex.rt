@@ -29,7 +29,7 @@ fn pairs(s: &[u8], bytes: &mut [u8], at: usize) -> Length
 pub fn read(s: &[u8], bytes: &mut [u8], at: usize) -> Length
     requires { at + length s.now ≤ length bytes.old }
 {
-    if check::same(s, b"-") {
+    if s == b"-".as_slice() {
         return Length::Is(0);
     }
     if s.len() == 0 {

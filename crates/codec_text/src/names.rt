@@ -13,7 +13,7 @@ pub fn find(names: &[u8], name: &[u8]) -> Found {
     let mut p = 0;
     while p < names.len() {
         let e = digits::find(names, p, 32);
-        if check::same(&names[p..e], name) {
+        if &names[p..e] == name {
             return Found::At(i);
         }
         if e == names.len() {

@@ -30,7 +30,7 @@ fn take(places: &mut [i64], i: usize, x: Signed) -> bool {
 
 // Internal. The numbers that s stands for, as many as there are places; how many they are.
 pub fn read(s: &[u8], places: &mut [i64]) -> Count {
-    if check::same(s, b"-") {
+    if s == b"-".as_slice() {
         return Count::Is(0);
     }
     let mut n = 0;
@@ -56,7 +56,7 @@ pub fn only(words: &[u8], name: &[u8], places: &mut [i64]) -> Count {
     if q == w.len() {
         return Count::Not;
     }
-    if !check::same(&w[0..q], name) {
+    if &w[0..q] != name {
         return Count::Not;
     }
     read(&w[q + 1..], places)
@@ -71,33 +71,33 @@ pub fn first(s: &[i64], n: usize) -> &[i64] {
 }
 
 // Internal.
-pub fn number(out: &mut [u8], at: usize, v: i64) -> usize {
+pub fn number(rt: &(impl Print + Eprint), out: &mut [u8], at: usize, v: i64) -> usize {
     if v < 0 {
-        let a = put::byte(out, at, 45);
-        return put::decimal(out, a, signed::size(v) + 1);
+        let a = put::byte(rt, out, at, 45);
+        return put::decimal(rt, out, a, signed::size(v) + 1);
     }
-    put::decimal(out, at, signed::size(v))
+    put::decimal(rt, out, at, signed::size(v))
 }
 
 // The comma before all but the first.
-fn comma(out: &mut [u8], at: usize, i: usize) -> usize {
+fn comma(rt: &(impl Print + Eprint), out: &mut [u8], at: usize, i: usize) -> usize {
     if 0 < i {
-        return put::byte(out, at, 44);
+        return put::byte(rt, out, at, 44);
     }
     at
 }
 
 // Internal.
-pub fn list(out: &mut [u8], at: usize, s: &[i64]) -> usize {
+pub fn list(rt: &(impl Print + Eprint), out: &mut [u8], at: usize, s: &[i64]) -> usize {
     if s.len() == 0 {
-        return put::byte(out, at, 45);
+        return put::byte(rt, out, at, 45);
     }
     let mut o = at;
     let mut i = 0;
     while i < s.len() {
-        let a = comma(out, o, i);
+        let a = comma(rt, out, o, i);
         let v = s[i];
-        o = number(out, a, v);
+        o = number(rt, out, a, v);
         i += 1;
     }
     o

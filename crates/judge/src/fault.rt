@@ -39,98 +39,98 @@ pub fn read(r: &[u8]) -> Fault
     }
 }
 
-fn show_fields(r: &[u8])
+fn show_fields(rt: &(impl Print + Eprint), r: &[u8])
     requires { length r.now ≡ record_size }
 {
     let s = capture_record::read(r);
-    text::say(b"time ");
-    text::seconds(s.time);
-    text::say(b" ID ");
-    text::hex(s.id as u64, 8);
-    text::say(b" length ");
-    text::number(s.len as u64);
-    text::say(b" data");
-    text::bytes(&r[13..21]);
-    text::say(b" (no log line can carry it, RULES 18.4)\n");
+    text::say(rt, b"time ");
+    text::seconds(rt, s.time);
+    text::say(rt, b" ID ");
+    text::hex(rt, s.id as u64, 8);
+    text::say(rt, b" length ");
+    text::number(rt, s.len as u64);
+    text::say(rt, b" data");
+    text::bytes(rt, &r[13..21]);
+    text::say(rt, b" (no log line can carry it, RULES 18.4)\n");
 }
 
 // Its line, or its fields where no line can carry it.
-fn show_frame(r: &[u8])
+fn show_frame(rt: &(impl Print + Eprint), r: &[u8])
     requires { length r.now ≡ record_size }
 {
     let mut out = [0u8; 47];
-    text::say(b"frame:     ");
+    text::say(rt, b"frame:     ");
     if lines::measure(r).ok {
         let n = lines::lines(r, &mut out);
-        return text::say(&out[0..n]);
+        return text::say(rt, &out[0..n]);
     }
-    show_fields(r);
+    show_fields(rt, r);
 }
 
 // Message, request or response, and its type.
-fn show_type(h: Head) {
+fn show_type(rt: &(impl Print + Eprint), h: Head) {
     let transfer_type = h.transfer_type;
     match transfer_type {
-        0 => text::say(b"message"),
-        1 => text::say(b"request"),
-        _ => text::say(b"response"),
+        0 => text::say(rt, b"message"),
+        1 => text::say(rt, b"request"),
+        _ => text::say(rt, b"response"),
     }
-    text::say(b" of type ");
-    text::number(h.type_id as u64);
+    text::say(rt, b" of type ");
+    text::number(rt, h.type_id as u64);
 }
 
-fn show_nodes(h: Head) {
+fn show_nodes(rt: &(impl Print + Eprint), h: Head) {
     if frame::check::is_anonymous(h) {
         return;
     }
-    text::say(b" from node ");
-    text::number(h.source as u64);
+    text::say(rt, b" from node ");
+    text::number(rt, h.source as u64);
     if 0 < h.transfer_type {
-        text::say(b" to node ");
-        text::number(h.destination as u64);
+        text::say(rt, b" to node ");
+        text::number(rt, h.destination as u64);
     }
 }
 
-fn show_stream(f: Fault) {
+fn show_stream(rt: &(impl Print + Eprint), f: Fault) {
     let h = f.head;
-    text::say(b"stream:    ");
+    text::say(rt, b"stream:    ");
     if 0x2000_0000 <= f.id {
-        return text::say(b"none: the ID has more than 29 bits\n");
+        return text::say(rt, b"none: the ID has more than 29 bits\n");
     }
     if frame::check::is_anonymous(h) {
-        text::say(b"none: anonymous ");
+        text::say(rt, b"none: anonymous ");
     }
-    show_type(h);
-    show_nodes(h);
-    text::say(b"; priority ");
-    text::number(h.priority as u64);
-    text::say(b"\n");
+    show_type(rt, h);
+    show_nodes(rt, h);
+    text::say(rt, b"; priority ");
+    text::number(rt, h.priority as u64);
+    text::say(rt, b"\n");
 }
 
-fn show_tail(f: Fault) {
+fn show_tail(rt: &(impl Print + Eprint), f: Fault) {
     let h = f.head;
-    text::say(b"tail byte: ");
+    text::say(rt, b"tail byte: ");
     if f.len == 0 || 8 < f.len {
-        return text::say(b"none\n");
+        return text::say(rt, b"none\n");
     }
     if h.start {
-        text::say(b"start, ");
+        text::say(rt, b"start, ");
     }
     if h.end {
-        text::say(b"end, ");
+        text::say(rt, b"end, ");
     }
-    text::say(b"toggle ");
-    text::number(h.toggle as u64);
-    text::say(b", transfer ID ");
-    text::number(h.transfer as u64);
-    text::say(b"\n");
+    text::say(rt, b"toggle ");
+    text::number(rt, h.toggle as u64);
+    text::say(rt, b", transfer ID ");
+    text::number(rt, h.transfer as u64);
+    text::say(rt, b"\n");
 }
 
 // Internal. The lines of the frame, its stream and its tail byte.
-pub fn show(r: &[u8], f: Fault)
+pub fn show(rt: &(impl Print + Eprint), r: &[u8], f: Fault)
     requires { length r.now ≡ record_size }
 {
-    show_frame(r);
-    show_stream(f);
-    show_tail(f);
+    show_frame(rt, r);
+    show_stream(rt, f);
+    show_tail(rt, f);
 }

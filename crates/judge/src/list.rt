@@ -2,60 +2,80 @@
 // the text. Where the descriptor is not open, the list is that of the log program.
 use answers::Outcome;
 use rules::limits::{SUBSCRIPTION_RECORD, SUBSCRIPTIONS};
-
-const LIST: i32 = 4;
+use std::fs;
+use std::io::Read;
+use std::rt::Files;
 
 // One record more than there may be is enough to be refused.
 const ROOM: usize = (SUBSCRIPTIONS + 1) * SUBSCRIPTION_RECORD;
 
 // Whether a setup took the list; if not, a line on standard error.
-fn taken(outcome: Outcome) -> bool {
+fn taken(rt: &impl Eprint, outcome: Outcome) -> bool {
     match outcome {
         Outcome::Done => true,
         Outcome::Unacceptable => {
-            io::write_all(
-                libc::STDERR_FILENO,
-                b"13: the list has more than 64 subscriptions, a type twice, or a type ID above 65535 (messages) or 255 (services)\n",
+            console::say(
+                rt,
+                "13: the list has more than 64 subscriptions, a type twice, or a type ID above 65535 (messages) or 255 (services)\n",
             );
             false
         }
         Outcome::Short => {
-            console::cannot_read();
+            console::cannot_read(rt);
             false
         }
     }
 }
 
-fn standard(state: &mut [u8]) -> bool {
+fn standard(rt: &impl Eprint, state: &mut [u8]) -> bool {
     let records = log_subscriptions::subscriptions();
-    taken(setup::setup(state, 0, &records))
+    taken(rt, setup::setup(state, 0, &records))
 }
 
 // So many records.
-fn given(state: &mut [u8], records: &mut [u8], count: usize) -> bool {
+fn given(
+    rt: &impl Eprint,
+    file: &mut impl Read,
+    state: &mut [u8],
+    records: &mut [u8],
+    count: usize,
+) -> bool {
     if records.len() / SUBSCRIPTION_RECORD < count {
-        console::cannot_read();
+        console::cannot_read(rt);
         return false;
     }
     let n = count * SUBSCRIPTION_RECORD;
-    if io::read_full(LIST, &mut records[0..n]) < n {
-        console::cannot_read();
+    if file.read_exact(&mut records[0..n]).is_err() {
+        console::cannot_read(rt);
         return false;
     }
-    taken(setup::setup(state, 0, &records[0..n]))
+    taken(rt, setup::setup(state, 0, &records[0..n]))
 }
 
 // Internal. Sets a receiver up that has the subscriptions; false, and a line on standard error, if the list is refused or cannot be read.
-pub fn accepted(state: &mut [u8]) -> bool {
+pub fn accepted(rt: &(impl Files + Eprint), state: &mut [u8]) -> bool {
     let mut records = [0u8; ROOM];
     let mut count = [0u8; 1];
-    let got = libc::read(LIST, &mut count);
-    if got < 0 {
-        return standard(state);
+    let name = "/dev/fd/4";
+    if !console::is_open(rt, name, 0o400) {
+        return standard(rt, state);
     }
-    if got == 0 {
-        console::cannot_read();
+    let Ok(mut file) = fs::open(rt, name) else {
+        console::cannot_read(rt);
         return false;
+    };
+    match file.read(&mut count) {
+        Ok(0) => {
+            console::cannot_read(rt);
+            false
+        }
+        Ok(_) => given(
+            rt,
+            &mut file,
+            state,
+            &mut records,
+            bits::le::wide(count[0]) as usize,
+        ),
+        Err(_) => standard(rt, state),
     }
-    given(state, &mut records, bits::le::wide(count[0]) as usize)
 }

@@ -1,5 +1,6 @@
-// The program `judge` (RULES 19.11): a capture on standard input, which must be a file, and the verdict on standard output, with fixed memory. Reading is
-// here; the verdict is that of `judge_capture`, a block of records at a time. ../../tecelume gives the exit status by what is on standard error.
+// The program `judge` (RULES 19.11): a capture on standard input, which must be a file, or in the file that its argument names, and the verdict on
+// standard output, with fixed memory. Reading is here; the verdict is that of `judge_capture`, a block of records at a time. ../../tecelume gives the
+// exit status by what is on standard error.
 #![tactic(auto)]
 
 mod explain;
@@ -16,9 +17,12 @@ ghost use Rattle.state.specs.Layout.{size};
 
 use capture_convert::trailer::Trailer;
 use capture_file::Opened;
+use console::Progress;
 use judge_capture::records;
 use judge_capture::records::Fed;
 use judge_streams::SIZE;
+use std::io::{Read, Write};
+use std::rt::{Env, Files};
 
 // Records: how many are left and how many were read; the checksum of these; the number of the frame at fault and which one it is, 0 and 0 if there is
 // none so far; whether reading failed.
@@ -52,22 +56,30 @@ fn feed(state: &[u8], table: &mut [u64; SIZE], block: &[u8], kept: &mut [u8], s:
                 capture_record::SIZE,
             );
             r.number = number;
-            r.frame = std::num::wrapping_add_u64(s.done, k as u64);
+            r.frame = s.done.wrapping_add(k as u64);
             r
         }
     }
 }
 
 // One block: read, judged, summed. Where reading fails, none is left.
-fn turn(state: &[u8], table: &mut [u64; SIZE], block: &mut [u8], kept: &mut [u8], s: Rest) -> Rest
+fn turn(
+    rt: &impl Eprint,
+    file: &mut impl Read,
+    state: &[u8],
+    table: &mut [u64; SIZE],
+    block: &mut [u8],
+    kept: &mut [u8],
+    s: Rest,
+) -> Rest
     requires { (0 < s.left) × ((size ≤ length state.now) × (Table table.old × (length kept.old ≡ record_size))) }
     ensures { (result.left < s.left) × Table table.new }
 {
-    let k = capture_file::next(block, s.left);
+    let k = capture_file::next(file, block, s.left);
     let n = k * capture_record::SIZE;
     let mut r = s;
     if k == 0 {
-        console::cannot_read();
+        console::cannot_read(rt);
         r.left = 0;
         r.failed = true;
         return r;
@@ -75,31 +87,48 @@ fn turn(state: &[u8], table: &mut [u64; SIZE], block: &mut [u8], kept: &mut [u8]
     r = feed(state, table, &block[0..n], kept, s);
     r.sum = checksum_table::over(s.sum, &block[0..n]);
     r.left = s.left - k;
-    r.done = std::num::wrapping_add_u64(s.done, k as u64);
+    r.done = s.done.wrapping_add(k as u64);
     r
 }
 
 // All records are read: a wrong checksum comes before any frame at fault.
-fn finish(state: &[u8], table: &[u64; SIZE], kept: &[u8], t: Trailer, s: Rest)
+fn finish(
+    rt: &(impl Print + Eprint),
+    progress: &mut Progress<impl Write>,
+    state: &[u8],
+    table: &[u64; SIZE],
+    kept: &[u8],
+    t: Trailer,
+    s: Rest,
+)
     requires { (size ≤ length state.now) × (Table table.now × (length kept.now ≡ record_size)) }
 {
     if s.failed {
         return;
     }
-    console::progress_ends();
+    progress.ends();
     if s.sum as u64 != t.sum {
-        return verdict::no_capture();
+        return verdict::no_capture(rt);
     }
     if s.number == 0 {
-        return verdict::passes(s.done);
+        return verdict::passes(rt, s.done);
     }
-    verdict::fails(s.number, s.frame, s.done);
-    explain::explain(state, table, kept, s.number);
-    verdict::told(s.number);
+    verdict::fails(rt, s.number, s.frame, s.done);
+    explain::explain(rt, state, table, kept, s.number);
+    verdict::told(rt, s.number);
 }
 
-// All records, from where standard input stands. From time to time a line on descriptor 3 says how far it is.
-fn run(state: &[u8], table: &mut [u64; SIZE], block: &mut [u8], kept: &mut [u8], t: Trailer)
+// All records, from where the file stands. From time to time a line on descriptor 3 says how far it is.
+fn run(
+    rt: &(impl Print + Eprint),
+    file: &mut impl Read,
+    progress: &mut Progress<impl Write>,
+    state: &[u8],
+    table: &mut [u64; SIZE],
+    block: &mut [u8],
+    kept: &mut [u8],
+    t: Trailer,
+)
     requires { (size ≤ length state.now) × (Table table.old × (length kept.old ≡ record_size)) }
 {
     let mut s = Rest {
@@ -111,28 +140,44 @@ fn run(state: &[u8], table: &mut [u64; SIZE], block: &mut [u8], kept: &mut [u8],
         failed: false,
     };
     while 0 < s.left {
-        s = turn(state, table, block, kept, s);
-        capture_file::tell(s.done);
+        s = turn(rt, file, state, table, block, kept, s);
+        capture_file::tell(progress, s.done);
     }
-    finish(state, table, kept, t, s);
+    finish(rt, progress, state, table, kept, t, s);
 }
 
-fn whole(state: &mut [u8], table: &mut [u64; SIZE], block: &mut [u8], kept: &mut [u8])
+fn whole(
+    rt: &(impl Files + Env + Print + Eprint),
+    state: &mut [u8],
+    table: &mut [u64; SIZE],
+    block: &mut [u8],
+    kept: &mut [u8],
+)
     requires { (size ≤ length state.old) × (Table table.old × (length kept.old ≡ record_size)) }
 {
-    if list::accepted(state) {
-        match capture_file::open() {
-            Opened::Capture(t) => run(state, table, block, kept, t),
-            Opened::NoCapture => verdict::no_capture(),
-            Opened::Unreadable => console::cannot_read(),
+    if list::accepted(rt, state) {
+        let mut progress = console::open_progress(rt);
+        match capture_file::open(rt) {
+            Opened::Capture(mut file, t) => run(
+                rt,
+                &mut file,
+                &mut progress,
+                state,
+                table,
+                block,
+                kept,
+                t,
+            ),
+            Opened::NoCapture => verdict::no_capture(rt),
+            Opened::Unreadable => console::cannot_read(rt),
         }
     }
 }
 
-fn main() {
+fn main(rt: HostRuntime) {
     let mut state = [0u8; state::layout::SIZE];
     let mut table = [0u64; SIZE];
     let mut block = [0u8; capture_file::BLOCK];
     let mut kept = [0u8; capture_record::SIZE];
-    whole(&mut state, &mut table, &mut block, &mut kept);
+    whole(&rt, &mut state, &mut table, &mut block, &mut kept);
 }

@@ -2,37 +2,39 @@
 use super::text;
 
 // Internal. Says on standard error that all is written, by the number.
-pub fn told(number: u8) {
-    io::print_decimal(libc::STDERR_FILENO, number as u64);
-    io::write_all(libc::STDERR_FILENO, b"\n");
+pub fn told(rt: &impl Eprint, number: u8) {
+    let _ = eprintln!(rt; "{number}");
 }
 
 // Internal.
-pub fn passes(frames: u64) {
-    text::say(b"0\npasses: ");
-    text::number(frames);
+pub fn passes(rt: &(impl Print + Eprint), frames: u64) {
+    text::say(rt, b"0\npasses: ");
+    text::number(rt, frames);
     if frames == 1 {
-        text::say(b" frame\n");
+        text::say(rt, b" frame\n");
     } else {
-        text::say(b" frames\n");
+        text::say(rt, b" frames\n");
     }
-    told(0);
+    told(rt, 0);
 }
 
 // Internal.
-pub fn no_capture() {
-    text::say(b"22\nnot a capture, or damaged: its trailer is wrong (RULES 18.2)\n");
-    told(22);
+pub fn no_capture(rt: &(impl Print + Eprint)) {
+    text::say(
+        rt,
+        b"22\nnot a capture, or damaged: its trailer is wrong (RULES 18.2)\n",
+    );
+    told(rt, 22);
 }
 
 // Internal. Of so many frames one is at fault; more lines follow.
-pub fn fails(number: u8, frame: u64, frames: u64) {
-    text::number(number as u64);
-    text::say(b" ");
-    text::number(frame);
-    text::say(b"\ndoes not pass: frame ");
-    text::number(frame);
-    text::say(b" (counted from 0) of ");
-    text::number(frames);
-    text::say(b" is the first at fault\n");
+pub fn fails(rt: &(impl Print + Eprint), number: u8, frame: u64, frames: u64) {
+    text::number(rt, number as u64);
+    text::say(rt, b" ");
+    text::number(rt, frame);
+    text::say(rt, b"\ndoes not pass: frame ");
+    text::number(rt, frame);
+    text::say(rt, b" (counted from 0) of ");
+    text::number(rt, frames);
+    text::say(rt, b" is the first at fault\n");
 }

@@ -7,6 +7,7 @@ ghost use Rattle.state.specs.Sound.{sound_state};
 
 use log_replay::Counts;
 use state::layout::SIZE;
+use std::io::Read;
 
 // A block, with what was kept in front of it. A byte of input gives 80 of text at most.
 const BLOCK: usize = 8192;
@@ -35,23 +36,30 @@ fn stop(failed: bool, kept: usize, counts: Counts) -> After
 }
 
 // One read: its lines, and what they gave is written.
-fn turn(state: &mut [u8], block: &mut [u8], kept: usize, out: &mut [u8], counts: Counts) -> After
+fn turn(
+    rt: &(impl Print + Eprint),
+    input: &mut impl Read,
+    state: &mut [u8],
+    block: &mut [u8],
+    kept: usize,
+    out: &mut [u8],
+    counts: Counts,
+) -> After
     requires { (sound_state state.old ≡ true) × ((kept ≤ 48) × ((length block.old ≡ 8192) × (length out.old ≡ 656560))) }
     ensures { (sound_state state.new ≡ true) × (result.kept ≤ 48) }
 {
-    let got = libc::read(0, &mut block[kept..]);
-    if got < 0 {
-        console::cannot_read();
+    let Ok(got) = input.read(&mut block[kept..]) else {
+        console::cannot_read(rt);
         return stop(true, kept, counts);
-    }
-    let n = kept + io::count(got, &block[kept..]);
+    };
+    let n = kept + got;
     if n == kept {
         return stop(false, kept, counts);
     }
     let f = log_feed::feed(state, block, n, out, counts);
     let len = f.len;
     let after = f.counts;
-    let good = console::written(&out[0..len]);
+    let good = console::written(rt, &out[0..len]);
     After {
         more: good,
         failed: !good,
@@ -61,7 +69,13 @@ fn turn(state: &mut [u8], block: &mut [u8], kept: usize, out: &mut [u8], counts:
 }
 
 // All blocks, and the end, which is not told after a failure.
-fn run(state: &mut [u8], block: &mut [u8], out: &mut [u8])
+fn run(
+    rt: &(impl Print + Eprint),
+    input: &mut impl Read,
+    state: &mut [u8],
+    block: &mut [u8],
+    out: &mut [u8],
+)
     requires { (sound_state state.old ≡ true) × ((length block.old ≡ 8192) × (length out.old ≡ 656560)) }
 {
     let mut counts = Counts {
@@ -73,7 +87,7 @@ fn run(state: &mut [u8], block: &mut [u8], out: &mut [u8])
     let mut failed = false;
     let mut turns = u64::MAX;
     while turns > 0 && more {
-        let t = turn(state, block, kept, out, counts);
+        let t = turn(rt, input, state, block, kept, out, counts);
         counts = t.counts;
         kept = t.kept;
         more = t.more;
@@ -84,22 +98,28 @@ fn run(state: &mut [u8], block: &mut [u8], out: &mut [u8])
         return;
     }
     let n = log_feed::finish(state, &block[0..kept], out, counts);
-    console::written(&out[0..n]);
+    console::written(rt, &out[0..n]);
 }
 
 // The heading, and all that follows.
-fn whole(state: &mut [u8], block: &mut [u8], out: &mut [u8])
+fn whole(
+    rt: &(impl Print + Eprint),
+    input: &mut impl Read,
+    state: &mut [u8],
+    block: &mut [u8],
+    out: &mut [u8],
+)
     requires { (length state.old ≡ size) × ((length block.old ≡ 8192) × (length out.old ≡ 656560)) }
 {
     let n = log_feed::start(state, out);
-    if console::written(&out[0..n]) {
-        run(state, block, out);
+    if console::written(rt, &out[0..n]) {
+        run(rt, input, state, block, out);
     }
 }
 
-fn main() {
+fn main(rt: HostRuntime) {
     let mut state = [0u8; SIZE];
     let mut block = [0u8; BLOCK];
     let mut out = [0u8; OUT];
-    whole(&mut state, &mut block, &mut out);
+    whole(&rt, &mut rt.stdin(), &mut state, &mut block, &mut out);
 }

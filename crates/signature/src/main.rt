@@ -5,6 +5,7 @@
 
 use bits::le;
 use dsdl_signature::answer::Answer;
+use std::io::Read;
 
 // Nine definitions, one more than there may be, with names of 4,096 bytes and texts of 4,097.
 const INPUT: usize = 74000;
@@ -14,7 +15,7 @@ const INPUT: usize = 74000;
 const OUT: usize = 564000;
 
 // The signature as 16 digits, and the line's end.
-fn show_signature(signature: u64) -> bool {
+fn show_signature(rt: &(impl Print + Eprint), signature: u64) -> bool {
     let bytes = [
         (signature / 72057594037927936 % 256) as u8,
         (signature / 281474976710656 % 256) as u8,
@@ -27,25 +28,33 @@ fn show_signature(signature: u64) -> bool {
     ];
     let mut text = [0u8; 16];
     digits::put_hexes(&mut text, 0, &bytes);
-    console::written(b" 0x") && console::written(&text) && console::written(b"\n")
+    console::written(rt, b" 0x") && console::written(rt, &text) && console::written(rt, b"\n")
 }
 
 // A form begins with the name.
-fn show(form: &[u8], name: usize, signature: u64, forms: bool) -> bool {
+fn show(rt: &(impl Print + Eprint), form: &[u8], name: usize, signature: u64, forms: bool) -> bool {
     if form.len() < name {
         return false;
     }
-    if !console::written(&form[0..name]) || !show_signature(signature) {
+    if !console::written(rt, &form[0..name]) || !show_signature(rt, signature) {
         return false;
     }
     if forms {
-        return console::written(form) && console::written(b"\n");
+        return console::written(rt, form) && console::written(rt, b"\n");
     }
     true
 }
 
 // One definition, whose form begins at `at`. Where the next one begins; the end of `out` if this one cannot be written.
-fn show_next(out: &[u8], at: usize, name: u64, length: u64, signature: u64, forms: bool) -> usize {
+fn show_next(
+    rt: &(impl Print + Eprint),
+    out: &[u8],
+    at: usize,
+    name: u64,
+    length: u64,
+    signature: u64,
+    forms: bool,
+) -> usize {
     if out.len() <= at {
         return out.len();
     }
@@ -54,7 +63,7 @@ fn show_next(out: &[u8], at: usize, name: u64, length: u64, signature: u64, form
     if rest.len() < n {
         return out.len();
     }
-    if show(&rest[0..n], name as usize, signature, forms) {
+    if show(rt, &rest[0..n], name as usize, signature, forms) {
         return at + n;
     }
     out.len()
@@ -75,58 +84,57 @@ fn number_at(bytes: &[u8], at: usize, n: usize) -> u64 {
 }
 
 // The definitions in their order, up to the first that cannot be written.
-fn show_all(out: &[u8], lengths: &[u8], records: &[u8], forms: bool) {
+fn show_all(rt: &(impl Print + Eprint), out: &[u8], lengths: &[u8], records: &[u8], forms: bool) {
     let mut at = 0;
     let mut i = 0;
     while i < 8 && i * 8 < lengths.len() {
         let name = number_at(lengths, i * 8, 4);
         let length = number_at(records, i * 12, 4);
         let signature = number_at(records, i * 12 + 4, 8);
-        at = show_next(out, at, name, length, signature, forms);
+        at = show_next(rt, out, at, name, length, signature, forms);
         i += 1;
     }
 }
 
-fn space_and(number: u32) {
-    io::write_all(libc::STDERR_FILENO, b" ");
-    io::print_decimal(libc::STDERR_FILENO, number as u64);
+fn space_and(rt: &impl Eprint, number: u32) {
+    let _ = eprint!(rt; " {number}");
 }
 
 // A refusal is its number; with 40 also definition and line.
-fn refuse(answer: Answer) {
+fn refuse(rt: &impl Eprint, answer: Answer) {
     let number = answer.number();
-    io::print_decimal(libc::STDERR_FILENO, number as u64);
+    let _ = eprint!(rt; "{number}");
     if number == 40 {
-        space_and(answer.definition());
-        space_and(answer.line());
+        space_and(rt, answer.definition());
+        space_and(rt, answer.line());
     }
-    io::write_all(libc::STDERR_FILENO, b"\n");
+    console::say(rt, "\n");
 }
 
 // The whole input: its definitions, and what they answer. What has another form counts as a failed read.
-fn run(input: &[u8], out: &mut [u8]) {
+fn run(rt: &(impl Print + Eprint), input: &[u8], out: &mut [u8]) {
     if input.len() < 2 {
-        console::cannot_read();
+        console::cannot_read(rt);
         return;
     }
     let given = le::wide(input[1]);
     if 9 < given {
-        console::cannot_read();
+        console::cannot_read(rt);
         return;
     }
     let count = given as usize;
     let start = 2 + count * 8;
     if input.len() < start {
-        console::cannot_read();
+        console::cannot_read(rt);
         return;
     }
     let lengths = &input[2..start];
     let mut records = [0u8; 96];
     let answer = dsdl_signature::call::signatures(&input[start..], lengths, out, &mut records);
     if answer.number() == 0 {
-        show_all(out, lengths, &records, input[0] == 1);
+        show_all(rt, out, lengths, &records, input[0] == 1);
     } else {
-        refuse(answer);
+        refuse(rt, answer);
     }
 }
 
@@ -138,7 +146,7 @@ struct Gathered {
     failed: bool,
 }
 
-fn some(input: &mut [u8], n: usize) -> Gathered {
+fn some(rt: &impl Eprint, reader: &mut impl Read, input: &mut [u8], n: usize) -> Gathered {
     let done = Gathered {
         length: n,
         more: false,
@@ -147,16 +155,14 @@ fn some(input: &mut [u8], n: usize) -> Gathered {
     if input.len() <= n {
         return done;
     }
-    let got = libc::read(libc::STDIN_FILENO, &mut input[n..]);
-    if got < 0 {
-        console::cannot_read();
+    let Ok(more) = reader.read(&mut input[n..]) else {
+        console::cannot_read(rt);
         return Gathered {
             length: n,
             more: false,
             failed: true,
         };
-    }
-    let more = io::count(got, &input[n..]);
+    };
     Gathered {
         length: n + more,
         more: more > 0,
@@ -164,7 +170,7 @@ fn some(input: &mut [u8], n: usize) -> Gathered {
     }
 }
 
-fn gather(input: &mut [u8]) -> Gathered {
+fn gather(rt: &impl Eprint, reader: &mut impl Read, input: &mut [u8]) -> Gathered {
     let mut g = Gathered {
         length: 0,
         more: true,
@@ -172,25 +178,25 @@ fn gather(input: &mut [u8]) -> Gathered {
     };
     let mut turns = INPUT;
     while turns > 0 && g.more {
-        g = some(input, g.length);
+        g = some(rt, reader, input, g.length);
         turns -= 1;
     }
     g
 }
 
-fn whole(input: &mut [u8], out: &mut [u8]) {
-    let g = gather(input);
+fn whole(rt: &(impl Print + Eprint), reader: &mut impl Read, input: &mut [u8], out: &mut [u8]) {
+    let g = gather(rt, reader, input);
     let n = g.length;
     if g.failed {
         return;
     }
     if n <= input.len() {
-        run(&input[0..n], out);
+        run(rt, &input[0..n], out);
     }
 }
 
-fn main() {
+fn main(rt: HostRuntime) {
     let mut input = [0u8; INPUT];
     let mut out = [0u8; OUT];
-    whole(&mut input, &mut out);
+    whole(&rt, &mut rt.stdin(), &mut input, &mut out);
 }

@@ -3,6 +3,7 @@
 #![tactic(auto)]
 
 use bits::le;
+use std::io;
 
 // How many definitions there are, one after the other in a source; where the next one goes; the lengths of their names and texts (RULES 17.12).
 #[derive(Drop)]
@@ -297,25 +298,17 @@ fn records_of(g: Given, source: &[u8]) -> [u8; 96] {
 }
 
 // A row of the table: the signature in record i, the public number, and whether they are the same.
-fn row(name: &[u8], records: [u8; 96], i: usize, public: u64) {
+fn row(rt: &impl Print, name: &str, records: [u8; 96], i: usize, public: u64) -> io::Result<()> {
     if 7 < i {
-        return;
+        return Ok(());
     }
     let found = le::get_at(&records, i * 12 + 4, 8);
-    io::print_hex(1, found, 16);
-    io::write_all(1, b" ");
-    io::print_hex(1, public, 16);
-    if found == public {
-        io::write_all(1, b" same ");
-    } else {
-        io::write_all(1, b" DIFFERENT ");
-    }
-    io::write_all(1, name);
-    io::write_all(1, b"\n");
+    let compared = if found == public { "same" } else { "DIFFERENT" };
+    println!(rt; "{found:016x} {public:016x} {compared} {name}")
 }
 
 // What the transport and the debugging of nodes use.
-fn protocol() {
+fn protocol(rt: &impl Print) -> io::Result<()> {
     let mut source = [0u8; 2000];
     let mut g = node_status(none(), &mut source);
     g = get_node_info(g, &mut source);
@@ -327,53 +320,65 @@ fn protocol() {
     g = log_level(g, &mut source);
     let r = records_of(g, &source);
     row(
-        b"uavcan.protocol.NodeStatus",
+        rt,
+        "uavcan.protocol.NodeStatus",
         r,
         0,
         types::signature(0, 341),
-    );
-    row(b"uavcan.protocol.GetNodeInfo", r, 1, types::signature(1, 1));
+    )?;
     row(
-        b"uavcan.protocol.dynamic_node_id.Allocation",
+        rt,
+        "uavcan.protocol.GetNodeInfo",
+        r,
+        1,
+        types::signature(1, 1),
+    )?;
+    row(
+        rt,
+        "uavcan.protocol.dynamic_node_id.Allocation",
         r,
         4,
         types::signature(0, 1),
-    );
+    )?;
     row(
-        b"uavcan.protocol.debug.KeyValue",
+        rt,
+        "uavcan.protocol.debug.KeyValue",
         r,
         5,
         types::signature(0, 16370),
-    );
+    )?;
     row(
-        b"uavcan.protocol.debug.LogMessage",
+        rt,
+        "uavcan.protocol.debug.LogMessage",
         r,
         6,
         types::signature(0, 16383),
-    );
+    )
 }
 
-fn equipment() {
+fn equipment(rt: &impl Print) -> io::Result<()> {
     let mut source = [0u8; 2000];
     let mut g = battery_info(none(), &mut source);
     g = raw_command(g, &mut source);
     let r = records_of(g, &source);
     row(
-        b"uavcan.equipment.power.BatteryInfo",
+        rt,
+        "uavcan.equipment.power.BatteryInfo",
         r,
         0,
         types::signature(0, 1092),
-    );
+    )?;
     row(
-        b"uavcan.equipment.esc.RawCommand",
+        rt,
+        "uavcan.equipment.esc.RawCommand",
         r,
         1,
         types::signature(0, 1030),
-    );
+    )
 }
 
 // Types of the parameters, with unions and padding. `types` does not have them.
-fn parameters() {
+fn parameters(rt: &impl Print) -> io::Result<()> {
     let mut source = [0u8; 2000];
     let mut g = get_set(none(), &mut source);
     g = value(g, &mut source);
@@ -382,21 +387,23 @@ fn parameters() {
     g = execute_opcode(g, &mut source);
     let r = records_of(g, &source);
     row(
-        b"uavcan.protocol.param.GetSet",
+        rt,
+        "uavcan.protocol.param.GetSet",
         r,
         0,
         types::signature(1, 11),
-    );
+    )?;
     row(
-        b"uavcan.protocol.param.ExecuteOpcode",
+        rt,
+        "uavcan.protocol.param.ExecuteOpcode",
         r,
         4,
         types::signature(1, 10),
-    );
+    )
 }
 
-fn main() {
-    protocol();
-    equipment();
-    parameters();
+fn main(rt: HostRuntime) -> io::Result<()> {
+    protocol(&rt)?;
+    equipment(&rt)?;
+    parameters(&rt)
 }

@@ -1,5 +1,5 @@
-// The program `uncapture` (RULES 18.7): a capture on standard input, which must be a file, its log on standard output, a block at a time. Reading and
-// writing are here; trailer, records, checksum and lines are those of `capture_file` and `capture_convert`. A refusal is a line on standard error; what
+// The program `uncapture` (RULES 18.7): a capture on standard input, which must be a file, or in the file that its argument names; its log on standard
+// output, a block at a time. Reading and writing are here; trailer, records, checksum and lines are those of `capture_file` and `capture_convert`. A refusal is a line on standard error; what
 // was written is then worth nothing, and ../../tecelume throws it away.
 #![tactic(auto)]
 
@@ -8,6 +8,9 @@ ghost use Rattle.std.specs.Prelude.{◌≡◌, ◌<◌, ◌≤◌, length};
 use capture_convert::lines;
 use capture_convert::trailer::Trailer;
 use capture_file::Opened;
+use console::Progress;
+use std::io::{Read, Write};
+use std::rt::{Env, Files};
 
 // Room for the lines of a block, each as long as any.
 const OUT: usize = 48128;
@@ -23,22 +26,20 @@ struct Rest {
     failed: bool,
 }
 
-fn no_capture() {
-    io::write_all(libc::STDERR_FILENO, b"22: not a capture, or damaged\n");
+fn no_capture(rt: &impl Eprint) {
+    console::say(rt, "22: not a capture, or damaged\n");
 }
 
 // 23, with the record; 0 if there is none.
-fn judged(record: u64) {
+fn judged(rt: &impl Eprint, record: u64) {
     if record == 0 {
-        return console::done();
+        return console::done(rt);
     }
-    io::write_all(libc::STDERR_FILENO, b"23: no log line can carry record ");
-    io::print_decimal(libc::STDERR_FILENO, record);
-    io::write_all(libc::STDERR_FILENO, b"\n");
+    let _ = eprintln!(rt; "23: no log line can carry record {record}");
 }
 
 // The lines of a block's records are written; whether that failed.
-fn print(records: &[u8], out: &mut [u8], s: Rest) -> Rest
+fn print(rt: &(impl Print + Eprint), records: &[u8], out: &mut [u8], s: Rest) -> Rest
     requires { (length records.now ≤ 21504) × (length out.old ≡ 48128) }
     ensures { result.left ≡ s.left }
 {
@@ -48,37 +49,50 @@ fn print(records: &[u8], out: &mut [u8], s: Rest) -> Rest
     }
     let m = lines::measure(records);
     if !m.ok {
-        r.bad = std::num::wrapping_add_u64(std::num::wrapping_add_u64(s.done, m.count as u64), 1);
+        r.bad = s.done.wrapping_add(m.count as u64).wrapping_add(1);
         return r;
     }
     let len = lines::lines(records, out);
-    r.failed = !console::written(&out[0..len]);
+    r.failed = !console::written(rt, &out[0..len]);
     r
 }
 
 // One block: read, printed, summed. Where reading fails, none is left.
-fn turn(block: &mut [u8], out: &mut [u8], s: Rest) -> Rest
+fn turn(
+    rt: &(impl Print + Eprint),
+    file: &mut impl Read,
+    block: &mut [u8],
+    out: &mut [u8],
+    s: Rest,
+) -> Rest
     requires { (0 < s.left) × ((length block.old ≡ 21504) × (length out.old ≡ 48128)) }
     ensures { result.left < s.left }
 {
-    let k = capture_file::next(block, s.left);
+    let k = capture_file::next(file, block, s.left);
     let n = k * capture_record::SIZE;
     let mut r = s;
     if k == 0 {
-        console::cannot_read();
+        console::cannot_read(rt);
         r.left = 0;
         r.failed = true;
         return r;
     }
-    r = print(&block[0..n], out, s);
+    r = print(rt, &block[0..n], out, s);
     r.sum = checksum::crc16::over(s.sum, &block[0..n]);
     r.left = s.left - k;
-    r.done = std::num::wrapping_add_u64(s.done, k as u64);
+    r.done = s.done.wrapping_add(k as u64);
     r
 }
 
-// All records, from where standard input stands. From time to time a line on descriptor 3 says how far it is.
-fn run(block: &mut [u8], out: &mut [u8], t: Trailer)
+// All records, from where the file stands. From time to time a line on descriptor 3 says how far it is.
+fn run(
+    rt: &(impl Print + Eprint),
+    file: &mut impl Read,
+    progress: &mut Progress<impl Write>,
+    block: &mut [u8],
+    out: &mut [u8],
+    t: Trailer,
+)
     requires { (length block.old ≡ 21504) × (length out.old ≡ 48128) }
 {
     let mut s = Rest {
@@ -89,30 +103,31 @@ fn run(block: &mut [u8], out: &mut [u8], t: Trailer)
         failed: false,
     };
     while 0 < s.left && !s.failed {
-        s = turn(block, out, s);
-        capture_file::tell(s.done);
+        s = turn(rt, file, block, out, s);
+        capture_file::tell(progress, s.done);
     }
     if s.failed {
         return;
     }
     if s.sum as u64 == t.sum {
-        return judged(s.bad);
+        return judged(rt, s.bad);
     }
-    no_capture();
+    no_capture(rt);
 }
 
-fn whole(block: &mut [u8], out: &mut [u8])
+fn whole(rt: &(impl Files + Env + Print + Eprint), block: &mut [u8], out: &mut [u8])
     requires { (length block.old ≡ 21504) × (length out.old ≡ 48128) }
 {
-    match capture_file::open() {
-        Opened::Capture(t) => run(block, out, t),
-        Opened::NoCapture => no_capture(),
-        Opened::Unreadable => console::cannot_read(),
+    let mut progress = console::open_progress(rt);
+    match capture_file::open(rt) {
+        Opened::Capture(mut file, t) => run(rt, &mut file, &mut progress, block, out, t),
+        Opened::NoCapture => no_capture(rt),
+        Opened::Unreadable => console::cannot_read(rt),
     }
 }
 
-fn main() {
+fn main(rt: HostRuntime) {
     let mut block = [0u8; capture_file::BLOCK];
     let mut out = [0u8; OUT];
-    whole(&mut block, &mut out);
+    whole(&rt, &mut block, &mut out);
 }
