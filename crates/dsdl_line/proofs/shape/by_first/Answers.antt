@@ -1,7 +1,6 @@
 -- `shape::by_first` meets its contract.
 use Rattle.dsdl_text.proofs.Choices.{first, next, by}
 use mathlib.Core.Path.{◌∙◌}
-use borrow.Author.Rules.{rules}
 use Rattle.dsdl_line.proofs.shape.by_first.Goals as goal
 
 pub returns-then-is_alone : goal.returns-then-is_alone

@@ -1,6 +1,5 @@
 -- `shape::cast_attribute` meets its contract.
 use Rattle.dsdl_line.proofs.Attributes.{cast-read}
-use borrow.Author.Rules.{rules}
 use Rattle.dsdl_line.proofs.shape.cast_attribute.Goals as goal
 
 pub returns : goal.returns

@@ -3,7 +3,6 @@ use Rattle.dsdl_line.proofs.Types.{base_read, some_size, no_size}
 use Rattle.dsdl_text.proofs.Choices.{and_first, and-next}
 use Rattle.dsdl_type.specs.Base.{is_primitive}
 use mathlib.Core.Path.{ap, ◌∙◌}
-use borrow.Author.Rules.{rules}
 use Rattle.dsdl_line.proofs.shape.is_constant_type.Goals as goal
 
 pub returns-then-n-w : goal.returns-then-n-w

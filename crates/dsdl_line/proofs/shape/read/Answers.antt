@@ -4,7 +4,6 @@ use Rattle.dsdl_line.proofs.Attributes.{bare-part, shape-read}
 use Rattle.dsdl_text.specs.Words.{ended}
 use Rattle.dsdl_line.specs.Line.{shape_of}
 use mathlib.Core.Path.{ap, ◌∙◌}
-use borrow.Author.Rules.{rules}
 use Rattle.dsdl_line.proofs.shape.read.Goals as goal
 
 pub returns-then-is_ended : goal.returns-then-is_ended
