@@ -1,7 +1,6 @@
 -- `fault::after` meets its contract.
 use Rattle.dsdl_line.specs.inside.Places.{word_of}
 use native.Mathlib.Numerals.{add-one}
-use borrow.Author.Tests.{not-true, not-false}
 use Rattle.dsdl_text.proofs.Choices.{by, first, next}
 use Prim.Native.Nat.{◌+◌}
 use mathlib.Core.Path.{refl, ◌∙◌}
@@ -9,34 +8,30 @@ use native.Mathlib.Omega.{arith}
 use Rattle.dsdl_text.specs.inside.Words.{part}
 use Rattle.dsdl_line.specs.declared.shape.Places.TheVariants.{Nothing, Marker, Union, Padding, Field, Constant, Wrong}
 use Rattle.dsdl.proofs.Readings.{long-field, long-constant, read-line, nothing_read, marker-read, union-read, padding-read, wrong-read, field-read, constant-read}
-use borrow.Author.Rules.{rules}
 use Rattle.dsdl.proofs.fault.after.Goals as goal
 
 pub named-requires : goal.named-requires
 named-requires c =
     let a = c.args in
-    let v = c.p-1.given.0 in
-    let m = long-field a.t.now a.at a.end c.read-p.result v.0 v.1.0 v.1.1.0 c.read-p.ensures c.in-Field.is in
+    let m = long-field a.t.now a.at a.end c.read-p.result c.in-Field.field-0 c.in-Field.field-1 c.in-Field.x c.read-p.ensures c.in-Field.is in
     let r = c.requires.0 in
     let b = r.bounded in
-    ((r.room, (omega arith, (b, (omega arith, omega arith)))), (omega arith, (omega arith, omega arith)))
+    record { kept = (r.room, (omega arith, (b, (omega arith, omega arith)))); at_le_end = (omega arith, (omega arith, omega arith)) }
 
 pub returns-then-not-holds : goal.returns-then-not-holds
 returns-then-not-holds c =
     let a = c.args in
     let l = part a.t.now a.at a.end in
-    let v = c.p-in-Constant-1.given.0 in
     wrong-read a.t.now a.seen.now a.marks.now a.at a.end a.n a.s c.requires.0 c.requires.1.0 c.at_fault.result c.at_fault.ensures
-    (next _ _ _ _ (by c.holds.ensures (not-true _ c.if-not-holds.true)) refl ∙ read-line l c.read-p.result (Constant v.0 v.1.0 v.1.1.0) c.read-p.ensures c.in-Constant.is)
+    (next _ _ _ _ (by c.holds.ensures c.if-not-holds.true) refl ∙ read-line l c.read-p.result (Constant c.in-Constant.w c.in-Constant.x c.in-Constant.i) c.read-p.ensures c.in-Constant.is)
 
 pub named-requires-in-Constant : goal.named-requires-in-Constant
 named-requires-in-Constant c =
     let a = c.args in
-    let v = c.p-in-Constant-1.given.0 in
-    let m = long-constant a.t.now a.at a.end c.read-p.result v.0 v.1.0 v.1.1.0 c.read-p.ensures c.in-Constant.is in
+    let m = long-constant a.t.now a.at a.end c.read-p.result c.in-Constant.w c.in-Constant.x c.in-Constant.i c.read-p.ensures c.in-Constant.is in
     let r = c.requires.0 in
     let b = r.bounded in
-    ((r.room, (omega arith, (b, (omega arith, omega arith)))), (omega arith, (omega arith, omega arith)))
+    record { kept = (r.room, (omega arith, (b, (omega arith, omega arith)))); at_le_end = (omega arith, (omega arith, omega arith)) }
 
 pub returns-in-Nothing : goal.returns-in-Nothing
 returns-in-Nothing c =
@@ -67,19 +62,17 @@ pub returns-in-Field : goal.returns-in-Field
 returns-in-Field c =
     let a = c.args in
     let l = part a.t.now a.at a.end in
-    let v = c.p-1.given.0 in
-    field-read a.t.now a.seen.now a.marks.now a.at a.end a.n a.s c.requires.0 c.requires.1.0 c.named.new.marks.1.1.1.1.0 c.named.new.marks.1.1.1.1.1.0 c.named.result (a.s.fields + 1) (word_of l v.1.1.0) (word_of a.t.now c.placed.result)
-    c.placed.ensures.0 (long-field a.t.now a.at a.end c.read-p.result v.0 v.1.0 v.1.1.0 c.read-p.ensures c.in-Field.is) c.named.ensures
-    v.0 (word_of l v.1.0) (add-one a.s.fields) (read-line l c.read-p.result (Field v.0 v.1.0 v.1.1.0) c.read-p.ensures c.in-Field.is)
+    field-read a.t.now a.seen.now a.marks.now a.at a.end a.n a.s c.requires.0 c.requires.1.0 c.named.new.seen c.named.new.marks c.named.result (a.s.fields + 1) (word_of l c.in-Field.x) (word_of a.t.now c.placed.result)
+    c.placed.ensures.0 (long-field a.t.now a.at a.end c.read-p.result c.in-Field.field-0 c.in-Field.field-1 c.in-Field.x c.read-p.ensures c.in-Field.is) c.named.ensures
+    c.in-Field.field-0 (word_of l c.in-Field.field-1) (add-one a.s.fields) (read-line l c.read-p.result (Field c.in-Field.field-0 c.in-Field.field-1 c.in-Field.x) c.read-p.ensures c.in-Field.is)
 
 pub returns-else-not-holds : goal.returns-else-not-holds
 returns-else-not-holds c =
     let a = c.args in
     let l = part a.t.now a.at a.end in
-    let v = c.p-in-Constant-1.given.0 in
-    constant-read a.t.now a.seen.now a.marks.now a.at a.end a.n a.s c.requires.0 c.requires.1.0 c.named-in-Constant.new.marks.1.1.1.1.0 c.named-in-Constant.new.marks.1.1.1.1.1.0 c.named-in-Constant.result a.s.fields (word_of l v.1.0) (word_of a.t.now c.placed-in-Constant.result)
-    c.placed-in-Constant.ensures.0 (long-constant a.t.now a.at a.end c.read-p.result v.0 v.1.0 v.1.1.0 c.read-p.ensures c.in-Constant.is) c.named-in-Constant.ensures
-    refl (first _ _ _ (by c.holds.ensures (not-false _ c.if-not-holds.false)) ∙ read-line l c.read-p.result (Constant v.0 v.1.0 v.1.1.0) c.read-p.ensures c.in-Constant.is)
+    constant-read a.t.now a.seen.now a.marks.now a.at a.end a.n a.s c.requires.0 c.requires.1.0 c.named-in-Constant.new.seen c.named-in-Constant.new.marks c.named-in-Constant.result a.s.fields (word_of l c.in-Constant.x) (word_of a.t.now c.placed-in-Constant.result)
+    c.placed-in-Constant.ensures.0 (long-constant a.t.now a.at a.end c.read-p.result c.in-Constant.w c.in-Constant.x c.in-Constant.i c.read-p.ensures c.in-Constant.is) c.named-in-Constant.ensures
+    refl (first _ _ _ (by c.holds.ensures c.if-not-holds.false) ∙ read-line l c.read-p.result (Constant c.in-Constant.w c.in-Constant.x c.in-Constant.i) c.read-p.ensures c.in-Constant.is)
 
 pub returns-in-Wrong : goal.returns-in-Wrong
 returns-in-Wrong c =

@@ -2,7 +2,6 @@
 use Rattle.dsdl_text.proofs.Choices.{first, next, or-first, or-next}
 use borrow.Author.Tests.{lt-ltb, le-ltb}
 use mathlib.Core.Path.{refl, sym, ◌∙◌}
-use borrow.Author.Rules.{rules}
 use Rattle.dsdl.proofs.fault.directive.Goals as goal
 
 pub returns-then-s-gt0 : goal.returns-then-s-gt0

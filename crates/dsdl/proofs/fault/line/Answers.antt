@@ -1,14 +1,10 @@
 -- `fault::line` meets its contract.
-use borrow.Author.Rules.{rules}
 use mathlib.Core.Path.{◌≡◌, refl, ◌∙◌}
-use Prim.Native.Nat.{suc, ◌-◌, ◌≤◌}
-use lib.ListN.{length}
+use Prim.Native.Nat.{suc}
 use native.Mathlib.Omega.{arith}
 use native.Mathlib.Numerals.{add-one}
-use Rattle.dsdl.specs.inside.Reading.{Ready}
-use Rattle.dsdl.specs.Definition.{fault_in}
 use Rattle.dsdl.proofs.NamePlaces.{none_kept}
-use Rattle.dsdl.proofs.Readings.{from, begun, end-bound, found, next-line, last_line}
+use Rattle.dsdl.proofs.Readings.{begun, end-bound, found, next-line, last_line}
 use Rattle.dsdl.proofs.fault.line.Goals as goal
 
 pub loop-s-init : goal.loop-s-init
@@ -36,7 +32,7 @@ returns-then-s-gt0 c =
     let t = c.args.t.now in
     let v = c.loop-s.invariant in
     let b = c.after-s.ensures.bounded in
-    (found t c.loop-s.seen c.loop-s.s c.loop-s.n c.loop-s.at c.end-end.result c.end-end.ensures.0 v.1.1 c.after-s.new.marks.1.1.1.1.0 c.after-s.new.marks.1.1.1.1.1.0 c.after-s.result (suc c.end-end.result) c.after-s.ensures c.if-s-gt0.true, omega (arith, b.fault, v.0.numbered, v.1.0))
+    (found t c.loop-s.seen c.loop-s.s c.loop-s.n c.loop-s.at c.end-end.result c.end-end.ensures.0 v.1.1 c.after-s.new.seen c.after-s.new.marks c.after-s.result (suc c.end-end.result) c.after-s.ensures c.if-s-gt0.true, omega (arith, b.fault, v.0.numbered, v.1.0))
 
 pub returns-then-t-end : goal.returns-then-t-end
 returns-then-t-end c =
@@ -44,7 +40,7 @@ returns-then-t-end c =
     let v = c.loop-s.invariant in
     let b = c.after-s.ensures.bounded in
     let z : c.after-s.result.fault ≡ 0 = omega (arith, c.if-s-gt0.false) in
-    (c.at_end.ensures ∙ last_line t c.loop-s.seen c.loop-s.s c.loop-s.n c.loop-s.at c.end-end.result c.end-end.ensures.0 v.1.1 c.after-s.new.marks.1.1.1.1.0 c.after-s.new.marks.1.1.1.1.1.0 c.after-s.result (suc c.end-end.result) c.after-s.ensures z c.if-t-end.true, omega (arith, c.at_end.ensures, end-bound c.after-s.result (suc c.loop-s.n) b.directive, v.0.numbered, v.1.0))
+    (c.at_end.ensures ∙ last_line t c.loop-s.seen c.loop-s.s c.loop-s.n c.loop-s.at c.end-end.result c.end-end.ensures.0 v.1.1 c.after-s.new.seen c.after-s.new.marks c.after-s.result (suc c.end-end.result) c.after-s.ensures z c.if-t-end.true, omega (arith, c.at_end.ensures, end-bound c.after-s.result (suc c.loop-s.n) b.directive, v.0.numbered, v.1.0))
 
 pub next-at-requires : goal.next-at-requires
 next-at-requires c = omega arith
@@ -71,5 +67,5 @@ loop-s-preserved c =
         numbered = omega (arith, v.0.numbered, c.next-at.ensures.1.0, c.end-end.ensures.1.0);
         short = v.0.short;
       },
-      (c.next-at.ensures.1.1, rw (add-one, c.next-at.ensures.0) (next-line t c.loop-s.seen c.loop-s.s c.loop-s.n c.loop-s.at c.end-end.result c.end-end.ensures.0 v.1.1 c.after-s.new.marks.1.1.1.1.0 c.after-s.new.marks.1.1.1.1.1.0 c.after-s.result (suc c.end-end.result) c.after-s.ensures z c.if-t-end.false)),
+      (c.next-at.ensures.1.1, rw (add-one, c.next-at.ensures.0) (next-line t c.loop-s.seen c.loop-s.s c.loop-s.n c.loop-s.at c.end-end.result c.end-end.ensures.0 v.1.1 c.after-s.new.seen c.after-s.new.marks c.after-s.result (suc c.end-end.result) c.after-s.ensures z c.if-t-end.false)),
     )

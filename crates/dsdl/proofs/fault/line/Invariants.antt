@@ -1,13 +1,9 @@
-use borrow.Author.Rules.{rules}
-use mathlib.Core.Path.{◌≡◌, refl, ◌∙◌}
-use Prim.Native.Nat.{suc, ◌-◌, ◌≤◌}
+use mathlib.Core.Path.{◌≡◌}
+use Prim.Native.Nat.{◌-◌, ◌≤◌}
 use lib.ListN.{length}
-use native.Mathlib.Omega.{arith}
-use native.Mathlib.Numerals.{add-one}
 use Rattle.dsdl.specs.inside.Reading.{Ready}
 use Rattle.dsdl.specs.Definition.{fault_in}
-use Rattle.dsdl.proofs.NamePlaces.{none_kept}
-use Rattle.dsdl.proofs.Readings.{from, begun, end-bound, found, next-line, last_line}
+use Rattle.dsdl.proofs.Readings.{from}
 use Rattle.dsdl.proofs.fault.line.Given as goal
 
 abbrev pub invariant-loop-s : goal.invariant-loop-s

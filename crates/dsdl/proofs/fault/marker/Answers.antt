@@ -3,7 +3,6 @@ use mathlib.Core.Bool.{true}
 use Prim.Native.Nat.{ℕ}
 use Rattle.dsdl_text.proofs.Choices.{first, next}
 use mathlib.Core.Path.{ap, ◌∙◌}
-use borrow.Author.Rules.{rules}
 use Rattle.dsdl.proofs.fault.marker.Goals as goal
 
 pub returns-then-s : goal.returns-then-s

@@ -1,6 +1,5 @@
 -- `fault::padding` meets its contract.
 use native.Mathlib.Numerals.{add-one}
-use borrow.Author.Rules.{rules}
 use Rattle.dsdl.proofs.fault.padding.Goals as goal
 
 pub returns : goal.returns

@@ -4,9 +4,8 @@ use Rattle.dsdl_text.proofs.Choices.{by}
 use Rattle.dsdl.specs.Definition.{is_among}
 use Rattle.dsdl.specs.inside.Names.{names_at}
 use native.Mathlib.Omega.{arith}
-use Prim.Native.Nat.{ℕ, suc, ◌-◌, ◌≤◌}
+use Prim.Native.Nat.{ℕ, suc, ◌-◌}
 use mathlib.Core.Path.{◌≡◌, refl, sym, ap, ◌∙◌}
-use borrow.Author.Rules.{rules}
 use Rattle.dsdl.proofs.names.is_among.Goals as goal
 
 pub loop-i-init : goal.loop-i-init

@@ -1,11 +1,7 @@
-use Rattle.dsdl.proofs.NamePlaces.{among_first, among_next, among_none}
-use Rattle.dsdl_text.proofs.Choices.{by}
 use Rattle.dsdl.specs.Definition.{is_among}
 use Rattle.dsdl.specs.inside.Names.{names_at}
-use native.Mathlib.Omega.{arith}
-use Prim.Native.Nat.{ℕ, suc, ◌-◌, ◌≤◌}
-use mathlib.Core.Path.{◌≡◌, refl, sym, ap, ◌∙◌}
-use borrow.Author.Rules.{rules}
+use Prim.Native.Nat.{◌≤◌}
+use mathlib.Core.Path.{◌≡◌}
 use Rattle.dsdl.proofs.names.is_among.Given as goal
 
 abbrev pub invariant-loop-i : goal.invariant-loop-i

@@ -1,7 +1,6 @@
 -- `names::is_at` meets its contract.
 use Rattle.dsdl_text.specs.Text.{same}
 use mathlib.Core.Path.{ap, ◌∙◌}
-use borrow.Author.Rules.{rules}
 use Rattle.dsdl.proofs.names.is_at.Goals as goal
 
 pub returns : goal.returns

@@ -2,7 +2,6 @@
 use Prim.Native.Nat.{ℕ}
 use lib.ListN.{get_or}
 use mathlib.Core.Path.{sym, ap, ◌∙◌}
-use borrow.Author.Rules.{rules}
 use Rattle.dsdl.proofs.names.is_taken.Goals as goal
 
 pub returns-then-marks-m-eq0 : goal.returns-then-marks-m-eq0

@@ -1,10 +1,7 @@
 -- `names::mark_at` meets its contract.
-use mathlib.Core.Path.{◌≡◌, refl, sym, ◌∙◌}
-use Prim.Native.Nat.{◌-◌, ◌≤◌, ◌<◌}
+use mathlib.Core.Path.{refl, sym, ◌∙◌}
 use native.Mathlib.Numerals.{add-one}
 use native.Mathlib.Omega.{arith}
-use lib.ListN.{length, drop}
-use Rattle.dsdl.specs.inside.Names.{names_max, mark_from, mark_of}
 use Rattle.dsdl.proofs.NamePlaces.{mark_on, mark-done}
 use Rattle.dsdl.proofs.names.mark_at.Goals as goal
 

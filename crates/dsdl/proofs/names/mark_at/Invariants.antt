@@ -1,10 +1,7 @@
-use mathlib.Core.Path.{◌≡◌, refl, sym, ◌∙◌}
+use mathlib.Core.Path.{◌≡◌}
 use Prim.Native.Nat.{◌-◌, ◌≤◌, ◌<◌}
-use native.Mathlib.Numerals.{add-one}
-use native.Mathlib.Omega.{arith}
 use lib.ListN.{length, drop}
 use Rattle.dsdl.specs.inside.Names.{names_max, mark_from, mark_of}
-use Rattle.dsdl.proofs.NamePlaces.{mark_on, mark-done}
 use Rattle.dsdl.proofs.names.mark_at.Given as goal
 
 abbrev pub invariant-loop-i : goal.invariant-loop-i

@@ -1,6 +1,5 @@
 -- `names::packed` meets its contract.
 use Rattle.dsdl.proofs.NamePlaces.{unpacked}
-use borrow.Author.Rules.{rules}
 use Rattle.dsdl.proofs.names.packed.Goals as goal
 
 pub returns : goal.returns

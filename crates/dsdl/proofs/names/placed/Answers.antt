@@ -2,7 +2,6 @@
 use Rattle.dsdl.proofs.NamePlaces.{in-text, in-text-ends}
 use mathlib.Core.Path.{◌∙◌}
 use native.Mathlib.Omega.{arith}
-use borrow.Author.Rules.{rules}
 use Rattle.dsdl.proofs.names.placed.Goals as goal
 
 pub returns : goal.returns

@@ -1,7 +1,6 @@
 -- `names::within` meets its contract.
 use Rattle.dsdl.proofs.NamePlaces.{from_out, from_empty, to_end}
 use native.Mathlib.Omega.{arith}
-use borrow.Author.Rules.{rules}
 use Rattle.dsdl.proofs.names.within.Goals as goal
 
 pub returns-then-n-at : goal.returns-then-n-at

@@ -1,6 +1,5 @@
 -- `service::is_marker` meets its contract.
 use Rattle.dsdl.proofs.Services.{marked}
-use borrow.Author.Rules.{rules}
 use Rattle.dsdl.proofs.service.is_marker.Goals as goal
 
 pub returns : goal.returns

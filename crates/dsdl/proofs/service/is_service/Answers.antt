@@ -2,15 +2,13 @@
 use Rattle.dsdl.proofs.Services.{found, passed, last}
 use Rattle.dsdl_text.proofs.Choices.{by}
 use Rattle.dsdl_text.specs.Lines.{lines}
-use Rattle.dsdl_text.specs.inside.Lines.{end_of}
 use Rattle.dsdl_line.specs.Line.{line_of}
 use Rattle.dsdl.specs.Definition.{is_service}
-use borrow.Author.Rules.{rules}
-use lib.ListN.{length, drop}
+use lib.ListN.{drop}
 use native.Mathlib.Omega.{arith}
-use Prim.Native.Nat.{ℕ, ◌-◌, ◌≤◌}
+use Prim.Native.Nat.{ℕ}
 use mathlib.Core.List.{map}
-use mathlib.Core.Path.{◌≡◌, refl, sym, ap, ◌∙◌}
+use mathlib.Core.Path.{refl, sym, ap, ◌∙◌}
 use Rattle.dsdl.proofs.service.is_service.Goals as goal
 
 pub end-end-requires : goal.end-end-requires
