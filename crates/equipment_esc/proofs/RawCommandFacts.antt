@@ -6,8 +6,8 @@ use Prim.Native.Nat.{ℕ, zero, suc, ◌+◌, ◌*◌, ◌-◌, ◌≤◌, ◌<�
 use native.Mathlib.Numerals.{add-one}
 use native.Mathlib.Omega.{arith}
 use borrow.Author.Tests.{lt-ltb, le-ltb, le-leb, ltb-true}
-use lib.Dec.{ltb, leb, lit≤}
-use lib.IntN.{ℤ, pos, negsuc}
+use lib.Dec.{ltb, leb}
+use lib.IntN.{ℤ, pos}
 use lib.Signed.{mag}
 use lib.ListN.{length, take, drop, get_or, set, replicate, length-map}
 use lib.Seq.{take-suc, take_all, take_at, set_at, length-take-le}
@@ -18,12 +18,12 @@ use Rattle.bits.specs.Order.{Octets, unpack, bytes_for, store}
 use Rattle.shape.specs.Answer.{refused, got, numbered, refuse_if, map_answer, wrote}
 use Rattle.shape.specs.Shape.{item_bits, items_of, all_below, encode, decode, fits, written}
 use Rattle.shape.specs.Cast.{signed, saturated}
-use Rattle.shape.specs.Signed.{signed_of, in_range}
+use Rattle.shape.specs.Signed.{signed_of}
 use Rattle.shape.proofs.Fields.{and_left, and_right, and_both, length-item_bits, length-items_of, items-below}
 use Rattle.shape.proofs.Reading.{unrefused, unread, refused-from, refused-on, got-on}
 use Rattle.shape.proofs.Writing.{refuse-8-padded, write-padded}
 use Rattle.shape.proofs.ItemFacts.{Counts, counts}
-use Rattle.shape.proofs.CastFacts.{low_value, cast-lt}
+use Rattle.shape.proofs.CastFacts.{cast-lt}
 use Rattle.equipment_esc.specs.RawCommand.{raw_command, command_of, command_in, read_of, numbers_of, pattern_of, command_values, command_encoded}
 use Rattle.equipment_esc.specs.declared.raw_command.RawCommand.{RawCommand}
 use Rattle.equipment_esc.specs.declared.raw_command.Read.{Read}

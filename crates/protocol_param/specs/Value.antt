@@ -1,5 +1,5 @@
 -- RULES 10.11: the value of a parameter. Value is a union of five cases, NumericValue of the first three of them.
-use Rattle.std.specs.Prelude.{Bool, true, false, List, [], ℕ, zero, suc, ◌+◌, ◌-◌, ltb, ℤ, pos, negsuc, length, drop}
+use Rattle.std.specs.Prelude.{Bool, true, false, List, [], ℕ, zero, suc, ◌+◌, ◌-◌, ltb, ℤ, pos, negsuc, drop}
 use Rattle.bits.specs.Order.{unpack, from_bits}
 use Rattle.bits.specs.Part.{span}
 use Rattle.bits.specs.Width.{width_of}

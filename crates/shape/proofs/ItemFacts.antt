@@ -3,15 +3,15 @@ use mathlib.Core.Path.{◌≡◌, refl, sym, ap, ◌∙◌}
 use mathlib.Core.Bool.{Bool, true, false, not}
 use mathlib.Core.List.{List, [], ◌∷◌, ◌++◌, append-nil, append_assoc}
 use Prim.Native.Nat.{ℕ, zero, suc, ◌+◌, ◌*◌, ◌/◌, ◌%◌, ◌≤◌, ◌<◌}
-use native.Mathlib.Nat.{zero-mul, suc-mul, mul-le-mul, mul-le-mul_right, div-add-mod', mod-lt, add-zero}
+use native.Mathlib.Nat.{zero-mul, suc-mul, mul-le-mul, mul-le-mul_right, div-add-mod'}
 use native.Mathlib.Numerals.{add-one}
 use native.Mathlib.Omega.{arith}
-use borrow.Author.Tests.{lt-ltb, le-ltb, le-leb, lt-leb, ltb-true, ltb-false, leb-false, eqb-true, eqb-false}
+use borrow.Author.Tests.{le-ltb, le-leb, lt-leb, ltb-true, ltb-false, leb-false, eqb-true, eqb-false}
 use lib.Dec.{ltb, leb, eqb}
-use lib.ListN.{length, take, drop, get_or, set, length-append, length-drop, take-append-drop, replicate, replicate-append-replicate}
+use lib.ListN.{length, take, drop, get_or, set, length-drop, take-append-drop, replicate, replicate-append-replicate}
 use lib.Seq.{drop-drop, take_all, take-suc, take-suc-set, length-take-le}
 use Rattle.bits.specs.Order.{Octets, digits, octets, value_from, value, unpack, number, to_bits, from_bits, bytes, store}
-use Rattle.bits.proofs.Bytes.{length-unpack, bytes-unpack}
+use Rattle.bits.proofs.Bytes.{bytes-unpack}
 use Rattle.shape.specs.Answer.{Answer, refused, got, refuse_if, map_answer}
 use Rattle.shape.specs.Shape.{end, tail, anything, item_bits, items_of, all_zero, decode}
 use Rattle.shape.specs.inside.Items.{refusal_of}

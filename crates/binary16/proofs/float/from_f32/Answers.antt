@@ -1,7 +1,6 @@
 -- `float::from_f32` meets its contract: only a NaN differs from itself.
 use mathlib.Core.Path.{sym}
 use Rattle.binary16.proofs.Real.{out-of-nan, no_nan}
-use borrow.Author.Rules.{rules}
 use Rattle.binary16.proofs.float.from_f32.Goals as goal
 
 pub returns-then-x : goal.returns-then-x

@@ -7,7 +7,6 @@ use lib.Dec.{T}
 use lib.Ieee.{binary32, of_bits, nan_bits}
 use Rattle.binary16.specs.Convert.{widened}
 use Rattle.binary16.proofs.Real.{nan-made, nan-read, no-nan-in}
-use borrow.Author.Rules.{rules}
 use Rattle.binary16.proofs.float.to_f32.Goals as goal
 
 pub returns-then-w-eq2143289344 : goal.returns-then-w-eq2143289344

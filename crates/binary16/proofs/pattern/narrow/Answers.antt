@@ -4,7 +4,6 @@ use Prim.Native.Nat.{◌%◌}
 use native.Mathlib.Omega.{arith}
 use Rattle.binary16.proofs.Steps.{clipped}
 use Rattle.binary16.proofs.Whole.{narrowed-nan, narrowed-infinite, narrowed-finite}
-use borrow.Author.Rules.{rules}
 use Rattle.binary16.proofs.pattern.narrow.Goals as goal
 
 pub returns-then-c-lt947912704 : goal.returns-then-c-lt947912704

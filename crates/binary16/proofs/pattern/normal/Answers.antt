@@ -1,7 +1,6 @@
 -- `pattern::normal` meets its contract.
 use native.Mathlib.Omega.{arith}
 use Rattle.binary16.proofs.Steps.{normal-is}
-use borrow.Author.Rules.{rules}
 use Rattle.binary16.proofs.pattern.normal.Goals as goal
 
 pub returns : goal.returns

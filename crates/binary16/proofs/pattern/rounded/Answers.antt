@@ -1,7 +1,6 @@
 -- `pattern::rounded` meets its contract: adding and cutting off rounds to the nearest, a tie to the even one.
 use native.Mathlib.Omega.{arith}
 use Rattle.binary16.proofs.Steps.{half_is, half_le, half_pos, rounded-le, rounded-by}
-use borrow.Author.Rules.{rules}
 use Rattle.binary16.proofs.pattern.rounded.Goals as goal
 
 pub overflow_sub-result-2 : goal.overflow_sub-result-2

@@ -2,7 +2,6 @@
 use mathlib.Core.Path.{sym, ◌∙◌}
 use native.Mathlib.Omega.{arith}
 use Rattle.binary16.proofs.Steps.{small-none, small-some}
-use borrow.Author.Rules.{rules}
 use Rattle.binary16.proofs.pattern.small.Goals as goal
 
 pub returns-then-e-lt102 : goal.returns-then-e-lt102

@@ -4,7 +4,6 @@ use native.Mathlib.Omega.{arith}
 use Rattle.binary16.specs.Convert.{widened_code}
 use Rattle.binary16.proofs.Wide.{wide-zero}
 use Rattle.binary16.proofs.Steps.{wide-normal, wide_low}
-use borrow.Author.Rules.{rules}
 use Rattle.binary16.proofs.pattern.wide.Goals as goal
 
 pub returns-then-c-ge1024 : goal.returns-then-c-ge1024

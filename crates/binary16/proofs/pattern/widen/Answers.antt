@@ -2,7 +2,6 @@
 use mathlib.Core.Path.{sym}
 use native.Mathlib.Omega.{arith}
 use Rattle.binary16.proofs.Whole.{widened-nan, widened-infinite, widened-finite}
-use borrow.Author.Rules.{rules}
 use Rattle.binary16.proofs.pattern.widen.Goals as goal
 
 pub returns-then-c-gt31744 : goal.returns-then-c-gt31744

@@ -1,14 +1,9 @@
 -- `raw_command::encode` meets its contract: 17, 8 or the commands.
-use mathlib.Core.Path.{◌≡◌}
 use native.Mathlib.Omega.{arith}
-use lib.ListN.{length}
 use Rattle.bits.proofs.Octets.{octets-all}
 use Rattle.equipment_esc.proofs.RawCommandFacts.{too_many, too_short, stored}
 use borrow.Author.Rules.{rules}
 use Rattle.equipment_esc.proofs.raw_command.encode.Goals as goal
-
-long : (c : goal.Start) → length c.args.x.cmd ≡ 20
-long c = search rules
 
 pub returns-then-n-gt20 : goal.returns-then-n-gt20
 returns-then-n-gt20 c = let a = c.args in too_many a.x a.out.now c.if-n-gt20.true
@@ -21,15 +16,23 @@ overflow_add-len c = omega (arith, c.if-n-gt20.false)
 
 pub returns-then-out-len : goal.returns-then-out-len
 returns-then-out-len c =
-    too_short c.args.x c.args.out.now (long c) c.if-n-gt20.false c.if-out-len.true
+    let e = c in
+    let s = e in
+    too_short s.args.x s.args.out.now (search rules) e.if-n-gt20.false c.if-out-len.true
 
 pub patterns-requires : goal.patterns-requires
 patterns-requires c = c.if-n-gt20.false
 
 pub write_patterns-requires : goal.write_patterns-requires
-write_patterns-requires c = (c.if-n-gt20.false, omega (arith, c.if-out-len.false))
+write_patterns-requires c = let t = c in (t.if-n-gt20.false, omega (arith, t.if-out-len.false))
 
 pub returns : goal.returns
 returns c =
-    stored c.args.x c.args.out.now (long c) c.if-n-gt20.false (octets-all c.args.out.now (λ i. omega (arith, c.slice_known-1.given i))) c.if-out-len.false
-    c.patterns.result c.write_patterns.new.1.1.0 c.patterns.ensures c.write_patterns.ensures
+    let w = c in
+    let p = w in
+    let t = p in
+    let e = t in
+    let k = e in
+    let s = k in
+    stored s.args.x s.args.out.now (search rules) e.if-n-gt20.false (octets-all s.args.out.now (λ i. omega (arith, k.slice_known-1.given i))) t.if-out-len.false
+    p.patterns.result w.write_patterns.new.out p.patterns.ensures w.write_patterns.ensures

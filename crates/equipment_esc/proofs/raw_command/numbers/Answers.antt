@@ -1,19 +1,14 @@
 -- `raw_command::numbers` meets its contract. The invariant: the first i patterns are converted.
-use mathlib.Core.Path.{◌≡◌, refl, sym, ap, ◌∙◌}
-use mathlib.Core.List.{List, ◌++◌, map}
-use Prim.Native.Nat.{ℕ, ◌-◌, ◌≤◌}
+use mathlib.Core.Path.{refl}
 use native.Mathlib.Omega.{arith}
 use lib.Dec.{lit≤}
-use lib.IntN.{ℤ, pos}
-use lib.ListN.{length, take, get_or, replicate}
+use lib.IntN.{pos}
+use lib.ListN.{get_or}
 use Rattle.shape.specs.Signed.{signed_of}
 use Rattle.shape.proofs.CastFacts.{signed-held}
 use Rattle.equipment_esc.proofs.RawCommandFacts.{mapped, all-mapped, below_at}
 use borrow.Author.Rules.{rules}
 use Rattle.equipment_esc.proofs.raw_command.numbers.Goals as goal
-
-long : (c : goal.Start invariant-loop decreases-loop) → length c.args.t1 ≡ 20
-long c = search rules
 
 pub loop-i-init : goal.loop-i-init
 loop-i-init c = (omega arith, refl)
@@ -26,7 +21,9 @@ bounds-patterns-i c = omega arith
 
 pub value-v-requires : goal.value-v-requires
 value-v-requires c =
-    let b = below_at 16384 c.args.t1 c.loop-i.i (omega (arith, long c)) c.requires in
+    let l = c in
+    let a = l in
+    let b = below_at 16384 a.args.patterns l.loop-i.i (omega arith) a.requires in
     ((lit≤ tt, lit≤ tt), omega arith)
 
 pub offset_bounds-cmd-i : goal.offset_bounds-cmd-i
@@ -43,10 +40,13 @@ loop-i-smaller c = omega arith
 
 pub loop-i-preserved : goal.loop-i-preserved
 loop-i-preserved c =
-    let p = c.args.t1 in
-    let i = c.loop-i.i in
-    (omega arith, mapped (signed_of 14) p 0 (pos 0) c.loop-i.cmd i _ (omega (arith, long c)) (omega arith) c.loop-i.invariant.1 (signed-held 14 (get_or p i 0) (lit≤ tt) (lit≤ tt) (below_at 16384 p i (omega (arith, long c)) c.requires) c.value-v.result c.value-v.ensures))
+    let l = c in
+    let a = l in
+    let p = a.args.patterns in
+    let i = l.loop-i.i in
+    (omega arith, mapped (signed_of 14) p 0 (pos 0) l.loop-i.cmd i _ (omega arith) (omega arith) l.loop-i.invariant.1 (signed-held 14 (get_or p i 0) (lit≤ tt) (lit≤ tt) (below_at 16384 p i (omega arith) a.requires) c.value-v.result c.value-v.ensures))
 
 pub returns : goal.returns
 returns c =
-    all-mapped (signed_of 14) c.args.t1 (pos 0) c.loop-i.cmd c.loop-i.i (long c) (omega arith) c.loop-i.invariant.1
+    let l = c in
+    all-mapped (signed_of 14) l.args.patterns (pos 0) l.loop-i.cmd l.loop-i.i (search rules) (omega arith) l.loop-i.invariant.1

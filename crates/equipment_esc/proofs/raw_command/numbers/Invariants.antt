@@ -1,14 +1,9 @@
-use mathlib.Core.Path.{◌≡◌, refl, sym, ap, ◌∙◌}
-use mathlib.Core.List.{List, ◌++◌, map}
-use Prim.Native.Nat.{ℕ, ◌-◌, ◌≤◌}
-use native.Mathlib.Omega.{arith}
-use lib.Dec.{lit≤}
-use lib.IntN.{ℤ, pos}
-use lib.ListN.{length, take, get_or, replicate}
+use mathlib.Core.Path.{◌≡◌}
+use mathlib.Core.List.{◌++◌, map}
+use Prim.Native.Nat.{◌-◌, ◌≤◌}
+use lib.IntN.{pos}
+use lib.ListN.{take, replicate}
 use Rattle.shape.specs.Signed.{signed_of}
-use Rattle.shape.proofs.CastFacts.{signed-held}
-use Rattle.equipment_esc.proofs.RawCommandFacts.{mapped, all-mapped, below_at}
-use borrow.Author.Rules.{rules}
 use Rattle.equipment_esc.proofs.raw_command.numbers.Given as goal
 
 abbrev pub invariant-loop-i : goal.invariant-loop-i

@@ -1,18 +1,14 @@
 -- `raw_command::patterns` meets its contract. The invariant: the patterns of the first i stand in front.
 use mathlib.Core.Path.{◌≡◌, refl, ap, ◌∙◌}
 use mathlib.Core.List.{◌++◌, map}
-use Prim.Native.Nat.{ℕ, ◌-◌, ◌≤◌}
+use Prim.Native.Nat.{ℕ, ◌-◌}
 use native.Mathlib.Omega.{arith}
 use lib.Dec.{lit≤}
 use lib.IntN.{ℤ, pos}
-use lib.ListN.{length, take, get_or, replicate}
+use lib.ListN.{take, get_or, replicate}
 use Rattle.equipment_esc.specs.RawCommand.{pattern_of}
 use Rattle.equipment_esc.proofs.RawCommandFacts.{mapped, held}
-use borrow.Author.Rules.{rules}
 use Rattle.equipment_esc.proofs.raw_command.patterns.Goals as goal
-
-long : (c : goal.Start invariant-loop decreases-loop) → length c.args.t1 ≡ 20
-long c = search rules
 
 pub loop-i-init : goal.loop-i-init
 loop-i-init c = (omega arith, refl)
@@ -40,10 +36,15 @@ loop-i-smaller c = omega arith
 
 pub loop-i-preserved : goal.loop-i-preserved
 loop-i-preserved c =
-    let z = get_or c.args.t1 c.loop-i.i (pos 0) in
-    (omega arith, mapped pattern_of c.args.t1 (pos 0) 0 c.loop-i.p c.loop-i.i c.signed.result (omega (arith, long c)) (omega arith) c.loop-i.invariant.1 (c.signed.ensures ∙ ap (λ (y : ℤ). pattern_of y) (held z c.v-1.given)))
+    let v = c in
+    let l = v in
+    let a = l in
+    let z = get_or a.args.cmd l.loop-i.i (pos 0) in
+    (omega arith, mapped pattern_of a.args.cmd (pos 0) 0 l.loop-i.p l.loop-i.i c.signed.result (omega arith) (omega arith) l.loop-i.invariant.1 (c.signed.ensures ∙ ap (λ (y : ℤ). pattern_of y) (held z v.v-1.given)))
 
 pub returns : goal.returns
 returns c =
-    let e : c.loop-i.i ≡ c.args.n = omega arith in
-    c.loop-i.invariant.1 ∙ ap (λ (k : ℕ). map pattern_of (take k c.args.t1) ++ replicate (20 - k) 0) e
+    let l = c in
+    let a = l in
+    let e : l.loop-i.i ≡ a.args.n = omega arith in
+    l.loop-i.invariant.1 ∙ ap (λ (k : ℕ). map pattern_of (take k a.args.cmd) ++ replicate (20 - k) 0) e

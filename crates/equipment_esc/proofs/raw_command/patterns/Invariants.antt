@@ -1,13 +1,8 @@
-use mathlib.Core.Path.{◌≡◌, refl, ap, ◌∙◌}
+use mathlib.Core.Path.{◌≡◌}
 use mathlib.Core.List.{◌++◌, map}
-use Prim.Native.Nat.{ℕ, ◌-◌, ◌≤◌}
-use native.Mathlib.Omega.{arith}
-use lib.Dec.{lit≤}
-use lib.IntN.{ℤ, pos}
-use lib.ListN.{length, take, get_or, replicate}
+use Prim.Native.Nat.{◌-◌, ◌≤◌}
+use lib.ListN.{take, replicate}
 use Rattle.equipment_esc.specs.RawCommand.{pattern_of}
-use Rattle.equipment_esc.proofs.RawCommandFacts.{mapped, held}
-use borrow.Author.Rules.{rules}
 use Rattle.equipment_esc.proofs.raw_command.patterns.Given as goal
 
 abbrev pub invariant-loop-i : goal.invariant-loop-i

@@ -7,11 +7,12 @@ use lib.ListN.{replicate}
 use lib.Seq.{length-take-le}
 use Rattle.bits.specs.Order.{unpack}
 use Rattle.equipment_esc.proofs.RawCommandFacts.{places-read}
-use borrow.Author.Rules.{rules}
 use Rattle.equipment_esc.proofs.raw_command.read_patterns.Goals as goal
 
 pub returns : goal.returns
 returns c =
-    let a = c.args in
-    places-read (unpack a.payload.now) a.n _ c.read.new.1.1.1.0 c.read.ensures
+    let r = c in
+    let p = r in
+    let a = p.args in
+    places-read (unpack a.payload.now) a.n _ r.read.new.out r.read.ensures
     (length-take-le (a.n - 0) (replicate 20 0) (omega arith) ∙ sub-zero a.n)

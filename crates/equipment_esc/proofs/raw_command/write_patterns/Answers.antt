@@ -1,7 +1,6 @@
 -- `raw_command::write_patterns` meets its contract: items, then zeros.
 use mathlib.Core.Path.{◌≡◌, ap, ◌∙◌}
 use mathlib.Core.Bool.{false}
-use mathlib.Core.List.{List}
 use Prim.Native.Nat.{ℕ, ◌*◌, ◌-◌}
 use native.Mathlib.Nat.{sub-zero}
 use native.Mathlib.Omega.{arith}
@@ -11,17 +10,16 @@ use Rattle.bits.specs.Order.{bytes_for, store}
 use Rattle.shape.specs.Shape.{item_bits}
 use Rattle.shape.proofs.Fields.{length-item_bits}
 use Rattle.shape.proofs.Writing.{more}
-use borrow.Author.Rules.{rules}
 use Rattle.equipment_esc.proofs.raw_command.write_patterns.Goals as goal
-
-long : (c : goal.Start) → length c.args.t1 ≡ 20
-long c = search rules
 
 pub returns : goal.returns
 returns c =
-    let a = c.args in
+    let d = c in
+    let w = d in
+    let s = w in
+    let a = s.args in
     let n = a.n in
-    let xs = take n a.t1 in
-    let l : length (item_bits 14 xs) ≡ n * 14 = length-item_bits 14 xs ∙ ap (λ (k : ℕ). k * 14) (length-take-le n a.t1 (omega (arith, long c))) in
-    more a.out.now c.write.new.s c.pad.new.s (item_bits 14 xs) (replicate (bytes_for (n * 14) * 8 - n * 14) false) (n * 14)
-    (c.write.ensures ∙ ap (λ (k : ℕ). store a.out.now 0 (item_bits 14 (take k a.t1))) (sub-zero n)) l (omega arith) c.pad.ensures
+    let xs = take n a.p in
+    let l : length (item_bits 14 xs) ≡ n * 14 = length-item_bits 14 xs ∙ ap (λ (k : ℕ). k * 14) (length-take-le n a.p (omega arith)) in
+    more a.out.now w.write.new.s d.pad.new.s (item_bits 14 xs) (replicate (bytes_for (n * 14) * 8 - n * 14) false) (n * 14)
+    (w.write.ensures ∙ ap (λ (k : ℕ). store a.out.now 0 (item_bits 14 (take k a.p))) (sub-zero n)) l (omega arith) d.pad.ensures

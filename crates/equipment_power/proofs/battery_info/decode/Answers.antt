@@ -4,7 +4,6 @@ use Rattle.shape.specs.Answer.{got, numbered}
 use Rattle.shape.proofs.Reading.{unrefused, unread, refused-on, got-on}
 use Rattle.equipment_power.specs.BatteryInfo.{raw_answer_of, with_floats}
 use Rattle.equipment_power.specs.declared.battery_info.BatteryInfo.{BatteryInfo}
-use borrow.Author.Rules.{rules}
 use Rattle.equipment_power.proofs.battery_info.decode.Goals as goal
 
 pub returns-in-Refused : goal.returns-in-Refused

@@ -7,7 +7,6 @@ use lib.ListN.{length}
 use Rattle.bits.proofs.Octets.{octets-all}
 use Rattle.shape.specs.Answer.{numbered}
 use Rattle.equipment_power.proofs.BatteryInfoFacts.{short, long, held, placed}
-use borrow.Author.Rules.{rules}
 use Rattle.equipment_power.proofs.battery_info.decode_raw.Goals as goal
 
 pub returns-then-payload-lt23 : goal.returns-then-payload-lt23

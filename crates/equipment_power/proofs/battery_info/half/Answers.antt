@@ -4,7 +4,6 @@ use Rattle.bits.proofs.Numbers.{from_bits-lt}
 use lib.ListN.{drop, length-drop}
 use Rattle.bits.specs.Order.{unpack}
 use Rattle.bits.proofs.Bytes.{length-unpack}
-use borrow.Author.Rules.{rules}
 use Rattle.equipment_power.proofs.battery_info.half.Goals as goal
 
 pub overflow_cast-result : goal.overflow_cast-result

@@ -1,7 +1,6 @@
 -- `battery_info::narrowed` meets its contract, float by float.
 use Rattle.shape.proofs.SignedFacts.{is}
 use Rattle.equipment_power.proofs.BatteryInfoFacts.{made}
-use borrow.Author.Rules.{rules}
 use Rattle.equipment_power.proofs.battery_info.narrowed.Goals as goal
 
 pub returns : goal.returns

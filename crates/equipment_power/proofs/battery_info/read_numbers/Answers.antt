@@ -4,7 +4,6 @@ use lib.Dec.{lit≤}
 use Rattle.shape.proofs.CastFacts.{number_read}
 use Rattle.equipment_power.proofs.BatteryInfoFacts.{made}
 use Rattle.equipment_power.specs.BatteryInfo.{raw_at}
-use borrow.Author.Rules.{rules}
 use Rattle.equipment_power.proofs.battery_info.read_numbers.Goals as goal
 
 pub returns : goal.returns

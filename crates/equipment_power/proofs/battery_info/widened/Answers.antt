@@ -1,7 +1,6 @@
 -- `battery_info::widened` meets its contract, float by float.
 use Rattle.shape.proofs.SignedFacts.{is}
 use Rattle.equipment_power.proofs.BatteryInfoFacts.{infos}
-use borrow.Author.Rules.{rules}
 use Rattle.equipment_power.proofs.battery_info.widened.Goals as goal
 
 pub returns : goal.returns

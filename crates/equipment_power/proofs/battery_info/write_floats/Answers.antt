@@ -1,7 +1,6 @@
 -- `battery_info::write_floats` meets its contract: the floats follow each other.
 use native.Mathlib.Omega.{arith}
 use Rattle.equipment_power.proofs.BatteryInfoFacts.{stored_floats}
-use borrow.Author.Rules.{rules}
 use Rattle.equipment_power.proofs.battery_info.write_floats.Goals as goal
 
 pub returns : goal.returns

@@ -6,7 +6,6 @@ use lib.ListN.{drop}
 use Rattle.bits.specs.Order.{unpack, from_bits}
 use Rattle.protocol.proofs.ResponseReadFacts.{eight, none}
 use Rattle.protocol.specs.GetNodeInfoResponse.{certificate_length}
-use borrow.Author.Rules.{rules}
 use Rattle.protocol.proofs.get_node_info_response.certificate_length.Goals as goal
 
 pub returns-then-payload-lt41 : goal.returns-then-payload-lt41

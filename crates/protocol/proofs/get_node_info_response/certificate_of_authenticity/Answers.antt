@@ -2,7 +2,6 @@
 use mathlib.Core.Path.{ap, ◌∙◌}
 use Prim.Native.Nat.{ℕ}
 use Rattle.bits.specs.Part.{span}
-use borrow.Author.Rules.{rules}
 use Rattle.protocol.proofs.get_node_info_response.certificate_of_authenticity.Goals as goal
 
 pub returns : goal.returns

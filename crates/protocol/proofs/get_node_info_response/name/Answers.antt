@@ -4,7 +4,6 @@ use Prim.Native.Nat.{ℕ, ◌+◌}
 use native.Mathlib.Omega.{arith}
 use lib.ListN.{drop}
 use Rattle.protocol.proofs.ResponseReadFacts.{below}
-use borrow.Author.Rules.{rules}
 use Rattle.protocol.proofs.get_node_info_response.name.Goals as goal
 
 pub overflow_add-certificate_length : goal.overflow_add-certificate_length

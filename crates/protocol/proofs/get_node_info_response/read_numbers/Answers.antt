@@ -3,7 +3,6 @@ use Rattle.protocol.specs.GetNodeInfoResponse.{numbers_at}
 use native.Mathlib.Omega.{arith}
 use lib.Dec.{lit≤}
 use Rattle.shape.proofs.CastFacts.{number_read}
-use borrow.Author.Rules.{rules}
 use Rattle.protocol.proofs.get_node_info_response.read_numbers.Goals as goal
 
 pub returns : goal.returns

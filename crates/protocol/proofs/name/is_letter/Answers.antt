@@ -4,7 +4,6 @@ use mathlib.Core.Path.{◌≡◌, sym, ◌∙◌}
 use Prim.Native.Nat.{ℕ}
 use lib.Dec.{eqb}
 use Rattle.protocol.specs.Name.{between, is_letter}
-use borrow.Author.Rules.{rules}
 use Rattle.protocol.proofs.name.is_letter.Goals as goal
 
 module _ (c : ℕ) where

@@ -1,11 +1,7 @@
 -- `name::is_name` meets its contract: the letters passed do not decide.
-use mathlib.Core.Path.{◌≡◌, refl, sym, ◌∙◌}
-use Prim.Native.Nat.{◌-◌, ◌≤◌, ◌<◌}
+use mathlib.Core.Path.{refl, sym, ◌∙◌}
 use native.Mathlib.Omega.{arith}
-use borrow.Author.Tests.{not-true, not-false}
-use lib.ListN.{length, drop}
 use Rattle.protocol.proofs.NameFacts.{empty, bad, next, all}
-use Rattle.protocol.specs.Name.{all_letters}
 use Rattle.protocol.proofs.name.is_name.Goals as goal
 
 pub returns-then-s-eq0 : goal.returns-then-s-eq0
@@ -22,8 +18,10 @@ is_letter-requires c = tt
 
 pub returns-then-not-is_letter : goal.returns-then-not-is_letter
 returns-then-not-is_letter c =
-    bad c.args.s.now c.loop-i.i (omega arith) c.loop-i.invariant.1.1
-    (sym c.is_letter.ensures ∙ not-true c.is_letter.result c.if-not-is_letter.true)
+    let n = c in
+    let l = n in
+    bad l.args.s.now l.loop-i.i (omega arith) l.loop-i.invariant.1.1
+    (sym n.is_letter.ensures ∙ c.if-not-is_letter.true)
 
 pub overflow_add-i : goal.overflow_add-i
 overflow_add-i c = omega arith
@@ -33,8 +31,11 @@ loop-i-smaller c = omega arith
 
 pub loop-i-preserved : goal.loop-i-preserved
 loop-i-preserved c =
-    (omega arith, (omega arith, next c.args.s.now c.loop-i.i (omega arith) c.loop-i.invariant.1.1 (sym c.is_letter.ensures ∙ not-false c.is_letter.result c.if-not-is_letter.false)))
+    let n = c in
+    let l = n in
+    (omega arith, (omega arith, next l.args.s.now l.loop-i.i (omega arith) l.loop-i.invariant.1.1 (sym n.is_letter.ensures ∙ c.if-not-is_letter.false)))
 
 pub returns : goal.returns
 returns c =
-    all c.args.s.now c.loop-i.i (omega arith) (omega arith) c.loop-i.invariant.1.1
+    let l = c in
+    all l.args.s.now l.loop-i.i (omega arith) (omega arith) l.loop-i.invariant.1.1

@@ -1,9 +1,6 @@
-use mathlib.Core.Path.{◌≡◌, refl, sym, ◌∙◌}
+use mathlib.Core.Path.{◌≡◌}
 use Prim.Native.Nat.{◌-◌, ◌≤◌, ◌<◌}
-use native.Mathlib.Omega.{arith}
-use borrow.Author.Tests.{not-true, not-false}
 use lib.ListN.{length, drop}
-use Rattle.protocol.proofs.NameFacts.{empty, bad, next, all}
 use Rattle.protocol.specs.Name.{all_letters}
 use Rattle.protocol.proofs.name.is_name.Given as goal
 

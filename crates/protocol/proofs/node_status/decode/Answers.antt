@@ -4,7 +4,6 @@ use Rattle.protocol.specs.declared.node_status.NodeStatus.{NodeStatus}
 use Rattle.protocol.proofs.NodeStatusFacts.{short, long, read}
 use native.Mathlib.Omega.{arith}
 use mathlib.Core.Path.{sym, ap, ◌∙◌}
-use borrow.Author.Rules.{rules}
 use Rattle.protocol.proofs.node_status.decode.Goals as goal
 
 pub returns-then-n-lt7 : goal.returns-then-n-lt7

@@ -6,7 +6,6 @@ use Rattle.shape.proofs.Writing.{refuse-8, write-all}
 use Rattle.shape.specs.Shape.{end}
 use Rattle.bits.proofs.Octets.{octets-all}
 use native.Mathlib.Omega.{arith}
-use borrow.Author.Rules.{rules}
 use Rattle.protocol.proofs.node_status.encode.Goals as goal
 
 pub returns-then-out-lt7 : goal.returns-then-out-lt7

@@ -4,7 +4,6 @@ use Rattle.protocol.proofs.NodeStatusFacts.{made}
 use native.Mathlib.Omega.{arith}
 use lib.Dec.{lit≤}
 use Rattle.shape.proofs.CastFacts.{number_read}
-use borrow.Author.Rules.{rules}
 use Rattle.protocol.proofs.node_status.read_front.Goals as goal
 
 pub returns : goal.returns

@@ -2,7 +2,6 @@
 use Rattle.protocol.proofs.NodeStatusFacts.{stored}
 use native.Mathlib.Omega.{arith}
 use Rattle.shape.proofs.CastFacts.{number-given}
-use borrow.Author.Rules.{rules}
 use Rattle.protocol.proofs.node_status.write_front.Goals as goal
 
 pub returns : goal.returns

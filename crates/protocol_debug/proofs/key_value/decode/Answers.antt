@@ -11,7 +11,6 @@ use Rattle.bits.proofs.Octets.{octets-all}
 use Rattle.shape.specs.Answer.{got, numbered}
 use Rattle.protocol_debug.proofs.KeyValueFacts.{short, long, held, made}
 use Rattle.protocol_debug.specs.declared.key_value.KeyValue.{KeyValue}
-use borrow.Author.Rules.{rules}
 use Rattle.protocol_debug.proofs.key_value.decode.Goals as goal
 
 pub returns-then-payload-lt4 : goal.returns-then-payload-lt4

@@ -9,7 +9,6 @@ use Rattle.bits.proofs.Octets.{octets-all}
 use Rattle.shape.proofs.Writing.{refuse-17, refuse-8, write-all}
 use Rattle.protocol_debug.proofs.KeyValueFacts.{size, fit, stored}
 use Rattle.protocol_debug.specs.KeyValue.{key_value}
-use borrow.Author.Rules.{rules}
 use Rattle.protocol_debug.proofs.key_value.encode.Goals as goal
 
 pub returns-then-key-gt58 : goal.returns-then-key-gt58

@@ -10,7 +10,6 @@ use Rattle.shape.specs.Answer.{got, numbered}
 use Rattle.shape.proofs.CastFacts.{number_read}
 use Rattle.protocol_debug.proofs.LogMessageFacts.{below, cut, long, held, source-len, made}
 use Rattle.protocol_debug.specs.declared.log_message.LogMessage.{LogMessage}
-use borrow.Author.Rules.{rules}
 use Rattle.protocol_debug.proofs.log_message.decode.Goals as goal
 
 pub overflow_add-at : goal.overflow_add-at

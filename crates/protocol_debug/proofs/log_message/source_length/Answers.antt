@@ -6,7 +6,6 @@ use lib.ListN.{drop}
 use Rattle.bits.specs.Order.{unpack, from_bits}
 use Rattle.protocol_debug.proofs.LogMessageFacts.{five, none}
 use Rattle.protocol_debug.specs.LogMessage.{source_length}
-use borrow.Author.Rules.{rules}
 use Rattle.protocol_debug.proofs.log_message.source_length.Goals as goal
 
 pub returns-then-payload-lt1 : goal.returns-then-payload-lt1

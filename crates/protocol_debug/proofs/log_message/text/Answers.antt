@@ -4,7 +4,6 @@ use Prim.Native.Nat.{ℕ, ◌+◌}
 use native.Mathlib.Omega.{arith}
 use lib.ListN.{drop}
 use Rattle.protocol_debug.proofs.LogMessageFacts.{below}
-use borrow.Author.Rules.{rules}
 use Rattle.protocol_debug.proofs.log_message.text.Goals as goal
 
 pub overflow_add-source_length : goal.overflow_add-source_length

@@ -10,7 +10,6 @@ use Rattle.shape.specs.Answer.{got, numbered}
 use Rattle.shape.proofs.CastFacts.{number_read}
 use Rattle.protocol_dynamic_node_id.proofs.AllocationFacts.{short, long, held, made}
 use Rattle.protocol_dynamic_node_id.specs.declared.allocation.Allocation.{Allocation}
-use borrow.Author.Rules.{rules}
 use Rattle.protocol_dynamic_node_id.proofs.allocation.decode.Goals as goal
 
 pub returns-then-payload-lt1 : goal.returns-then-payload-lt1

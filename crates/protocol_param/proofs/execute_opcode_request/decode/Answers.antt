@@ -5,7 +5,6 @@ use Rattle.shape.proofs.CastFacts.{number_read, signed-read}
 use Rattle.protocol_param.proofs.ValueFacts.{refuses, gives}
 use Rattle.protocol_param.proofs.OpcodeFacts.{cut-request, long-request, held-request, made-request}
 use Rattle.protocol_param.specs.ExecuteOpcode.{request_of}
-use borrow.Author.Rules.{rules}
 use Rattle.protocol_param.proofs.execute_opcode_request.decode.Goals as goal
 
 pub returns-then-payload-lt7 : goal.returns-then-payload-lt7

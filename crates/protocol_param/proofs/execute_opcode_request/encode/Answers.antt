@@ -6,7 +6,6 @@ use Rattle.shape.proofs.CastFacts.{number-given, signed-given}
 use Rattle.shape.proofs.Writing.{refuse-8, write-all}
 use Rattle.protocol_param.proofs.OpcodeFacts.{fit-request, size-request, stored-request}
 use Rattle.protocol_param.specs.ExecuteOpcode.{opcode_request, request_values}
-use borrow.Author.Rules.{rules}
 use Rattle.protocol_param.proofs.execute_opcode_request.encode.Goals as goal
 
 pub returns-then-out-lt7 : goal.returns-then-out-lt7

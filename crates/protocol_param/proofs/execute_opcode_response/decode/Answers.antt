@@ -9,7 +9,6 @@ use Rattle.shape.proofs.CastFacts.{number_read, signed-read}
 use Rattle.protocol_param.proofs.ValueFacts.{refuses, gives, refused-by}
 use Rattle.protocol_param.proofs.OpcodeFacts.{cut-response, stop-response, held-response, end-held, made-response}
 use Rattle.protocol_param.specs.ExecuteOpcode.{response_of}
-use borrow.Author.Rules.{rules}
 use Rattle.protocol_param.proofs.execute_opcode_response.decode.Goals as goal
 
 pub returns-then-payload-lt7 : goal.returns-then-payload-lt7

@@ -6,7 +6,6 @@ use Rattle.shape.proofs.CastFacts.{number-given, signed-given}
 use Rattle.shape.proofs.Writing.{refuse-8-padded, write-padded}
 use Rattle.protocol_param.proofs.OpcodeFacts.{fit-response, bytes-response, stored-response}
 use Rattle.protocol_param.specs.ExecuteOpcode.{opcode_response, response_values}
-use borrow.Author.Rules.{rules}
 use Rattle.protocol_param.proofs.execute_opcode_response.encode.Goals as goal
 
 pub returns-then-out-lt7 : goal.returns-then-out-lt7

@@ -12,7 +12,6 @@ use Rattle.protocol_param.proofs.ValueFacts.{refused-by, refuses, gives}
 use Rattle.protocol_param.proofs.GetSetFacts.{request-good, request-there, request-made}
 use Rattle.protocol_param.specs.Value.{value_at, size_at}
 use Rattle.protocol_param.specs.GetSetRequest.{request, request_of}
-use borrow.Author.Rules.{rules}
 use Rattle.protocol_param.proofs.get_set_request.decode.Goals as goal
 
 pub returns-then-n-ne0 : goal.returns-then-n-ne0

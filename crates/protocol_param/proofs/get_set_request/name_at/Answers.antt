@@ -6,7 +6,6 @@ use native.Mathlib.Omega.{arith}
 use Rattle.protocol_param.proofs.ValueFacts.{size-at-lt}
 use Rattle.protocol_param.specs.Value.{size_at}
 use Rattle.protocol_param.specs.GetSetRequest.{request_name_at}
-use borrow.Author.Rules.{rules}
 use Rattle.protocol_param.proofs.get_set_request.name_at.Goals as goal
 
 pub overflow_add-result : goal.overflow_add-result

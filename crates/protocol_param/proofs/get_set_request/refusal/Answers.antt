@@ -8,7 +8,6 @@ use Rattle.bits.proofs.Octets.{octets-all}
 use Rattle.protocol_param.proofs.ValueFacts.{number_of, refused-by, value-all}
 use Rattle.protocol_param.proofs.GetSetFacts.{request-stop, request-long, request-held}
 use Rattle.protocol_param.specs.inside.Value.{sized}
-use borrow.Author.Rules.{rules}
 use Rattle.protocol_param.proofs.get_set_request.refusal.Goals as goal
 
 pub returns-then-n-ne0 : goal.returns-then-n-ne0

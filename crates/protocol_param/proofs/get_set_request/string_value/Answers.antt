@@ -3,7 +3,6 @@ use mathlib.Core.Path.{ap, ◌∙◌}
 use mathlib.Core.List.{List}
 use Prim.Native.Nat.{ℕ}
 use Rattle.protocol_param.specs.Value.{text_in}
-use borrow.Author.Rules.{rules}
 use Rattle.protocol_param.proofs.get_set_request.string_value.Goals as goal
 
 pub returns : goal.returns

@@ -11,7 +11,6 @@ use Rattle.protocol_param.proofs.ValueFacts.{refused-by, refuses, gives}
 use Rattle.protocol_param.proofs.GetSetFacts.{default_lt, response-good, response-made}
 use Rattle.protocol_param.specs.Value.{value_at, size_at}
 use Rattle.protocol_param.specs.GetSetResponse.{response, response_of}
-use borrow.Author.Rules.{rules}
 use Rattle.protocol_param.proofs.get_set_response.decode.Goals as goal
 
 pub returns-then-n-ne0 : goal.returns-then-n-ne0

@@ -4,7 +4,6 @@ use mathlib.Core.List.{List}
 use Prim.Native.Nat.{ℕ}
 use lib.ListN.{drop}
 use Rattle.protocol_param.specs.Value.{text_in}
-use borrow.Author.Rules.{rules}
 use Rattle.protocol_param.proofs.get_set_response.default_string_value.Goals as goal
 
 pub returns : goal.returns

@@ -3,7 +3,6 @@ use native.Mathlib.Omega.{arith}
 use Rattle.protocol_param.proofs.GetSetFacts.{next_place, default_lt}
 use Rattle.protocol_param.proofs.ValueFacts.{size-at-lt}
 use Rattle.protocol_param.specs.GetSetResponse.{max_at}
-use borrow.Author.Rules.{rules}
 use Rattle.protocol_param.proofs.get_set_response.max_at.Goals as goal
 
 pub overflow_add-result : goal.overflow_add-result

@@ -5,7 +5,6 @@ use native.Mathlib.Omega.{arith}
 use lib.ListN.{length}
 use Rattle.protocol_param.proofs.WriteFacts.{padded-stored}
 use Rattle.protocol_param.proofs.ValueFacts.{narrow, size-some}
-use borrow.Author.Rules.{rules}
 use Rattle.protocol_param.proofs.get_set_response.put.Goals as goal
 
 pub overflow_sub-w : goal.overflow_sub-w

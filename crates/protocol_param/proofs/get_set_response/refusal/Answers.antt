@@ -9,7 +9,6 @@ use Rattle.protocol_param.proofs.ValueFacts.{number_of, refused-by, value-all}
 use Rattle.protocol_param.proofs.GetSetFacts.{stop-value, stop-default, stop-max, stop-min, response-long, response-held}
 use Rattle.protocol_param.specs.inside.Value.{sized}
 use Rattle.protocol_param.specs.GetSetResponse.{default_at, max_at, min_at}
-use borrow.Author.Rules.{rules}
 use Rattle.protocol_param.proofs.get_set_response.refusal.Goals as goal
 
 pub returns-then-a-ne0 : goal.returns-then-a-ne0

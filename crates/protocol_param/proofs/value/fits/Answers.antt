@@ -1,7 +1,6 @@
 -- `value::fits` meets its contract.
 use mathlib.Core.Path.{sym, ◌∙◌}
 use Rattle.protocol_param.proofs.WriteFacts.{fits-other, fits-text}
-use borrow.Author.Rules.{rules}
 use Rattle.protocol_param.proofs.value.fits.Goals as goal
 
 pub returns-then-tag_of-ne4 : goal.returns-then-tag_of-ne4

@@ -1,5 +1,5 @@
 -- `value::read` meets its contract.
-use mathlib.Core.Path.{sym, ap, ◌∙◌}
+use mathlib.Core.Path.{◌≡◌, sym, ap, ◌∙◌}
 use mathlib.Core.List.{List}
 use Prim.Native.Nat.{ℕ}
 use native.Mathlib.Omega.{arith}
@@ -8,62 +8,93 @@ use lib.IntN.{pos}
 use Rattle.bits.specs.Order.{unpack, from_bits}
 use Rattle.shape.specs.Signed.{signed_of}
 use Rattle.shape.proofs.CastFacts.{number_read, signed-read, bits_below}
-use Rattle.protocol_param.proofs.ValueFacts.{value-unknown, value-is, is_zero, rest-long}
+use Rattle.protocol_param.proofs.ValueFacts.{value-unknown, value-is, rest-long}
 use Rattle.protocol_param.specs.declared.value.Value.TheVariants.{Integer, Real, Boolean}
-use borrow.Author.Rules.{rules}
 use Rattle.protocol_param.proofs.value.read.Goals as goal
 
 pub returns-then-cases-t : goal.returns-then-cases-t
 returns-then-cases-t c =
-    let a = c.args in
-    sym (value-unknown a.cases a.s.now (omega (arith, c.tag-t.ensures, c.if-cases-t.true)))
+    let q = c in
+    let a = q.args in
+    sym (value-unknown a.cases a.s.now (omega (arith, q.tag-t.ensures, c.if-cases-t.true)))
 
 pub read_signed-requires : goal.read_signed-requires
 read_signed-requires c =
-    let a = c.args in
-    (lit≤ tt, (lit≤ tt, (omega arith, omega (arith, rest-long a.cases a.s.now 1 (sym c.tag-t.ensures ∙ c.in-1.keys1) (omega (arith, c.in-1.keys1, c.if-cases-t.false)) c.requires.1 c.behind-rest.result.now c.behind-rest.ensures))))
+    let m = c in
+    let b = m in
+    let f = b in
+    let q = f in
+    let a = q.args in
+    (lit≤ tt, (lit≤ tt, (omega arith, omega (arith, rest-long a.cases a.s.now 1 (sym q.tag-t.ensures ∙ m.in-1.is) (omega (arith, m.in-1.is, f.if-cases-t.false)) q.requires.1 b.behind-rest.result.now b.behind-rest.ensures))))
 
 pub read-requires : goal.read-requires
 read-requires c =
-    let a = c.args in
-    (lit≤ tt, (omega arith, omega (arith, rest-long a.cases a.s.now 2 (sym c.tag-t.ensures ∙ c.in-1.keys2) (omega (arith, c.in-1.keys2, c.if-cases-t.false)) c.requires.1 c.behind-rest.result.now c.behind-rest.ensures)))
+    let m = c in
+    let b = m in
+    let f = b in
+    let q = f in
+    let a = q.args in
+    (lit≤ tt, (omega arith, omega (arith, rest-long a.cases a.s.now 2 (sym q.tag-t.ensures ∙ m.in-2.is) (omega (arith, m.in-2.is, f.if-cases-t.false)) q.requires.1 b.behind-rest.result.now b.behind-rest.ensures)))
 
 pub overflow_cast-result : goal.overflow_cast-result
 overflow_cast-result c =
-    let a = c.args in
-    omega (arith, c.read.ensures, bits_below c.behind-rest.result.now 0 32 (lit≤ tt) (lit≤ tt) (omega (arith, rest-long a.cases a.s.now 2 (sym c.tag-t.ensures ∙ c.in-1.keys2) (omega (arith, c.in-1.keys2, c.if-cases-t.false)) c.requires.1 c.behind-rest.result.now c.behind-rest.ensures)))
+    let m = c in
+    let b = m in
+    let f = b in
+    let q = f in
+    let a = q.args in
+    omega (arith, c.read.ensures, bits_below b.behind-rest.result.now 0 32 (lit≤ tt) (lit≤ tt) (omega (arith, rest-long a.cases a.s.now 2 (sym q.tag-t.ensures ∙ m.in-2.is) (omega (arith, m.in-2.is, f.if-cases-t.false)) q.requires.1 b.behind-rest.result.now b.behind-rest.ensures)))
 
 pub read-requires-in-3 : goal.read-requires-in-3
 read-requires-in-3 c =
-    let a = c.args in
-    (lit≤ tt, (omega arith, omega (arith, rest-long a.cases a.s.now 3 (sym c.tag-t.ensures ∙ c.in-1.keys3) (omega (arith, c.in-1.keys3, c.if-cases-t.false)) c.requires.1 c.behind-rest.result.now c.behind-rest.ensures)))
+    let m = c in
+    let b = m in
+    let f = b in
+    let q = f in
+    let a = q.args in
+    (lit≤ tt, (omega arith, omega (arith, rest-long a.cases a.s.now 3 (sym q.tag-t.ensures ∙ m.in-3.is) (omega (arith, m.in-3.is, f.if-cases-t.false)) q.requires.1 b.behind-rest.result.now b.behind-rest.ensures)))
 
 pub returns-in-1 : goal.returns-in-1
 returns-in-1 c =
-    let a = c.args in
-    ap Integer (signed-read c.behind-rest.result.now 0 64 (lit≤ tt) (lit≤ tt) (omega (arith, rest-long a.cases a.s.now 1 (sym c.tag-t.ensures ∙ c.in-1.keys1) (omega (arith, c.in-1.keys1, c.if-cases-t.false)) c.requires.1 c.behind-rest.result.now c.behind-rest.ensures)) c.read_signed.result c.read_signed.ensures ∙ ap (λ (l : List ℕ). signed_of 64 (from_bits 64 (unpack l))) c.behind-rest.ensures)
-    ∙ sym (value-is a.cases a.s.now 1 (sym c.tag-t.ensures ∙ c.in-1.keys1) (omega (arith, c.in-1.keys1, c.if-cases-t.false)))
+    let m = c in
+    let b = m in
+    let f = b in
+    let q = f in
+    let a = q.args in
+    ap Integer (signed-read b.behind-rest.result.now 0 64 (lit≤ tt) (lit≤ tt) (omega (arith, rest-long a.cases a.s.now 1 (sym q.tag-t.ensures ∙ m.in-1.is) (omega (arith, m.in-1.is, f.if-cases-t.false)) q.requires.1 b.behind-rest.result.now b.behind-rest.ensures)) c.read_signed.result c.read_signed.ensures ∙ ap (λ (l : List ℕ). signed_of 64 (from_bits 64 (unpack l))) b.behind-rest.ensures)
+    ∙ sym (value-is a.cases a.s.now 1 (sym q.tag-t.ensures ∙ m.in-1.is) (omega (arith, m.in-1.is, f.if-cases-t.false)))
 
 pub returns-in-2 : goal.returns-in-2
 returns-in-2 c =
-    let a = c.args in
-    ap Real (c.read.ensures ∙ ap (λ (l : List ℕ). from_bits 32 (unpack l)) c.behind-rest.ensures)
-    ∙ sym (value-is a.cases a.s.now 2 (sym c.tag-t.ensures ∙ c.in-1.keys2) (omega (arith, c.in-1.keys2, c.if-cases-t.false)))
+    let m = c in
+    let b = m in
+    let f = b in
+    let q = f in
+    let a = q.args in
+    ap Real (c.read.ensures ∙ ap (λ (l : List ℕ). from_bits 32 (unpack l)) b.behind-rest.ensures)
+    ∙ sym (value-is a.cases a.s.now 2 (sym q.tag-t.ensures ∙ m.in-2.is) (omega (arith, m.in-2.is, f.if-cases-t.false)))
 
 pub returns-in-3 : goal.returns-in-3
 returns-in-3 c =
-    let a = c.args in
-    ap Boolean (number_read c.behind-rest.result.now 0 8 (lit≤ tt) (omega (arith, rest-long a.cases a.s.now 3 (sym c.tag-t.ensures ∙ c.in-1.keys3) (omega (arith, c.in-1.keys3, c.if-cases-t.false)) c.requires.1 c.behind-rest.result.now c.behind-rest.ensures)) c.read-in-3.result c.read-in-3.ensures ∙ ap (λ (l : List ℕ). pos (from_bits 8 (unpack l))) c.behind-rest.ensures)
-    ∙ sym (value-is a.cases a.s.now 3 (sym c.tag-t.ensures ∙ c.in-1.keys3) (omega (arith, c.in-1.keys3, c.if-cases-t.false)))
+    let m = c in
+    let b = m in
+    let f = b in
+    let q = f in
+    let a = q.args in
+    ap Boolean (number_read b.behind-rest.result.now 0 8 (lit≤ tt) (omega (arith, rest-long a.cases a.s.now 3 (sym q.tag-t.ensures ∙ m.in-3.is) (omega (arith, m.in-3.is, f.if-cases-t.false)) q.requires.1 b.behind-rest.result.now b.behind-rest.ensures)) c.read-in-3.result c.read-in-3.ensures ∙ ap (λ (l : List ℕ). pos (from_bits 8 (unpack l))) b.behind-rest.ensures)
+    ∙ sym (value-is a.cases a.s.now 3 (sym q.tag-t.ensures ∙ m.in-3.is) (omega (arith, m.in-3.is, f.if-cases-t.false)))
 
 pub returns-in-4 : goal.returns-in-4
 returns-in-4 c =
-    let a = c.args in
-    sym (value-is a.cases a.s.now 4 (sym c.tag-t.ensures ∙ c.in-1.keys4) (omega (arith, c.in-1.keys4, c.if-cases-t.false)))
+    let m = c in
+    let b = m in
+    let f = b in
+    let q = f in
+    let a = q.args in
+    sym (value-is a.cases a.s.now 4 (sym q.tag-t.ensures ∙ m.in-4.is) (omega (arith, m.in-4.is, f.if-cases-t.false)))
 
 pub returns-in_default : goal.returns-in_default
 returns-in_default c =
     let a = c.args in
-    let r = c.in-1.rest in
-    let z = is_zero a.cases a.s.now (omega arith) c.tag-t.result c.if-cases-t.false r.0.0.0.1 r.0.0.1 r.0.1 r.1 in
+    let z : c.tag-t.result ≡ 0 = omega arith in
     sym (value-is a.cases a.s.now 0 (sym c.tag-t.ensures ∙ z) (omega arith))

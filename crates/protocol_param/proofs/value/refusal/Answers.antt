@@ -2,7 +2,6 @@
 use mathlib.Core.Path.{sym, ap}
 use native.Mathlib.Omega.{arith}
 use Rattle.protocol_param.proofs.ValueFacts.{number_of, sized-none, sized-tag, sized-cut, sized-long, sized-all}
-use borrow.Author.Rules.{rules}
 use Rattle.protocol_param.proofs.value.refusal.Goals as goal
 
 pub returns-then-s-lt1 : goal.returns-then-s-lt1

@@ -6,7 +6,6 @@ use lib.ListN.{drop}
 use Rattle.bits.specs.Order.{unpack, from_bits}
 use Rattle.protocol_param.proofs.ValueFacts.{narrow, tag-none}
 use Rattle.protocol_param.specs.Value.{tag_at}
-use borrow.Author.Rules.{rules}
 use Rattle.protocol_param.proofs.value.tag.Goals as goal
 
 pub returns-then-s-lt1 : goal.returns-then-s-lt1

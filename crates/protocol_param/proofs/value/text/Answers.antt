@@ -2,7 +2,6 @@
 use mathlib.Core.Path.{ap, ◌∙◌}
 use Prim.Native.Nat.{ℕ}
 use Rattle.bits.specs.Part.{span}
-use borrow.Author.Rules.{rules}
 use Rattle.protocol_param.proofs.value.text.Goals as goal
 
 pub returns : goal.returns

@@ -7,7 +7,6 @@ use lib.ListN.{length, drop}
 use Rattle.bits.specs.Order.{unpack, from_bits}
 use Rattle.bits.specs.Width.{width_of}
 use Rattle.protocol_param.proofs.ValueFacts.{eight, byte-none, no_text, text-is}
-use borrow.Author.Rules.{rules}
 use Rattle.protocol_param.proofs.value.text_length.Goals as goal
 
 pub returns-then-tag-ne4 : goal.returns-then-tag-ne4

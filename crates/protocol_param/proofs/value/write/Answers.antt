@@ -3,7 +3,6 @@ use native.Mathlib.Omega.{arith}
 use lib.ListN.{length}
 use Rattle.protocol_param.proofs.WriteFacts.{union-stored}
 use Rattle.protocol_param.proofs.ValueFacts.{narrow, size-some}
-use borrow.Author.Rules.{rules}
 use Rattle.protocol_param.proofs.value.write.Goals as goal
 
 pub overflow_sub-w : goal.overflow_sub-w

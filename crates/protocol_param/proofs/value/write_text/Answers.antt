@@ -2,7 +2,6 @@
 use native.Mathlib.Omega.{arith}
 use Rattle.protocol_param.proofs.WriteFacts.{text-stored}
 use Rattle.protocol_param.proofs.ValueFacts.{eight}
-use borrow.Author.Rules.{rules}
 use Rattle.protocol_param.proofs.value.write_text.Goals as goal
 
 pub write-requires : goal.write-requires

@@ -1,5 +1,4 @@
 -- `value::written_size` meets its contract.
-use borrow.Author.Rules.{rules}
 use Rattle.protocol_param.proofs.value.written_size.Goals as goal
 
 pub returns-in-Text : goal.returns-in-Text

@@ -3,7 +3,6 @@ use mathlib.Core.Path.{ap}
 use native.Mathlib.Omega.{arith}
 use Prim.Native.Nat.{ℕ, ◌%◌}
 use Rattle.shape.proofs.CastFacts.{lowest-all}
-use borrow.Author.Rules.{rules}
 use Rattle.shape.proofs.cast.lowest.Goals as goal
 
 pub returns-then-x-top : goal.returns-then-x-top

@@ -3,7 +3,6 @@ use mathlib.Core.Bool.{true, false}
 use native.Mathlib.Omega.{arith}
 use Rattle.shape.proofs.SignedFacts.{sign, size_of}
 use Rattle.shape.proofs.CastFacts.{signed-fits, signed-negative, signed-positive}
-use borrow.Author.Rules.{rules}
 use Rattle.shape.proofs.cast.signed.Goals as goal
 
 pub overflow_sub-result : goal.overflow_sub-result

@@ -3,7 +3,6 @@ use mathlib.Core.Bool.{true, false}
 use native.Mathlib.Omega.{arith}
 use Rattle.shape.proofs.SignedFacts.{sign, size_of}
 use Rattle.shape.proofs.CastFacts.{unsigned_negative, unsigned-positive}
-use borrow.Author.Rules.{rules}
 use Rattle.shape.proofs.cast.unsigned.Goals as goal
 
 pub returns-then-v-lt0 : goal.returns-then-v-lt0

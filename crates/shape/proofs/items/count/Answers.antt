@@ -1,8 +1,8 @@
 -- `items::count` meets its contract: 16, 25 or the number of items.
-use mathlib.Core.Path.{◌≡◌, refl, sym, ap, ◌∙◌}
+use mathlib.Core.Path.{◌≡◌, sym, ap, ◌∙◌}
 use mathlib.Core.List.{List}
 use mathlib.Core.Bool.{Bool}
-use Prim.Native.Nat.{ℕ, ◌-◌, ◌+◌, ◌*◌, ◌/◌, ◌%◌, ◌≤◌, ◌<◌}
+use Prim.Native.Nat.{ℕ, ◌-◌, ◌+◌, ◌*◌, ◌/◌, ◌%◌, ◌<◌}
 use native.Mathlib.Nat.{div-add-mod', mod-lt}
 use native.Mathlib.Omega.{arith}
 use lib.ListN.{length, drop, length-drop}
@@ -11,7 +11,6 @@ use Rattle.bits.specs.Order.{unpack, from_bits}
 use Rattle.bits.proofs.Bytes.{length-unpack}
 use Rattle.shape.specs.Answer.{got, numbered}
 use Rattle.shape.proofs.ItemFacts.{place-low, too_long, refusal, count}
-use borrow.Author.Rules.{rules}
 use Rattle.shape.proofs.items.count.Goals as goal
 
 -- the bits from `at` on

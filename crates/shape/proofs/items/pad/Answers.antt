@@ -6,7 +6,6 @@ use Prim.Native.Nat.{◌-◌, ◌*◌}
 use native.Mathlib.Omega.{arith}
 use Rattle.bits.specs.Order.{bytes_for, store}
 use Rattle.shape.proofs.ItemFacts.{zero_bits}
-use borrow.Author.Rules.{rules}
 use Rattle.shape.proofs.items.pad.Goals as goal
 
 pub returns : goal.returns

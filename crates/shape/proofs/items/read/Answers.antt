@@ -1,10 +1,9 @@
 -- `items::read` meets its contract. The invariant: the first i places hold the first i items.
 use mathlib.Core.Path.{◌≡◌, refl, sym, ap, ◌∙◌}
-use mathlib.Core.List.{List}
-use Prim.Native.Nat.{ℕ, ◌-◌, ◌+◌, ◌*◌, ◌≤◌}
+use Prim.Native.Nat.{ℕ}
 use native.Mathlib.Numerals.{add-one}
 use native.Mathlib.Omega.{arith}
-use lib.ListN.{length, take, drop, length-set}
+use lib.ListN.{length, drop, length-set}
 use lib.Seq.{take_all}
 use Rattle.bits.specs.Order.{unpack}
 use Rattle.shape.specs.Shape.{items_of}

@@ -1,13 +1,8 @@
-use mathlib.Core.Path.{◌≡◌, refl, sym, ap, ◌∙◌}
-use mathlib.Core.List.{List}
-use Prim.Native.Nat.{ℕ, ◌-◌, ◌+◌, ◌*◌, ◌≤◌}
-use native.Mathlib.Numerals.{add-one}
-use native.Mathlib.Omega.{arith}
-use lib.ListN.{length, take, drop, length-set}
-use lib.Seq.{take_all}
+use mathlib.Core.Path.{◌≡◌}
+use Prim.Native.Nat.{◌-◌, ◌≤◌}
+use lib.ListN.{length, take, drop}
 use Rattle.bits.specs.Order.{unpack}
 use Rattle.shape.specs.Shape.{items_of}
-use Rattle.shape.proofs.ItemFacts.{place_in, place-low, read-turn}
 use Rattle.shape.proofs.items.read.Given as goal
 
 abbrev pub invariant-loop-i : goal.invariant-loop-i

@@ -1,9 +1,6 @@
 -- `items::refusal` meets its contract.
-use mathlib.Core.Path.{◌≡◌}
-use mathlib.Core.Bool.{Bool}
 use native.Mathlib.Omega.{arith}
 use borrow.Author.Tests.{le-leb, lt-leb, eq-eqb, ne_eqb}
-use lib.Dec.{eqb}
 use Rattle.shape.proofs.items.refusal.Goals as goal
 
 pub returns-then-left-ge8 : goal.returns-then-left-ge8

@@ -1,15 +1,8 @@
-use mathlib.Core.Path.{◌≡◌, refl, sym, ap, ◌∙◌}
-use mathlib.Core.List.{List}
-use Prim.Native.Nat.{ℕ, suc, ◌-◌, ◌+◌, ◌*◌, ◌≤◌}
-use native.Mathlib.Numerals.{add-one}
-use native.Mathlib.Omega.{arith}
-use lib.ListN.{length, take, get_or}
-use lib.Seq.{take_all}
-use Rattle.bits.specs.Order.{store, to_bits}
-use Rattle.bits.proofs.Bytes.{length-store}
-use Rattle.bits.proofs.Octets.{octets-all}
+use mathlib.Core.Path.{◌≡◌}
+use Prim.Native.Nat.{◌-◌, ◌≤◌}
+use lib.ListN.{length, take}
+use Rattle.bits.specs.Order.{store}
 use Rattle.shape.specs.Shape.{item_bits}
-use Rattle.shape.proofs.ItemFacts.{place_in, place-low, write-turn, store-none}
 use Rattle.shape.proofs.items.write.Given as goal
 
 abbrev pub invariant-loop-i : goal.invariant-loop-i

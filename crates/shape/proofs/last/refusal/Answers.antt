@@ -10,7 +10,6 @@ use Rattle.shape.specs.Answer.{Answer, numbered}
 use Rattle.shape.specs.Shape.{end, Values}
 use Rattle.shape.proofs.Reading.{end-left}
 use Rattle.shape.proofs.ItemFacts.{end-set, end-clear}
-use borrow.Author.Rules.{rules}
 use Rattle.shape.proofs.last.refusal.Goals as goal
 
 abbrev number : Answer (Values end) → ℕ

@@ -5,7 +5,6 @@ use lib.IntN.{pos}
 use mir.Syntax.{w64}
 use mir.ValLaws.{to_z_pos}
 use Rattle.shape.proofs.CastFacts.{number-below}
-use borrow.Author.Rules.{rules}
 use Rattle.shape.proofs.number.read.Goals as goal
 
 pub overflow_cast-result : goal.overflow_cast-result

@@ -4,7 +4,6 @@ use Prim.Native.Nat.{ℕ}
 use native.Mathlib.Omega.{arith}
 use Rattle.shape.specs.Signed.{signed_of}
 use Rattle.shape.proofs.CastFacts.{bits_below, signed-read}
-use borrow.Author.Rules.{rules}
 use Rattle.shape.proofs.number.read_signed.Goals as goal
 
 pub value-requires : goal.value-requires

@@ -5,7 +5,6 @@ use lib.IntN.{ℤ}
 use Rattle.shape.specs.Cast.{low_bits}
 use Rattle.shape.proofs.SignedFacts.{is}
 use Rattle.bits.specs.Order.{to_bits, store}
-use borrow.Author.Rules.{rules}
 use Rattle.shape.proofs.number.write_truncated.Goals as goal
 
 pub returns : goal.returns

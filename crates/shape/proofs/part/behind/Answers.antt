@@ -4,7 +4,6 @@ use lib.ListN.{length, take, drop, length-drop, drop_of_length-le}
 use Prim.Native.Nat.{ℕ, ◌≤◌}
 use native.Mathlib.Omega.{arith}
 use mathlib.Core.Path.{sym, ap, ◌∙◌}
-use borrow.Author.Rules.{rules}
 use Rattle.shape.proofs.part.behind.Goals as goal
 
 pub returns-then-payload-at : goal.returns-then-payload-at

@@ -3,7 +3,6 @@ use native.Mathlib.Omega.{arith}
 use Rattle.shape.proofs.SignedFacts.{shifted, twice, twice-lt}
 use lib.Pow.{pow_pos}
 use Prim.Native.Nat.{◌-◌}
-use borrow.Author.Rules.{rules}
 use Rattle.shape.proofs.signed.ones.Goals as goal
 
 pub overflow_sub-result : goal.overflow_sub-result

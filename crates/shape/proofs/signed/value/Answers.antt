@@ -1,7 +1,6 @@
 -- `signed::value` meets its contract.
 use native.Mathlib.Omega.{arith}
 use Rattle.shape.proofs.SignedFacts.{low, rest-fits, high}
-use borrow.Author.Rules.{rules}
 use Rattle.shape.proofs.signed.value.Goals as goal
 
 pub returns-then-x-top : goal.returns-then-x-top
