@@ -22,14 +22,9 @@ numbers-requires c =
 
 pub returns-in-Refused : goal.returns-in-Refused
 returns-in-Refused c =
-    let n = c in
-    let r = n in
-    not-read r.args.payload.now n.in-Refused.number (sym (ap count_of n.in-Refused.is) ∙ r.count.ensures)
+    not-read c.args.payload.now c.in-Refused.number (sym (ap count_of c.in-Refused.is) ∙ c.count.ensures)
 
 pub returns-in-Items : goal.returns-in-Items
 returns-in-Items c =
-    let p = c in
-    let n = p in
-    let r = n in
-    was_read r.args.payload.now n.in-Items.count (sym (ap count_of n.in-Items.is) ∙ r.count.ensures) p.read_patterns.result c.numbers.result
-    p.read_patterns.ensures c.numbers.ensures
+    was_read c.args.payload.now c.in-Items.count (sym (ap count_of c.in-Items.is) ∙ c.count.ensures) c.read_patterns.result c.numbers.result
+    c.read_patterns.ensures c.numbers.ensures

@@ -16,23 +16,15 @@ overflow_add-len c = omega (arith, c.if-n-gt20.false)
 
 pub returns-then-out-len : goal.returns-then-out-len
 returns-then-out-len c =
-    let e = c in
-    let s = e in
-    too_short s.args.x s.args.out.now (search rules) e.if-n-gt20.false c.if-out-len.true
+    too_short c.args.x c.args.out.now (search rules) c.if-n-gt20.false c.if-out-len.true
 
 pub patterns-requires : goal.patterns-requires
 patterns-requires c = c.if-n-gt20.false
 
 pub write_patterns-requires : goal.write_patterns-requires
-write_patterns-requires c = let t = c in (t.if-n-gt20.false, omega (arith, t.if-out-len.false))
+write_patterns-requires c = (c.if-n-gt20.false, omega (arith, c.if-out-len.false))
 
 pub returns : goal.returns
 returns c =
-    let w = c in
-    let p = w in
-    let t = p in
-    let e = t in
-    let k = e in
-    let s = k in
-    stored s.args.x s.args.out.now (search rules) e.if-n-gt20.false (octets-all s.args.out.now (λ i. omega (arith, k.slice_known-1.given i))) t.if-out-len.false
-    p.patterns.result w.write_patterns.new.out p.patterns.ensures w.write_patterns.ensures
+    stored c.args.x c.args.out.now (search rules) c.if-n-gt20.false (octets-all c.args.out.now (λ i. omega (arith, c.slice_known-1.given i))) c.if-out-len.false
+    c.patterns.result c.write_patterns.new.out c.patterns.ensures c.write_patterns.ensures

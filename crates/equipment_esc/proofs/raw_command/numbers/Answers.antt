@@ -21,9 +21,7 @@ bounds-patterns-i c = omega arith
 
 pub value-v-requires : goal.value-v-requires
 value-v-requires c =
-    let l = c in
-    let a = l in
-    let b = below_at 16384 a.args.patterns l.loop-i.i (omega arith) a.requires in
+    let b = below_at 16384 c.args.patterns c.loop-i.i (omega arith) c.requires in
     ((lit≤ tt, lit≤ tt), omega arith)
 
 pub offset_bounds-cmd-i : goal.offset_bounds-cmd-i
@@ -40,13 +38,10 @@ loop-i-smaller c = omega arith
 
 pub loop-i-preserved : goal.loop-i-preserved
 loop-i-preserved c =
-    let l = c in
-    let a = l in
-    let p = a.args.patterns in
-    let i = l.loop-i.i in
-    (omega arith, mapped (signed_of 14) p 0 (pos 0) l.loop-i.cmd i _ (omega arith) (omega arith) l.loop-i.invariant.1 (signed-held 14 (get_or p i 0) (lit≤ tt) (lit≤ tt) (below_at 16384 p i (omega arith) a.requires) c.value-v.result c.value-v.ensures))
+    let p = c.args.patterns in
+    let i = c.loop-i.i in
+    (omega arith, mapped (signed_of 14) p 0 (pos 0) c.loop-i.cmd i _ (omega arith) (omega arith) c.loop-i.invariant.1 (signed-held 14 (get_or p i 0) (lit≤ tt) (lit≤ tt) (below_at 16384 p i (omega arith) c.requires) c.value-v.result c.value-v.ensures))
 
 pub returns : goal.returns
 returns c =
-    let l = c in
-    all-mapped (signed_of 14) l.args.patterns (pos 0) l.loop-i.cmd l.loop-i.i (search rules) (omega arith) l.loop-i.invariant.1
+    all-mapped (signed_of 14) c.args.patterns (pos 0) c.loop-i.cmd c.loop-i.i (search rules) (omega arith) c.loop-i.invariant.1

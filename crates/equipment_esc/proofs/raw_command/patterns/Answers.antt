@@ -36,15 +36,10 @@ loop-i-smaller c = omega arith
 
 pub loop-i-preserved : goal.loop-i-preserved
 loop-i-preserved c =
-    let v = c in
-    let l = v in
-    let a = l in
-    let z = get_or a.args.cmd l.loop-i.i (pos 0) in
-    (omega arith, mapped pattern_of a.args.cmd (pos 0) 0 l.loop-i.p l.loop-i.i c.signed.result (omega arith) (omega arith) l.loop-i.invariant.1 (c.signed.ensures ∙ ap (λ (y : ℤ). pattern_of y) (held z v.v-1.given)))
+    let z = get_or c.args.cmd c.loop-i.i (pos 0) in
+    (omega arith, mapped pattern_of c.args.cmd (pos 0) 0 c.loop-i.p c.loop-i.i c.signed.result (omega arith) (omega arith) c.loop-i.invariant.1 (c.signed.ensures ∙ ap (λ (y : ℤ). pattern_of y) (held z c.v-1.given)))
 
 pub returns : goal.returns
 returns c =
-    let l = c in
-    let a = l in
-    let e : l.loop-i.i ≡ a.args.n = omega arith in
-    l.loop-i.invariant.1 ∙ ap (λ (k : ℕ). map pattern_of (take k a.args.cmd) ++ replicate (20 - k) 0) e
+    let e : c.loop-i.i ≡ c.args.n = omega arith in
+    c.loop-i.invariant.1 ∙ ap (λ (k : ℕ). map pattern_of (take k c.args.cmd) ++ replicate (20 - k) 0) e

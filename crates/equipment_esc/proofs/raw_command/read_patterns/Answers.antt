@@ -11,8 +11,6 @@ use Rattle.equipment_esc.proofs.raw_command.read_patterns.Goals as goal
 
 pub returns : goal.returns
 returns c =
-    let r = c in
-    let p = r in
-    let a = p.args in
-    places-read (unpack a.payload.now) a.n _ r.read.new.out r.read.ensures
+    let a = c.args in
+    places-read (unpack a.payload.now) a.n _ c.read.new.out c.read.ensures
     (length-take-le (a.n - 0) (replicate 20 0) (omega arith) ∙ sub-zero a.n)

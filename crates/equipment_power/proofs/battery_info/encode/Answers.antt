@@ -7,7 +7,5 @@ use Rattle.equipment_power.proofs.battery_info.encode.Goals as goal
 
 pub returns : goal.returns
 returns c =
-    let r = c in
-    let n = r in
-    let a = n.args in
-    r.encode_raw.ensures ∙ ap (λ (m : Raw). written battery_info (raw_values m name_only a.model_name.now) a.out.now) n.narrowed.ensures
+    let a = c.args in
+    c.encode_raw.ensures ∙ ap (λ (m : Raw). written battery_info (raw_values m name_only a.model_name.now) a.out.now) c.narrowed.ensures

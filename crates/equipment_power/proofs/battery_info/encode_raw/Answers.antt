@@ -12,8 +12,7 @@ use Rattle.equipment_power.proofs.battery_info.encode_raw.Goals as goal
 
 pub returns-then-model_name-gt31 : goal.returns-then-model_name-gt31
 returns-then-model_name-gt31 c =
-    let k = c in
-    let a = k.args in
+    let a = c.args in
     let name = a.model_name.now in
     let g = c.well_formed.0.1.1 in
     let e =
@@ -23,31 +22,23 @@ returns-then-model_name-gt31 c =
 
 pub returns-then-out-n : goal.returns-then-out-n
 returns-then-out-n c =
-    let t = c in
-    let k = t in
-    let a = k.args in
+    let a = c.args in
     let name = a.model_name.now in
     let g = c.well_formed.0.1.1 in
     let e =
     fits-if a.m name (octets-all name (λ i. omega (arith, c.shared_slice_known-1.given i))) g.0.1 g.1.0.1 g.1.1.0.1
     g.1.1.1.0.1 g.1.1.1.1.0.1 g.1.1.1.1.1.0.1 g.1.1.1.1.1.1.0.1 in
-    refuse-8 battery_info (raw_values a.m name_only name) a.out.now refl (sym e ∙ le-leb (length name) 31 t.if-model_name-gt31.false) (23 + length name) (size a.m name) c.if-out-n.true
+    refuse-8 battery_info (raw_values a.m name_only name) a.out.now refl (sym e ∙ le-leb (length name) 31 c.if-model_name-gt31.false) (23 + length name) (size a.m name) c.if-out-n.true
 
 pub returns : goal.returns
 returns c =
-    let w₃ = c in
-    let w₂ = w₃ in
-    let w₁ = w₂ in
-    let t = w₁ in
-    let o = t in
-    let k = o in
-    let a = k.args in
+    let a = c.args in
     let name = a.model_name.now in
     let g = c.well_formed.0.1.1 in
     let e =
     fits-if a.m name (octets-all name (λ i. omega (arith, c.shared_slice_known-1.given i))) g.0.1 g.1.0.1 g.1.1.0.1
     g.1.1.1.0.1 g.1.1.1.1.0.1 g.1.1.1.1.1.0.1 g.1.1.1.1.1.1.0.1 in
-    write-all battery_info (raw_values a.m name_only name) a.out.now refl (sym e ∙ le-leb (length name) 31 t.if-model_name-gt31.false) (23 + length name) (size a.m name)
-    (octets-all a.out.now (λ i. omega (arith, o.slice_known-1.given i))) c.if-out-n.false w₃.write_bytes.new.s
-    (stored a.m name a.out.now w₁.write_floats.new.out w₂.write_others.new.out w₃.write_bytes.new.s (omega (arith, c.if-out-n.false))
-    w₁.write_floats.ensures w₂.write_others.ensures w₃.write_bytes.ensures)
+    write-all battery_info (raw_values a.m name_only name) a.out.now refl (sym e ∙ le-leb (length name) 31 c.if-model_name-gt31.false) (23 + length name) (size a.m name)
+    (octets-all a.out.now (λ i. omega (arith, c.slice_known-1.given i))) c.if-out-n.false c.write_bytes.new.s
+    (stored a.m name a.out.now c.write_floats.new.out c.write_others.new.out c.write_bytes.new.s (omega (arith, c.if-out-n.false))
+    c.write_floats.ensures c.write_others.ensures c.write_bytes.ensures)

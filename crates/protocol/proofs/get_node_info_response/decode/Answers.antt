@@ -17,47 +17,31 @@ overflow_add-at c = omega (arith, c.certificate_length-at.ensures, below c.args.
 
 pub returns-then-payload-at : goal.returns-then-payload-at
 returns-then-payload-at c =
-    let n = c in
-    let k = n in
-    let s = k.args.payload.now in
-    sym (cut s (octets-all s (λ i. omega (arith, k.shared_slice_known-1.given i))) (omega (arith, n.certificate_length-at.ensures)))
+    let s = c.args.payload.now in
+    sym (cut s (octets-all s (λ i. omega (arith, c.shared_slice_known-1.given i))) (omega (arith, c.certificate_length-at.ensures)))
 
 pub returns-then-len-gt80 : goal.returns-then-len-gt80
 returns-then-len-gt80 c =
-    let t = c in
-    let n = t in
-    let k = n in
-    let s = k.args.payload.now in
-    let e = ap (λ (l : List ℕ). length l) t.name-n.ensures in
-    sym (long s (octets-all s (λ i. omega (arith, k.shared_slice_known-1.given i))) (omega (arith, n.certificate_length-at.ensures)) (omega (arith, e)))
+    let s = c.args.payload.now in
+    let e = ap (λ (l : List ℕ). length l) c.name-n.ensures in
+    sym (long s (octets-all s (λ i. omega (arith, c.shared_slice_known-1.given i))) (omega (arith, c.certificate_length-at.ensures)) (omega (arith, e)))
 
 pub returns-then-not-is_name : goal.returns-then-not-is_name
 returns-then-not-is_name c =
-    let q = c in
-    let t = q in
-    let n = t in
-    let k = n in
-    let s = k.args.payload.now in
-    let e = ap (λ (l : List ℕ). length l) t.name-n.ensures in
-    let b = sym (q.is_name.ensures ∙ ap (λ (l : List ℕ). is_name l) t.name-n.ensures) ∙ c.if-not-is_name.true in
-    sym (bad-name s (octets-all s (λ i. omega (arith, k.shared_slice_known-1.given i))) (omega (arith, n.certificate_length-at.ensures)) (omega (arith, e)) b)
+    let s = c.args.payload.now in
+    let e = ap (λ (l : List ℕ). length l) c.name-n.ensures in
+    let b = sym (c.is_name.ensures ∙ ap (λ (l : List ℕ). is_name l) c.name-n.ensures) ∙ c.if-not-is_name.true in
+    sym (bad-name s (octets-all s (λ i. omega (arith, c.shared_slice_known-1.given i))) (omega (arith, c.certificate_length-at.ensures)) (omega (arith, e)) b)
 
 pub returns : goal.returns
 returns c =
-    let d = c in
-    let r = d in
-    let f = r in
-    let q = f in
-    let t = q in
-    let n = t in
-    let k = n in
-    let s = k.args.payload.now in
-    let o = octets-all s (λ i. omega (arith, k.shared_slice_known-1.given i)) in
-    let e = ap (λ (l : List ℕ). length l) t.name-n.ensures in
-    let b = sym (q.is_name.ensures ∙ ap (λ (l : List ℕ). is_name l) t.name-n.ensures) ∙ f.if-not-is_name.false in
-    let l = certificate-len s o (omega (arith, n.certificate_length-at.ensures)) in
+    let s = c.args.payload.now in
+    let o = octets-all s (λ i. omega (arith, c.shared_slice_known-1.given i)) in
+    let e = ap (λ (l : List ℕ). length l) c.name-n.ensures in
+    let b = sym (c.is_name.ensures ∙ ap (λ (l : List ℕ). is_name l) c.name-n.ensures) ∙ c.if-not-is_name.false in
+    let l = certificate-len s o (omega (arith, c.certificate_length-at.ensures)) in
     ap (λ (x : Response). numbered (got x))
-    (made s o _ _ _ _ _ _ _ r.read_numbers-m.ensures (is _ (record { sfits = c.struct_told-1.given.1.1.0.1 })) (is _ (record { sfits = c.struct_told-1.given.1.1.1.0.1 }))
-    (ap (λ (l : List ℕ). length l) d.unique_id.ensures) (ap (λ (l : List ℕ). length l) d.certificate_of_authenticity.ensures)
-    (omega (arith, l, n.certificate_length-at.ensures)) e)
-    ∙ sym (held s o (omega (arith, n.certificate_length-at.ensures)) (omega (arith, e)) b)
+    (made s o _ _ _ _ _ _ _ c.read_numbers-m.ensures (is _ (record { sfits = c.struct_told-1.given.1.1.0.1 })) (is _ (record { sfits = c.struct_told-1.given.1.1.1.0.1 }))
+    (ap (λ (l : List ℕ). length l) c.unique_id.ensures) (ap (λ (l : List ℕ). length l) c.certificate_of_authenticity.ensures)
+    (omega (arith, l, c.certificate_length-at.ensures)) e)
+    ∙ sym (held s o (omega (arith, c.certificate_length-at.ensures)) (omega (arith, e)) b)

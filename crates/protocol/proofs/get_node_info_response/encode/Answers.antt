@@ -12,58 +12,42 @@ use Rattle.protocol.proofs.get_node_info_response.encode.Goals as goal
 
 pub returns-then-not-lists_fit : goal.returns-then-not-lists_fit
 returns-then-not-lists_fit c =
-    let q = c in
-    let b = q in
-    let a = b.args in
+    let a = c.args in
     let v : Values lists = (a.unique_id.now, (a.certificate_of_authenticity.now, a.name.now)) in
     refuse-17 response (number_values a.m lists v) a.out.now refl
-    (whole-fits a.m v b.well_formed.0.1.1.1.0.1.1.1.1.1.1.0.1 ∙ sym q.lists_fit.ensures ∙ c.if-not-lists_fit.true)
+    (whole-fits a.m v c.well_formed.0.1.1.1.0.1.1.1.1.1.1.0.1 ∙ sym c.lists_fit.ensures ∙ c.if-not-lists_fit.true)
 
 pub overflow_add-n-2 : goal.overflow_add-n-2
 overflow_add-n-2 c =
-    let q = c in
-    let a = q.args in
-    let z = sizes a.unique_id.now a.certificate_of_authenticity.now a.name.now (sym q.lists_fit.ensures ∙ c.if-not-lists_fit.false) in
+    let a = c.args in
+    let z = sizes a.unique_id.now a.certificate_of_authenticity.now a.name.now (sym c.lists_fit.ensures ∙ c.if-not-lists_fit.false) in
     omega (arith, z.certificate, z.name)
 
 pub returns-then-out-n : goal.returns-then-out-n
 returns-then-out-n c =
-    let g = c in
-    let q = g in
-    let b = q in
-    let a = b.args in
+    let a = c.args in
     let t = a.certificate_of_authenticity.now in
     let n = a.name.now in
     let v : Values lists = (a.unique_id.now, (t, n)) in
-    let e = sym q.lists_fit.ensures ∙ g.if-not-lists_fit.false in
-    refuse-8 response (number_values a.m lists v) a.out.now refl (whole-fits a.m v b.well_formed.0.1.1.1.0.1.1.1.1.1.1.0.1 ∙ e)
+    let e = sym c.lists_fit.ensures ∙ c.if-not-lists_fit.false in
+    refuse-8 response (number_values a.m lists v) a.out.now refl (whole-fits a.m v c.well_formed.0.1.1.1.0.1.1.1.1.1.1.0.1 ∙ e)
     (41 + length t + length n) (size a.m a.unique_id.now t n (sizes a.unique_id.now t n e).id) c.if-out-n.true
 
 pub write_lists-requires : goal.write_lists-requires
 write_lists-requires c =
-    let g = c in
-    let h = g in
-    let q = h in
-    let a = q.args in
-    let z = sizes a.unique_id.now a.certificate_of_authenticity.now a.name.now (sym q.lists_fit.ensures ∙ h.if-not-lists_fit.false) in
-    (z.id, omega (arith, g.if-out-n.false, c.write_numbers.auto))
+    let a = c.args in
+    let z = sizes a.unique_id.now a.certificate_of_authenticity.now a.name.now (sym c.lists_fit.ensures ∙ c.if-not-lists_fit.false) in
+    (z.id, omega (arith, c.if-out-n.false, c.write_numbers.auto))
 
 pub returns : goal.returns
 returns c =
-    let w₂ = c in
-    let w₁ = w₂ in
-    let r = w₁ in
-    let g = r in
-    let q = g in
-    let k = q in
-    let b = k in
-    let a = b.args in
+    let a = c.args in
     let t = a.certificate_of_authenticity.now in
     let n = a.name.now in
     let v : Values lists = (a.unique_id.now, (t, n)) in
-    let e = sym q.lists_fit.ensures ∙ g.if-not-lists_fit.false in
+    let e = sym c.lists_fit.ensures ∙ c.if-not-lists_fit.false in
     let z = sizes a.unique_id.now t n e in
-    write-all response (number_values a.m lists v) a.out.now refl (whole-fits a.m v b.well_formed.0.1.1.1.0.1.1.1.1.1.1.0.1 ∙ e)
-    (41 + length t + length n) (size a.m a.unique_id.now t n z.id) (octets-all a.out.now (λ i. omega (arith, k.slice_known-1.given i))) r.if-out-n.false
-    w₂.write_lists.new.out
-    (stored a.m a.unique_id.now t n z.id a.out.now w₁.write_numbers.new.out w₂.write_lists.new.out (omega (arith, r.if-out-n.false)) w₁.write_numbers.ensures w₂.write_lists.ensures)
+    write-all response (number_values a.m lists v) a.out.now refl (whole-fits a.m v c.well_formed.0.1.1.1.0.1.1.1.1.1.1.0.1 ∙ e)
+    (41 + length t + length n) (size a.m a.unique_id.now t n z.id) (octets-all a.out.now (λ i. omega (arith, c.slice_known-1.given i))) c.if-out-n.false
+    c.write_lists.new.out
+    (stored a.m a.unique_id.now t n z.id a.out.now c.write_numbers.new.out c.write_lists.new.out (omega (arith, c.if-out-n.false)) c.write_numbers.ensures c.write_lists.ensures)

@@ -12,31 +12,25 @@ returns-then-unique_id-ne16 c =
 
 pub returns-then-certificate-gt255 : goal.returns-then-certificate-gt255
 returns-then-certificate-gt255 c =
-    let k₁ = c in
-    let a = k₁.args in
+    let a = c.args in
     let u = a.unique_id.now in
-    no-certificate u a.certificate.now a.name.now (octets-all u (λ i. omega (arith, k₁.shared_slice_known-1.given i))) c.if-unique_id-ne16.false c.if-certificate-gt255.true
+    no-certificate u a.certificate.now a.name.now (octets-all u (λ i. omega (arith, c.shared_slice_known-1.given i))) c.if-unique_id-ne16.false c.if-certificate-gt255.true
 
 pub returns-then-name-gt80 : goal.returns-then-name-gt80
 returns-then-name-gt80 c =
-    let k₂ = c in
-    let k₁ = k₂ in
-    let a = k₁.args in
+    let a = c.args in
     let u = a.unique_id.now in
     let t = a.certificate.now in
-    no_name u t a.name.now (octets-all u (λ i. omega (arith, k₁.shared_slice_known-1.given i))) c.if-unique_id-ne16.false
-    (octets-all t (λ i. omega (arith, k₂.shared_slice_known-2-1.given i))) c.if-certificate-gt255.false c.if-name-gt80.true
+    no_name u t a.name.now (octets-all u (λ i. omega (arith, c.shared_slice_known-1.given i))) c.if-unique_id-ne16.false
+    (octets-all t (λ i. omega (arith, c.shared_slice_known-2-1.given i))) c.if-certificate-gt255.false c.if-name-gt80.true
 
 pub returns : goal.returns
 returns c =
-    let k₃ = c in
-    let k₂ = k₃ in
-    let k₁ = k₂ in
-    let a = k₁.args in
+    let a = c.args in
     let u = a.unique_id.now in
     let t = a.certificate.now in
     let n = a.name.now in
     c.is_name.ensures
-    ∙ by_name u t n (octets-all u (λ i. omega (arith, k₁.shared_slice_known-1.given i))) c.if-unique_id-ne16.false
-    (octets-all t (λ i. omega (arith, k₂.shared_slice_known-2-1.given i))) c.if-certificate-gt255.false
-    (octets-all n (λ i. omega (arith, k₃.shared_slice_known-3-1.given i))) c.if-name-gt80.false
+    ∙ by_name u t n (octets-all u (λ i. omega (arith, c.shared_slice_known-1.given i))) c.if-unique_id-ne16.false
+    (octets-all t (λ i. omega (arith, c.shared_slice_known-2-1.given i))) c.if-certificate-gt255.false
+    (octets-all n (λ i. omega (arith, c.shared_slice_known-3-1.given i))) c.if-name-gt80.false

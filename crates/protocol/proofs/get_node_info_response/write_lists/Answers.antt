@@ -10,14 +10,8 @@ write-requires c =
 
 pub returns : goal.returns
 returns c =
-    let w₄ = c in
-    let w₃ = w₄ in
-    let w₂ = w₃ in
-    let w = w₂ in
-    let w₁ = w in
-    let k = w₁ in
-    let a = k.args in
-    stored-lists a.unique_id.now a.certificate.now a.name.now w.width.result w.width.ensures a.out.now w₁.write_bytes.new.s
-    w₂.write.new.s
-    w₃.write_bytes-2.new.s w₄.write_bytes-3.new.s k.requires.0 (omega (arith, k.requires.1)) w₁.write_bytes.ensures w₂.write.ensures
-    w₃.write_bytes-2.ensures w₄.write_bytes-3.ensures
+    let a = c.args in
+    stored-lists a.unique_id.now a.certificate.now a.name.now c.width.result c.width.ensures a.out.now c.write_bytes.new.s
+    c.write.new.s
+    c.write_bytes-2.new.s c.write_bytes-3.new.s c.requires.0 (omega (arith, c.requires.1)) c.write_bytes.ensures c.write.ensures
+    c.write_bytes-2.ensures c.write_bytes-3.ensures

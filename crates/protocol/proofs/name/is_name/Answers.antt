@@ -18,10 +18,8 @@ is_letter-requires c = tt
 
 pub returns-then-not-is_letter : goal.returns-then-not-is_letter
 returns-then-not-is_letter c =
-    let n = c in
-    let l = n in
-    bad l.args.s.now l.loop-i.i (omega arith) l.loop-i.invariant.1.1
-    (sym n.is_letter.ensures ∙ c.if-not-is_letter.true)
+    bad c.args.s.now c.loop-i.i (omega arith) c.loop-i.invariant.1.1
+    (sym c.is_letter.ensures ∙ c.if-not-is_letter.true)
 
 pub overflow_add-i : goal.overflow_add-i
 overflow_add-i c = omega arith
@@ -31,11 +29,8 @@ loop-i-smaller c = omega arith
 
 pub loop-i-preserved : goal.loop-i-preserved
 loop-i-preserved c =
-    let n = c in
-    let l = n in
-    (omega arith, (omega arith, next l.args.s.now l.loop-i.i (omega arith) l.loop-i.invariant.1.1 (sym n.is_letter.ensures ∙ c.if-not-is_letter.false)))
+    (omega arith, (omega arith, next c.args.s.now c.loop-i.i (omega arith) c.loop-i.invariant.1.1 (sym c.is_letter.ensures ∙ c.if-not-is_letter.false)))
 
 pub returns : goal.returns
 returns c =
-    let l = c in
-    all l.args.s.now l.loop-i.i (omega arith) (omega arith) l.loop-i.invariant.1.1
+    all c.args.s.now c.loop-i.i (omega arith) (omega arith) c.loop-i.invariant.1.1

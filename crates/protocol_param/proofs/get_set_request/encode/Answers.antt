@@ -21,121 +21,68 @@ use Rattle.protocol_param.proofs.get_set_request.encode.Goals as goal
 
 pub returns-then-not-known : goal.returns-then-not-known
 returns-then-not-known c =
-    let f = c in
-    let q = f in
-    let ko = q in
-    let s2 = ko in
-    let s1 = s2 in
-    let b = s1 in
-    let a = b.args in
+    let a = c.args in
     let text = a.string_value.now in
     let name = a.name.now in
     let m = a.out.now in
-    refuse-27 request (asked a.index a.v text name) m (request-tags a.index a.v text name ∙ sym q.known-known.ensures ∙ c.if-not-known.true)
+    refuse-27 request (asked a.index a.v text name) m (request-tags a.index a.v text name ∙ sym c.known-known.ensures ∙ c.if-not-known.true)
 
 pub returns-then-not-fits : goal.returns-then-not-fits
 returns-then-not-fits c =
-    let g1 = c in
-    let f = g1 in
-    let q = f in
-    let ko = q in
-    let s2 = ko in
-    let s1 = s2 in
-    let b = s1 in
-    let a = b.args in
+    let a = c.args in
     let text = a.string_value.now in
     let name = a.name.now in
     let m = a.out.now in
-    let o = octets-all text (λ i. omega (arith, s1.shared_slice_known-1.given i)) in
-    let r = octets-all name (λ i. omega (arith, s2.shared_slice_known-2-1.given i)) in
-    refuse-17 request (asked a.index a.v text name) m (request-tags a.index a.v text name ∙ sym q.known-known.ensures ∙ g1.if-not-known.false)
-    (request-fits a.index a.v text name (held a.v b.well_formed.1.0) o r ∙ (sym (ap (λ (x : Bool). x && leb (length name) 92) f.fits.ensures) ∙ c.if-not-fits.true))
+    let o = octets-all text (λ i. omega (arith, c.shared_slice_known-1.given i)) in
+    let r = octets-all name (λ i. omega (arith, c.shared_slice_known-2-1.given i)) in
+    refuse-17 request (asked a.index a.v text name) m (request-tags a.index a.v text name ∙ sym c.known-known.ensures ∙ c.if-not-known.false)
+    (request-fits a.index a.v text name (held a.v c.well_formed.1.0) o r ∙ (sym (ap (λ (x : Bool). x && leb (length name) 92) c.fits.ensures) ∙ c.if-not-fits.true))
 
 pub overflow_add-at : goal.overflow_add-at
 overflow_add-at c =
-    let g2 = c in
-    let g1 = g2 in
-    let f = g1 in
-    let q = f in
-    let ko = q in
-    let s2 = ko in
-    let s1 = s2 in
-    let b = s1 in
-    let a = b.args in
+    let a = c.args in
     let text = a.string_value.now in
     let name = a.name.now in
     let m = a.out.now in
-    omega (arith, c.written_size-at.ensures, size_fits a.v text (and_left (text_fits a.v text) (leb (length name) 92) (sym (ap (λ (x : Bool). x && leb (length name) 92) f.fits.ensures) ∙ g2.if-not-fits.false)))
+    omega (arith, c.written_size-at.ensures, size_fits a.v text (and_left (text_fits a.v text) (leb (length name) 92) (sym (ap (λ (x : Bool). x && leb (length name) 92) c.fits.ensures) ∙ c.if-not-fits.false)))
 
 pub overflow_add-n : goal.overflow_add-n
 overflow_add-n c =
-    let g2 = c in
-    let g1 = g2 in
-    let f = g1 in
-    let q = f in
-    let ko = q in
-    let s2 = ko in
-    let s1 = s2 in
-    let b = s1 in
-    let a = b.args in
+    let a = c.args in
     let text = a.string_value.now in
     let name = a.name.now in
     let m = a.out.now in
-    omega (arith, c.written_size-at.ensures, size_fits a.v text (and_left (text_fits a.v text) (leb (length name) 92) (sym (ap (λ (x : Bool). x && leb (length name) 92) f.fits.ensures) ∙ g2.if-not-fits.false)), leb-true (length name) 92 (and_right (text_fits a.v text) (leb (length name) 92) (sym (ap (λ (x : Bool). x && leb (length name) 92) f.fits.ensures) ∙ g2.if-not-fits.false)))
+    omega (arith, c.written_size-at.ensures, size_fits a.v text (and_left (text_fits a.v text) (leb (length name) 92) (sym (ap (λ (x : Bool). x && leb (length name) 92) c.fits.ensures) ∙ c.if-not-fits.false)), leb-true (length name) 92 (and_right (text_fits a.v text) (leb (length name) 92) (sym (ap (λ (x : Bool). x && leb (length name) 92) c.fits.ensures) ∙ c.if-not-fits.false)))
 
 pub returns-then-out-n : goal.returns-then-out-n
 returns-then-out-n c =
-    let z = c in
-    let g2 = z in
-    let g1 = g2 in
-    let f = g1 in
-    let q = f in
-    let ko = q in
-    let s2 = ko in
-    let s1 = s2 in
-    let b = s1 in
-    let a = b.args in
+    let a = c.args in
     let text = a.string_value.now in
     let name = a.name.now in
     let m = a.out.now in
-    let o = octets-all text (λ i. omega (arith, s1.shared_slice_known-1.given i)) in
-    let r = octets-all name (λ i. omega (arith, s2.shared_slice_known-2-1.given i)) in
-    refuse-8 request (asked a.index a.v text name) m (request-tags a.index a.v text name ∙ sym q.known-known.ensures ∙ g1.if-not-known.false)
-    (request-fits a.index a.v text name (held a.v b.well_formed.1.0) o r ∙ (sym (ap (λ (x : Bool). x && leb (length name) 92) f.fits.ensures) ∙ g2.if-not-fits.false))
-    (1 + size_of a.v (length text) + length name) (request-size a.index a.v text name) (omega (arith, z.written_size-at.ensures, c.if-out-n.true))
+    let o = octets-all text (λ i. omega (arith, c.shared_slice_known-1.given i)) in
+    let r = octets-all name (λ i. omega (arith, c.shared_slice_known-2-1.given i)) in
+    refuse-8 request (asked a.index a.v text name) m (request-tags a.index a.v text name ∙ sym c.known-known.ensures ∙ c.if-not-known.false)
+    (request-fits a.index a.v text name (held a.v c.well_formed.1.0) o r ∙ (sym (ap (λ (x : Bool). x && leb (length name) 92) c.fits.ensures) ∙ c.if-not-fits.false))
+    (1 + size_of a.v (length text) + length name) (request-size a.index a.v text name) (omega (arith, c.written_size-at.ensures, c.if-out-n.true))
 
 pub write-requires : goal.write-requires
 write-requires c =
-    let h = c in
-    let z = h in
-    (lit≤ tt, (lit≤ tt, (omega arith, omega (arith, h.if-out-n.false, z.written_size-at.ensures, size-some z.args.v (length z.args.string_value.now)))))
+    (lit≤ tt, (lit≤ tt, (omega arith, omega (arith, c.if-out-n.false, c.written_size-at.ensures, size-some c.args.v (length c.args.string_value.now)))))
 
 pub returns : goal.returns
 returns c =
-    let w3 = c in
-    let w2 = w3 in
-    let w1 = w2 in
-    let h = w1 in
-    let z = h in
-    let g2 = z in
-    let g1 = g2 in
-    let f = g1 in
-    let q = f in
-    let ko = q in
-    let s2 = ko in
-    let s1 = s2 in
-    let b = s1 in
-    let a = b.args in
+    let a = c.args in
     let text = a.string_value.now in
     let name = a.name.now in
     let m = a.out.now in
-    let o = octets-all text (λ i. omega (arith, s1.shared_slice_known-1.given i)) in
-    let r = octets-all name (λ i. omega (arith, s2.shared_slice_known-2-1.given i)) in
-    let l : (1 + size_of a.v (length text) + length name) ≤ length m = omega (arith, z.written_size-at.ensures, h.if-out-n.false) in
-    ap (λ (k : ℕ). (numbered (got (1 + k + length name)), w3.write_bytes.new.s)) z.written_size-at.ensures
-    ∙ write-all request (asked a.index a.v text name) m (request-tags a.index a.v text name ∙ sym q.known-known.ensures ∙ g1.if-not-known.false)
-    (request-fits a.index a.v text name (held a.v b.well_formed.1.0) o r ∙ (sym (ap (λ (x : Bool). x && leb (length name) 92) f.fits.ensures) ∙ g2.if-not-fits.false))
-    (1 + size_of a.v (length text) + length name) (request-size a.index a.v text name) (octets-all m (λ i. omega (arith, ko.slice_known-1.given i))) l w3.write_bytes.new.s
-    (request-stored a.index a.v text name m w1.write.new.s w2.write-2.new.out w3.write_bytes.new.s l
-    (number-given m w1.write.new.s 0 13 a.index b.ranges.index w1.write.ensures) w2.write-2.ensures
-    (w3.write_bytes.ensures ∙ ap (λ (k : ℕ). store w2.write-2.new.out ((1 + k) * 8) (unpack name)) z.written_size-at.ensures))
+    let o = octets-all text (λ i. omega (arith, c.shared_slice_known-1.given i)) in
+    let r = octets-all name (λ i. omega (arith, c.shared_slice_known-2-1.given i)) in
+    let l : (1 + size_of a.v (length text) + length name) ≤ length m = omega (arith, c.written_size-at.ensures, c.if-out-n.false) in
+    ap (λ (k : ℕ). (numbered (got (1 + k + length name)), c.write_bytes.new.s)) c.written_size-at.ensures
+    ∙ write-all request (asked a.index a.v text name) m (request-tags a.index a.v text name ∙ sym c.known-known.ensures ∙ c.if-not-known.false)
+    (request-fits a.index a.v text name (held a.v c.well_formed.1.0) o r ∙ (sym (ap (λ (x : Bool). x && leb (length name) 92) c.fits.ensures) ∙ c.if-not-fits.false))
+    (1 + size_of a.v (length text) + length name) (request-size a.index a.v text name) (octets-all m (λ i. omega (arith, c.slice_known-1.given i))) l c.write_bytes.new.s
+    (request-stored a.index a.v text name m c.write.new.s c.write-2.new.out c.write_bytes.new.s l
+    (number-given m c.write.new.s 0 13 a.index c.ranges.index c.write.ensures) c.write-2.ensures
+    (c.write_bytes.ensures ∙ ap (λ (k : ℕ). store c.write-2.new.out ((1 + k) * 8) (unpack name)) c.written_size-at.ensures))

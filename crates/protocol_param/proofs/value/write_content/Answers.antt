@@ -16,9 +16,8 @@ use Rattle.protocol_param.proofs.value.write_content.Goals as goal
 
 pub returns-in-Empty : goal.returns-in-Empty
 returns-in-Empty c =
-    let k = c in
-    let a = k.args in
-    sym (store-none a.out.now (a.at * 8) (octets-all a.out.now (λ i. omega (arith, k.slice_known-1.given i)))) ∙ ap (λ (x : Value). store a.out.now (a.at * 8) (content_bits x a.text.now)) (sym c.in-Empty.is)
+    let a = c.args in
+    sym (store-none a.out.now (a.at * 8) (octets-all a.out.now (λ i. omega (arith, c.slice_known-1.given i)))) ∙ ap (λ (x : Value). store a.out.now (a.at * 8) (content_bits x a.text.now)) (sym c.in-Empty.is)
 
 pub write_signed-requires : goal.write_signed-requires
 write_signed-requires c =
@@ -27,12 +26,9 @@ write_signed-requires c =
 
 pub returns-in-Integer : goal.returns-in-Integer
 returns-in-Integer c =
-    let w = c in
-    let v = w in
-    let b = v in
-    let a = b.args in
-    let e = v.in-Integer.is in
-    signed-given a.out.now w.write_signed.new.s (a.at * 8) 64 _ (subst Held e (held a.v b.well_formed.1.1.0)) w.write_signed.ensures ∙ ap (λ (x : Value). store a.out.now (a.at * 8) (content_bits x a.text.now)) (sym e)
+    let a = c.args in
+    let e = c.in-Integer.is in
+    signed-given a.out.now c.write_signed.new.s (a.at * 8) 64 _ (subst Held e (held a.v c.well_formed.1.1.0)) c.write_signed.ensures ∙ ap (λ (x : Value). store a.out.now (a.at * 8) (content_bits x a.text.now)) (sym e)
 
 pub write-requires : goal.write-requires
 write-requires c =
@@ -41,10 +37,8 @@ write-requires c =
 
 pub returns-in-Real : goal.returns-in-Real
 returns-in-Real c =
-    let w = c in
-    let v = w in
-    let a = v.args in
-    w.write.ensures ∙ ap (λ (x : Value). store a.out.now (a.at * 8) (content_bits x a.text.now)) (sym v.in-Real.is)
+    let a = c.args in
+    c.write.ensures ∙ ap (λ (x : Value). store a.out.now (a.at * 8) (content_bits x a.text.now)) (sym c.in-Real.is)
 
 pub write-requires-in-Boolean : goal.write-requires-in-Boolean
 write-requires-in-Boolean c =
@@ -53,12 +47,9 @@ write-requires-in-Boolean c =
 
 pub returns-in-Boolean : goal.returns-in-Boolean
 returns-in-Boolean c =
-    let w = c in
-    let v = w in
-    let b = v in
-    let a = b.args in
-    let e = v.in-Boolean.is in
-    number-given a.out.now w.write-in-Boolean.new.s (a.at * 8) 8 _ (subst Held e (held a.v b.well_formed.1.1.0)) w.write-in-Boolean.ensures ∙ ap (λ (x : Value). store a.out.now (a.at * 8) (content_bits x a.text.now)) (sym e)
+    let a = c.args in
+    let e = c.in-Boolean.is in
+    number-given a.out.now c.write-in-Boolean.new.s (a.at * 8) 8 _ (subst Held e (held a.v c.well_formed.1.1.0)) c.write-in-Boolean.ensures ∙ ap (λ (x : Value). store a.out.now (a.at * 8) (content_bits x a.text.now)) (sym e)
 
 pub write_text-requires : goal.write_text-requires
 write_text-requires c =
@@ -67,13 +58,10 @@ write_text-requires c =
 
 pub returns-in-Text : goal.returns-in-Text
 returns-in-Text c =
-    let w = c in
-    let t = w in
-    let a = t.args in
-    w.write_text.ensures ∙ ap (λ (x : Value). store a.out.now (a.at * 8) (content_bits x a.text.now)) (sym t.in-Text.is)
+    let a = c.args in
+    c.write_text.ensures ∙ ap (λ (x : Value). store a.out.now (a.at * 8) (content_bits x a.text.now)) (sym c.in-Text.is)
 
 pub returns-in-Unknown : goal.returns-in-Unknown
 returns-in-Unknown c =
-    let k = c in
-    let a = k.args in
-    sym (store-none a.out.now (a.at * 8) (octets-all a.out.now (λ i. omega (arith, k.slice_known-1.given i)))) ∙ ap (λ (x : Value). store a.out.now (a.at * 8) (content_bits x a.text.now)) (sym c.in-Unknown.is)
+    let a = c.args in
+    sym (store-none a.out.now (a.at * 8) (octets-all a.out.now (λ i. omega (arith, c.slice_known-1.given i)))) ∙ ap (λ (x : Value). store a.out.now (a.at * 8) (content_bits x a.text.now)) (sym c.in-Unknown.is)
