@@ -14,8 +14,8 @@ use Rattle.rules.specs.Tests.{pick}
 -- ── where each part starts; src/layout.rt has the same for the code ──
 
 -- the own node ID and the number of subscriptions; six bytes are unused
-abbrev pub field_own : ℕ
-field_own = 0
+abbrev pub own_at : ℕ
+own_at = 0
 
 abbrev pub subscription_count_at : ℕ
 subscription_count_at = 1
@@ -66,7 +66,7 @@ subscription_at m j =
     record { kind = subscription_key_at m j / 65536; type = subscription_key_at m j % 65536; signature = le (span m (signatures_at + j * 8) 8) }
 
 unfoldable pub setup_of : List ℕ → Setup
-setup_of m = record { own = get_or m field_own 0; subscriptions = tabulate (subscription_at m) 0 (get_or m subscription_count_at 0) }
+setup_of m = record { own = get_or m own_at 0; subscriptions = tabulate (subscription_at m) 0 (get_or m subscription_count_at 0) }
 
 -- the free blocks as a set: bit b is 1 where block b is free
 unfoldable pub free_of : List ℕ → ℕ

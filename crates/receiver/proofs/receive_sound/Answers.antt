@@ -38,6 +38,7 @@ use Rattle.subscriptions.specs.declared.Subscribed.{Subscribed}
 use Rattle.state.proofs.Faultless.{long}
 use borrow.Author.Rules.{rules}
 use Rattle.receiver.proofs.receive_sound.Goals as goal
+use Rattle.receiver.proofs.receive_sound.Goals.{After-find, After-refusal-refused, After-slice_known-1, Else-unreadable-gt0, Start}
 
 -- a frame that is refused leaves everything as it was
 refusing : (m out : List ℕ) → sound_state m ≡ true → Octets m → (f : rules.Arrival) (n : ℕ) → check (setup_of m) (arriving f out) ≡ some n
@@ -61,16 +62,16 @@ kind-small t k e = go (eqb t 0) e where
   go false q = omega arith
 
 -- ── what is known on the way ──
-octets : (b : goal.After-slice_known-1) → Octets b.args.state.now
+octets : (b : After-slice_known-1) → Octets b.args.state.now
 octets b = octets-all b.args.state.now (λ i. omega (arith, b.slice_known-1.given i))
 
-read_ok : (e : goal.Else-unreadable-gt0) → let s = e in Readable s.args.id (length s.args.frame.now) s.args.interface
+read_ok : (e : Else-unreadable-gt0) → let s = e in Readable s.args.id (length s.args.frame.now) s.args.interface
 read_ok e =
     let a = e.args in
     readable a.id (length a.frame.now) a.interface e.unreadable-unreadable.result e.unreadable-unreadable.ensures e.if-unreadable-gt0.false
 
 -- the number of the checks 4 to 6
-heads-number : (r : goal.After-refusal-refused) → let a = r.args in
+heads-number : (r : After-refusal-refused) → let a = r.args in
     r.refusal-refused.result ≡ or_zero (heads (setup_of a.state.now) a.id a.interface a.time a.frame.now a.out.now)
 unfolding setup_of head_of
 heads-number r =
@@ -79,7 +80,7 @@ heads-number r =
     r.refusal-refused.ensures ∙ ap (λ (h : Head). or_zero (first (head_tests_of (get_or a.state.now 0 0) h (length a.frame.now)))) d.read-h.ensures
 
 -- the subscription that the frame's type has
-found : (n : goal.After-find) → let a = n.args in
+found : (n : After-find) → let a = n.args in
     asked (signature_for (setup_of a.state.now) a.id) ≡ n.find.result
 found n =
     let k = n in
@@ -92,7 +93,7 @@ unfolding head_of
 type-fits id tail = type-lt id
 
 -- what the frame is, from the checks that it passed
-accepts : (s : goal.Start) (h : Head) (g i : ℕ) → let a = s.args in h ≡ head_of a.id (tail_of a.frame.now) → Readable a.id (length a.frame.now) a.interface
+accepts : (s : Start) (h : Head) (g i : ℕ) → let a = s.args in h ≡ head_of a.id (tail_of a.frame.now) → Readable a.id (length a.frame.now) a.interface
     → (r : ℕ) → r ≡ or_zero (heads (setup_of a.state.now) a.id a.interface a.time a.frame.now a.out.now) → r ≤ 0 → 512 ≤ length a.out.now
     → i ≡ a.interface → frame_check (setup_of a.state.now) (arrival_of a.id a.frame.now a.interface a.time) ≡ none
     → Accepted a.state.now (record { head = h; signature = g; time = a.time; interface = i }) a.frame.now a.out.now
@@ -123,17 +124,17 @@ accepts s h g i e k r f z room by pass =
 pub returns-then-unreadable-gt0 : goal.returns-then-unreadable-gt0
 returns-then-unreadable-gt0 c =
     let a = c.args in
-    refusing a.state.now a.out.now c.requires (octets c) (arrival_of a.id a.frame.now a.interface a.time) c.unreadable-unreadable.result
+    refusing a.state.now a.out.now c.requires (octets (goal.at.returns-then-unreadable-gt0 c).After-slice_known-1) (arrival_of a.id a.frame.now a.interface a.time) c.unreadable-unreadable.result
     (read-refuses (setup_of a.state.now) a.id a.interface a.time a.frame.now a.out.now c.unreadable-unreadable.result c.unreadable-unreadable.ensures c.if-unreadable-gt0.true)
 
 pub overflow_sub-n : goal.overflow_sub-n
-overflow_sub-n c = omega (arith, (read_ok c).some_bytes)
+overflow_sub-n c = omega (arith, (read_ok (goal.at.overflow_sub-n c).Else-unreadable-gt0).some_bytes)
 
 pub bounds-frame-n : goal.bounds-frame-n
-bounds-frame-n c = omega (arith, (read_ok c).some_bytes)
+bounds-frame-n c = omega (arith, (read_ok (goal.at.bounds-frame-n c).Else-unreadable-gt0).some_bytes)
 
 pub read-h-requires : goal.read-h-requires
-read-h-requires c = (read_ok c).small
+read-h-requires c = (read_ok (goal.at.read-h-requires c).Else-unreadable-gt0).small
 
 pub bounds-state-0 : goal.bounds-state-0
 bounds-state-0 c = omega (arith, long c.args.state.now c.requires)
@@ -141,9 +142,9 @@ bounds-state-0 c = omega (arith, long c.args.state.now c.requires)
 pub returns-then-refused-gt0 : goal.returns-then-refused-gt0
 returns-then-refused-gt0 c =
     let a = c.args in
-    refusing a.state.now a.out.now c.requires (octets c) (arrival_of a.id a.frame.now a.interface a.time) c.refusal-refused.result
+    refusing a.state.now a.out.now c.requires (octets (goal.at.returns-then-refused-gt0 c).After-slice_known-1) (arrival_of a.id a.frame.now a.interface a.time) c.refusal-refused.result
     (head-refuses (setup_of a.state.now) a.id a.interface a.time a.frame.now a.out.now c.unreadable-unreadable.result c.unreadable-unreadable.ensures c.if-unreadable-gt0.false
-    c.refusal-refused.result (heads-number c) c.if-refused-gt0.true)
+    c.refusal-refused.result (heads-number (goal.at.returns-then-refused-gt0 c).After-refusal-refused) c.if-refused-gt0.true)
 
 pub find-requires : goal.find-requires
 find-requires c = (
@@ -158,24 +159,24 @@ pub returns-then-out-lt-PAYLOAD : goal.returns-then-out-lt-PAYLOAD
 returns-then-out-lt-PAYLOAD c =
     let a = c.args in
     let u = setup_of a.state.now in
-    refusing a.state.now a.out.now c.requires (octets c) (arrival_of a.id a.frame.now a.interface a.time) 8
+    refusing a.state.now a.out.now c.requires (octets (goal.at.returns-then-out-lt-PAYLOAD c).After-slice_known-1) (arrival_of a.id a.frame.now a.interface a.time) 8
     (no-room u a.id a.interface a.time a.frame.now a.out.now c.unreadable-unreadable.result c.unreadable-unreadable.ensures c.if-unreadable-gt0.false
-    c.refusal-refused.result (heads-number c) c.if-refused-gt0.false _ (under (signature_for u a.id) _ (found c ∙ c.in-Under.is)) c.if-out-lt-PAYLOAD.true)
+    c.refusal-refused.result (heads-number (goal.at.returns-then-out-lt-PAYLOAD c).After-refusal-refused) c.if-refused-gt0.false _ (under (signature_for u a.id) _ (found (goal.at.returns-then-out-lt-PAYLOAD c).After-find ∙ c.in-Under.is)) c.if-out-lt-PAYLOAD.true)
 
 pub accept-requires : goal.accept-requires
 accept-requires c =
     let u = setup_of c.args.state.now in
-    accepts c c.read-h.result _ _ c.read-h.ensures (read_ok c) c.refusal-refused.result (heads-number c) c.if-refused-gt0.false c.if-out-lt-PAYLOAD.false (omega (arith, (read_ok c).interface))
+    accepts (goal.at.accept-requires c).Start c.read-h.result _ _ c.read-h.ensures (read_ok (goal.at.accept-requires c).Else-unreadable-gt0) c.refusal-refused.result (heads-number (goal.at.accept-requires c).After-refusal-refused) c.if-refused-gt0.false c.if-out-lt-PAYLOAD.false (omega (arith, (read_ok (goal.at.accept-requires c).Else-unreadable-gt0).interface))
     (all-passed u c.args.id c.args.interface c.args.time c.args.frame.now c.args.out.now c.unreadable-unreadable.result c.unreadable-unreadable.ensures c.if-unreadable-gt0.false
-    c.refusal-refused.result (heads-number c) c.if-refused-gt0.false _ (under (signature_for u c.args.id) _ (found c ∙ c.in-Under.is)))
+    c.refusal-refused.result (heads-number (goal.at.accept-requires c).After-refusal-refused) c.if-refused-gt0.false _ (under (signature_for u c.args.id) _ (found (goal.at.accept-requires c).After-find ∙ c.in-Under.is)))
 
 pub returns-in-Not : goal.returns-in-Not
 returns-in-Not c =
     let a = c.args in
     let u = setup_of a.state.now in
-    refusing a.state.now a.out.now c.requires (octets c) (arrival_of a.id a.frame.now a.interface a.time) 7
+    refusing a.state.now a.out.now c.requires (octets (goal.at.returns-in-Not c).After-slice_known-1) (arrival_of a.id a.frame.now a.interface a.time) 7
     (not-subscribed u a.id a.interface a.time a.frame.now a.out.now c.unreadable-unreadable.result c.unreadable-unreadable.ensures c.if-unreadable-gt0.false
-    c.refusal-refused.result (heads-number c) c.if-refused-gt0.false (not-asked (signature_for u a.id) (found c ∙ c.in-Not.is)))
+    c.refusal-refused.result (heads-number (goal.at.returns-in-Not c).After-refusal-refused) c.if-refused-gt0.false (not-asked (signature_for u a.id) (found (goal.at.returns-in-Not c).After-find ∙ c.in-Not.is)))
 
 pub returns-else-out-lt-PAYLOAD : goal.returns-else-out-lt-PAYLOAD
 unfolding head_of
@@ -189,7 +190,7 @@ returns-else-out-lt-PAYLOAD c =
     let out = a.out.now in
     let bs = a.frame.now in
     let u = setup_of m in
-    let q = under (signature_for u a.id) _ (found c ∙ c.in-Under.is) in
+    let q = under (signature_for u a.id) _ (found (goal.at.returns-else-out-lt-PAYLOAD c).After-find ∙ c.in-Under.is) in
     let small : a.interface % 256 ≡ a.interface = omega (arith, (read_ok e).interface) in
     c.accept.ensures
     ∙ ap (λ (h : Head). lent m out (step_anonymous (rules.unnamed (head.stream_of h)) (places_of m) (parsed_of (record { head = h; signature = c.in-Under.signature; time = a.time; interface = a.interface % 256 }) (payload_of bs)))) d.read-h.ensures

@@ -10,13 +10,14 @@ use Rattle.setup.proofs.Records.{tab-end, same-type, fit-turn}
 use Rattle.bits.specs.Tabulate.{tabulate}
 use borrow.Author.Rules.{rules}
 use Rattle.setup.proofs.all_fit.Goals as goal
+use Rattle.setup.proofs.all_fit.Goals.{After-type_fits}
 
 -- what the test gave is what the rules ask
-fits : (q : goal.After-type_fits invariant-loop decreases-loop) → let l = q in let a = record_at l.args.records.now l.loop.j in
+fits : (q : After-type_fits) → let l = q in let a = record_at l.args.records.now l.loop-j.j in
     type_fits a.kind a.type ≡ q.type-fits.result
 fits q =
     let l = q in
-    same-type (record_at l.args.records.now l.loop.j) q.key.result q.key.ensures ∙ sym q.type-fits.ensures
+    same-type (record_at l.args.records.now l.loop-j.j) q.key.result q.key.ensures ∙ sym q.type-fits.ensures
 
 pub loop-j-init : goal.loop-j-init
 loop-j-init c =
@@ -39,18 +40,18 @@ pub loop-j-preserved : goal.loop-j-preserved
 loop-j-preserved c =
     let a = c.args in
     let f = record_at a.records.now in
-    sym (fit-turn f c.loop-j.j a.n (omega arith) true true (fits c ∙ c.if-type_fits.true) (sym c.key_is_new.ensures ∙ c.if-key_is_new.true)) ∙ c.loop-j.invariant
+    sym (fit-turn f c.loop-j.j a.n (omega arith) true true (fits (goal.at.loop-j-preserved c).After-type_fits ∙ c.if-type_fits.true) (sym c.key_is_new.ensures ∙ c.if-key_is_new.true)) ∙ c.loop-j.invariant
 
 pub returns-else-key_is_new : goal.returns-else-key_is_new
 returns-else-key_is_new c =
     let a = c.args in
     let f = record_at a.records.now in
-    sym (fit-turn f c.loop-j.j a.n (omega arith) true false (fits c ∙ c.if-type_fits.true) (sym c.key_is_new.ensures ∙ c.if-key_is_new.false)) ∙ c.loop-j.invariant
+    sym (fit-turn f c.loop-j.j a.n (omega arith) true false (fits (goal.at.returns-else-key_is_new c).After-type_fits ∙ c.if-type_fits.true) (sym c.key_is_new.ensures ∙ c.if-key_is_new.false)) ∙ c.loop-j.invariant
 
 pub returns-else-type_fits : goal.returns-else-type_fits
 returns-else-type_fits c =
     let a = c.args in
-    sym (fit-turn (record_at a.records.now) c.loop-j.j a.n (omega arith) false _ (fits c ∙ c.if-type_fits.false) refl) ∙ c.loop-j.invariant
+    sym (fit-turn (record_at a.records.now) c.loop-j.j a.n (omega arith) false _ (fits (goal.at.returns-else-type_fits c).After-type_fits ∙ c.if-type_fits.false) refl) ∙ c.loop-j.invariant
 
 pub returns : goal.returns
 returns c =

@@ -35,19 +35,19 @@ pub clear-requires : goal.clear-requires
 clear-requires c = omega arith
 
 pub put_at-requires : goal.put_at-requires
-put_at-requires c = omega (arith, c.clear.auto.0)
+put_at-requires c = omega (arith, c.clear.auto.state)
 
 pub overflow_cast-state : goal.overflow_cast-state
 overflow_cast-state c = omega arith
 
 pub bounds-state-0 : goal.bounds-state-0
-bounds-state-0 c = omega (arith, c.put_at.auto.0, c.clear.auto.0)
+bounds-state-0 c = omega (arith, c.put_at.auto.s, c.clear.auto.state)
 
 pub overflow_cast-state-2 : goal.overflow_cast-state-2
 overflow_cast-state-2 c = omega arith
 
 pub bounds-state-1 : goal.bounds-state-1
-bounds-state-1 c = simp length-set (omega (arith, c.put_at.auto.0, c.clear.auto.0))
+bounds-state-1 c = simp length-set (omega (arith, c.put_at.auto.s, c.clear.auto.state))
 
 pub loop-j-init : goal.loop-j-init
 unfolding tabulate
@@ -61,7 +61,7 @@ loop-j-init c =
 pub put-requires : goal.put-requires
 put-requires c =
     let a = c.args in
-    omega (arith, as_long c.put_at.new.s a.own a.n, c.put_at.auto.0, c.clear.auto.0, c.loop-j.invariant.0.1)
+    omega (arith, as_long c.put_at.new.s a.own a.n, c.put_at.auto.s, c.clear.auto.state, c.loop-j.invariant.0.1)
 
 pub overflow_add-j : goal.overflow_add-j
 overflow_add-j c = omega arith
@@ -73,7 +73,7 @@ pub loop-j-preserved : goal.loop-j-preserved
 loop-j-preserved c =
     let a = c.args in
     let r = a.records.now in (
-      (omega arith, c.put.auto.0 ∙ c.loop-j.invariant.0.1),
+      (omega arith, c.put.auto.state ∙ c.loop-j.invariant.0.1),
       c.put.ensures
           ∙ ap (λ (x : List ℕ). written x c.loop-j.j (record_at r c.loop-j.j)) c.loop-j.invariant.1
           ∙ laid-turn a.own a.n (record_at r) _ c.loop-j.j (omega (arith, c.loop-j-test.true, c.requires.1.0)),
@@ -82,7 +82,7 @@ loop-j-preserved c =
 pub shape_of-state : goal.shape_of-state
 shape_of-state c =
     let a = c.args in
-    c.loop-j.invariant.0.1 ∙ as_long c.put_at.new.s a.own a.n ∙ c.put_at.auto.0 ∙ c.clear.auto.0
+    c.loop-j.invariant.0.1 ∙ as_long c.put_at.new.s a.own a.n ∙ c.put_at.auto.s ∙ c.clear.auto.state
 
 pub returns : goal.returns
 returns c =

@@ -17,12 +17,8 @@ use Rattle.rules.specs.Setup.{type_fits, all_fit}
 use Rattle.state.specs.Layout.{subscription_count_at, subscription_keys_at, subscription_key_at, subscription_at, setup_of}
 use Rattle.subscriptions.specs.inside.Subscription.{keys_end, key_fits}
 use Rattle.subscriptions.proofs.Fit.{Fits, entry_of, type-fits, one-unfit, first-fit, twice-unfit}
+use Rattle.subscriptions.proofs.all_fit.Invariants.{Good}
 use Rattle.subscriptions.proofs.all_fit.Goals as goal
-
--- a subscription in range, the first of its key
-record Good (m : List ℕ) (j : ℕ) : Type 0 where
-  fit : Fits (subscription_at m j)
-  first : First (subscription_key_at m) j
 
 own-entry : (m : List ℕ) (j : ℕ) → entry_of (subscription_at m j) ≡ subscription_key_at m j + 1
 unfolding subscription_at

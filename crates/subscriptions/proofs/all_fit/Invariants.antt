@@ -18,8 +18,13 @@ use Rattle.subscriptions.specs.inside.Subscription.{keys_end, key_fits}
 use Rattle.subscriptions.proofs.Fit.{Fits, entry_of, type-fits, one-unfit, first-fit, twice-unfit}
 use Rattle.subscriptions.proofs.all_fit.Given as goal
 
+-- a subscription in range, the first of its key
+pub record Good (m : List ℕ) (j : ℕ) : Type 0 where
+  pub fit : Fits (subscription_at m j)
+  pub first : First (subscription_key_at m) j
+
 abbrev pub invariant-loop-j : goal.invariant-loop-j
-invariant-loop-j l = ((l.n < 256) × (l.j ≤ l.n)) × ((length l.marks ≡ marks_max) × (Marked (subscription_key_at l.state) l.j l.marks × ((l : ℕ) → l < l.j → Good l.state l)))
+invariant-loop-j l = ((l.n < 256) × (l.j ≤ l.n)) × ((length l.marks ≡ marks_max) × (Marked (subscription_key_at l.state) l.j l.marks × ((i : ℕ) → i < l.j → Good l.state i)))
 
 abbrev pub decreases-loop-j : goal.decreases-loop-j
 decreases-loop-j l = l.n - l.j

@@ -45,8 +45,8 @@ get_u64-requires c = omega (arith, c.shared_slice_known-2-1.given subscription_c
 
 pub returns-then-j-n : goal.returns-then-j-n
 returns-then-j-n c =
-    under c.args.state.now c.args.kind c.args.type-id (omega arith) c.find-j.result c.find-j.ensures c.if-j-n.true c.get_u64.result c.get_u64.ensures
+    under c.args.state.now c.args.kind c.args.type_id (omega arith) c.find-j.result c.find-j.ensures c.if-j-n.true c.get_u64.result c.get_u64.ensures
 
 pub returns : goal.returns
 returns c =
-    not_listed c.args.state.now c.args.kind c.args.type-id (omega arith) c.find-j.result c.find-j.ensures c.if-j-n.false
+    not_listed c.args.state.now c.args.kind c.args.type_id (omega arith) c.find-j.result c.find-j.ensures c.if-j-n.false

@@ -1,5 +1,5 @@
 -- `word::of_answer` meets its contract: the number, and above it the values of the transfer.
-use mathlib.Core.Path.{sym, ap, ap₂, subst, ◌∙◌}
+use mathlib.Core.Path.{◌≡◌, sym, ap, ap₂, subst, ◌∙◌}
 use Prim.Native.Nat.{◌+◌, ◌^◌, ◌<◌}
 use native.Mathlib.Omega.{arith}
 use Rattle.answers.specs.declared.Transfer.{Transfer}
@@ -11,15 +11,15 @@ word_lt : (t : Transfer) → TransferFits t → transfer_word t < 2 ^ 60
 unfolding transfer_word
 word_lt t h = omega (arith, h)
 
-fits : (c : goal.After-transfer) → TransferFits c.transfer.result
-fits c = subst TransferFits (sym c.transfer.ensures) c.requires.transfer
+fits : (t u : Transfer) → t ≡ u → TransferFits u → TransferFits t
+fits t u e = subst TransferFits (sym e)
 
 pub of_transfer-requires : goal.of_transfer-requires
-of_transfer-requires c = fits c
+of_transfer-requires c = fits c.transfer.result _ c.transfer.ensures c.requires.transfer
 
 pub overflow_add-result : goal.overflow_add-result
 overflow_add-result c =
-    let w = word_lt c.transfer.result (fits c) in
+    let w = word_lt c.transfer.result (fits c.transfer.result _ c.transfer.ensures c.requires.transfer) in
     omega (arith, c.of_transfer.ensures, c.number.ensures.1)
 
 pub returns : goal.returns

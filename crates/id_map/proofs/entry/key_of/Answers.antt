@@ -9,4 +9,4 @@ pub returns : goal.returns
 unfolding key_of
 returns c =
     let a = c.args in
-    (topic-key (record { transfer_type = a.transfer-type; type = a.type-id; destination = a.destination }) (omega arith) (omega arith), omega arith)
+    (topic-key (record { transfer_type = a.transfer_type; type = a.type_id; destination = a.destination }) (omega arith) (omega arith), omega arith)

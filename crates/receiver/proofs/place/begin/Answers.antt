@@ -6,11 +6,12 @@ use Rattle.bits.proofs.Octets.{octets-all}
 use Rattle.receiver.proofs.Begun.{waits, met₁, begun}
 use borrow.Author.Rules.{rules}
 use Rattle.receiver.proofs.place.begin.Goals as goal
+use Rattle.receiver.proofs.place.begin.Goals.{Start}
 
-frame-time : (s : goal.Start) → s.args.f.time < 2 ^ 64
+frame-time : (s : Start) → s.args.f.time < 2 ^ 64
 frame-time s = search rules
 
-session-time : (s : goal.Start) → s.args.c.time < 2 ^ 64
+session-time : (s : Start) → s.args.c.time < 2 ^ 64
 session-time s = search rules
 
 pub wait-requires : goal.wait-requires
@@ -25,11 +26,11 @@ proceed-requires c =
     let a = c.args in
     let q = c.requires in
     let o = octets-all a.state.now (λ i. omega (arith, c.slice_known-1.given i)) in
-    met₁ a.state.now a.i a.k a.c a.f a.p.now a.out.now q.0 o q.1.0.0 q.1.0.1 q.1.1 (frame-time c) (session-time c) c.wait.new.state c.wait.ensures (octets-all c.wait.new.state (λ i. omega (arith, c.slice_known-3-1.given i)))
+    met₁ a.state.now a.i a.k a.c a.f a.p.now a.out.now q.0 o q.1.0.0 q.1.0.1 q.1.1 (frame-time (goal.at.proceed-requires c).Start) (session-time (goal.at.proceed-requires c).Start) c.wait.new.state c.wait.ensures (octets-all c.wait.new.state (λ i. omega (arith, c.slice_known-3-1.given i)))
 
 pub returns : goal.returns
 returns c =
     let a = c.args in
     let q = c.requires in
     let o = octets-all a.state.now (λ i. omega (arith, c.slice_known-1.given i)) in
-    c.proceed.ensures ∙ begun a.state.now a.i a.k a.c a.f a.p.now a.out.now q.0 o q.1.0.0 q.1.0.1 q.1.1 (frame-time c) (session-time c) c.wait.new.state c.wait.ensures (octets-all c.wait.new.state (λ i. omega (arith, c.slice_known-3-1.given i)))
+    c.proceed.ensures ∙ begun a.state.now a.i a.k a.c a.f a.p.now a.out.now q.0 o q.1.0.0 q.1.0.1 q.1.1 (frame-time (goal.at.returns c).Start) (session-time (goal.at.returns c).Start) c.wait.new.state c.wait.ensures (octets-all c.wait.new.state (λ i. omega (arith, c.slice_known-3-1.given i)))

@@ -7,11 +7,12 @@ use Rattle.receiver.proofs.Steps.{over-ready, over-waits, len_is, single-ended}
 use Rattle.receiver.proofs.Lacking.{met₂, takes₂, some₂, entered, left_out}
 use borrow.Author.Rules.{rules}
 use Rattle.receiver.proofs.place.take.Goals as goal
+use Rattle.receiver.proofs.place.take.Goals.{Start}
 
-frame-time : (s : goal.Start) → s.args.f.time < 2 ^ 64
+frame-time : (s : Start) → s.args.f.time < 2 ^ 64
 frame-time s = search rules
 
-session-time : (s : goal.Start) → s.args.c.time < 2 ^ 64
+session-time : (s : Start) → s.args.c.time < 2 ^ 64
 session-time s = search rules
 
 pub over-requires : goal.over-requires
@@ -68,7 +69,7 @@ returns-then-lacks_block c =
     let a = c.args in
     let q = c.requires in
     let o = octets-all a.state.now (λ i. omega (arith, c.slice_known-1.given i)) in
-    left_out a.state.now a.i a.k a.c a.f a.p.now a.out.now q.0 o q.1 c.lacks_block.new.state c.lacks_block.result c.lacks_block.ensures.0 c.lacks_block.ensures.1 (octets-all c.lacks_block.new.state (λ i. omega (arith, c.slice_known-3-1.given i))) (frame-time c) (session-time c) (sym c.is_single.ensures ∙ c.if-is_single.false)
+    left_out a.state.now a.i a.k a.c a.f a.p.now a.out.now q.0 o q.1 c.lacks_block.new.state c.lacks_block.result c.lacks_block.ensures.0 c.lacks_block.ensures.1 (octets-all c.lacks_block.new.state (λ i. omega (arith, c.slice_known-3-1.given i))) (frame-time (goal.at.returns-then-lacks_block c).Start) (session-time (goal.at.returns-then-lacks_block c).Start) (sym c.is_single.ensures ∙ c.if-is_single.false)
     c.if-lacks_block.true c.over-then-lacks_block.result c.over-then-lacks_block.ensures _ c.wait-then-lacks_block.ensures
 
 pub enter-requires : goal.enter-requires
@@ -84,4 +85,4 @@ returns c =
     let q = c.requires in
     let o = octets-all a.state.now (λ i. omega (arith, c.slice_known-1.given i)) in
     c.enter.ensures
-    ∙ entered a.state.now a.i a.k a.c a.f a.p.now a.out.now q.0 o q.1 c.lacks_block.new.state c.lacks_block.result c.lacks_block.ensures.0 c.lacks_block.ensures.1 (octets-all c.lacks_block.new.state (λ i. omega (arith, c.slice_known-3-1.given i))) (frame-time c) (session-time c) (sym c.is_single.ensures ∙ c.if-is_single.false) c.if-lacks_block.false
+    ∙ entered a.state.now a.i a.k a.c a.f a.p.now a.out.now q.0 o q.1 c.lacks_block.new.state c.lacks_block.result c.lacks_block.ensures.0 c.lacks_block.ensures.1 (octets-all c.lacks_block.new.state (λ i. omega (arith, c.slice_known-3-1.given i))) (frame-time (goal.at.returns c).Start) (session-time (goal.at.returns c).Start) (sym c.is_single.ensures ∙ c.if-is_single.false) c.if-lacks_block.false

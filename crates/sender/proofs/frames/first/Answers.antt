@@ -5,24 +5,25 @@ use Rattle.bits.proofs.Octets.{octets-all}
 use Rattle.sender.proofs.Pieces.{first_fits, first-is}
 use borrow.Author.Rules.{rules}
 use Rattle.sender.proofs.frames.first.Goals as goal
+use Rattle.sender.proofs.frames.first.Goals.{After-word}
 
-fits_word : (w : goal.After-word) → let sum = w.args.sum in (w.word.result * 256 + sum / 256) * 256 + sum % 256 < 2 ^ 64
+fits_word : (w : After-word) → let sum = w.args.sum in (w.word.result * 256 + sum / 256) * 256 + sum % 256 < 2 ^ 64
 fits_word w =
     let k = w in
     let a = k.args in
     first_fits a.payload.now a.sum a.tail w.word.result (octets-all a.payload.now (λ i. omega (arith, k.shared_slice_known-1.given i))) (omega arith) (omega arith) (omega arith) w.word.ensures
 
 pub overflow_mul-word : goal.overflow_mul-word
-overflow_mul-word c = omega (arith, fits_word c)
+overflow_mul-word c = omega (arith, fits_word (goal.at.overflow_mul-word c).After-word)
 
 pub overflow_add-word : goal.overflow_add-word
-overflow_add-word c = omega (arith, fits_word c)
+overflow_add-word c = omega (arith, fits_word (goal.at.overflow_add-word c).After-word)
 
 pub overflow_mul-word-2 : goal.overflow_mul-word-2
-overflow_mul-word-2 c = omega (arith, fits_word c)
+overflow_mul-word-2 c = omega (arith, fits_word (goal.at.overflow_mul-word-2 c).After-word)
 
 pub overflow_add-word-2 : goal.overflow_add-word-2
-overflow_add-word-2 c = omega (arith, fits_word c)
+overflow_add-word-2 c = omega (arith, fits_word (goal.at.overflow_add-word-2 c).After-word)
 
 pub returns : goal.returns
 returns c =

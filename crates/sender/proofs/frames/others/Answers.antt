@@ -76,7 +76,7 @@ loop-k-preserved c =
         (
           omega arith,
           (
-            c.next.auto.0 ∙ i.1.1.1.0,
+            c.next.auto.out ∙ i.1.1.1.0,
             others-turn c.loop-k.out c.next.new.out a.payload.now a.id a.transfer c.loop-k.k c.loop-k.at c.loop-k.toggle (omega arith) r c.next.ensures
                 ∙ i.1.1.1.1,
           ),

@@ -23,7 +23,7 @@ first-requires c =
 pub others-requires : goal.others-requires
 others-requires c =
     let a = c.args in
-    omega (arith, count-several (length a.payload.now) c.if-payload-le-FRAME_PAYLOAD.false, c.first.auto.0)
+    omega (arith, count-several (length a.payload.now) c.if-payload-le-FRAME_PAYLOAD.false, c.first.auto.out)
 
 pub returns : goal.returns
 returns c =

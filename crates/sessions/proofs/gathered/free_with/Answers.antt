@@ -8,12 +8,13 @@ use Rattle.blocks.specs.inside.Bit.{including_all}
 use Rattle.state.specs.Layout.{free_of, block_lists_at}
 use Rattle.sessions.proofs.Stored.{one_more, small_one}
 use Rattle.sessions.proofs.gathered.free_with.Goals as goal
+use Rattle.sessions.proofs.gathered.free_with.Goals.{After-shared_slice_known-in-loop-j-1}
 
-block : (c : goal.After-shared_slice_known-in-loop-j-1 invariant-loop decreases-loop) → get_or c.args.state.now (block_lists_at + c.args.i * 9 + c.loop.j) 0 < 64
+block : (c : After-shared_slice_known-in-loop-j-1) → get_or c.args.state.now (block_lists_at + c.args.i * 9 + c.loop-j.j) 0 < 64
 block c =
     let a = c.args in
     let p = c.requires in
-    small_one a.state.now (block_lists_at + a.i * 9) a.n c.loop.j (omega arith) (omega (arith, p.0, p.1.0)) p.1.1
+    small_one a.state.now (block_lists_at + a.i * 9) a.n c.loop-j.j (omega arith) (omega (arith, p.0, p.1.0)) p.1.1
 
 pub overflow_mul-at : goal.overflow_mul-at
 overflow_mul-at c = omega arith
@@ -35,10 +36,10 @@ pub bounds-state-at : goal.bounds-state-at
 bounds-state-at c = omega arith
 
 pub overflow_cast-state : goal.overflow_cast-state
-overflow_cast-state c = omega (arith, block c)
+overflow_cast-state c = omega (arith, block (goal.at.overflow_cast-state c).After-shared_slice_known-in-loop-j-1)
 
 pub include-all-requires : goal.include-all-requires
-include-all-requires c = block c
+include-all-requires c = block (goal.at.include-all-requires c).After-shared_slice_known-in-loop-j-1
 
 pub overflow_add-j : goal.overflow_add-j
 overflow_add-j c = omega arith

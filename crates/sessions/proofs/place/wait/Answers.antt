@@ -20,12 +20,12 @@ pub overflow_add-i : goal.overflow_add-i
 overflow_add-i c = omega (arith, c.requires.place)
 
 pub put_u32-requires : goal.put_u32-requires
-put_u32-requires c = omega (arith, c.requires.ready.long, c.requires.place, c.put_u64.auto.0)
+put_u32-requires c = omega (arith, c.requires.ready.long, c.requires.place, c.put_u64.auto.s)
 
 pub write-requires : goal.write-requires
 write-requires c =
     let p = c.requires in
-    ((p.place, omega (arith, p.ready.long, c.put_u32.auto.0, c.put_u64.auto.0)), (omega (arith, p.len), (p.expected, p.follows)))
+    ((p.place, omega (arith, p.ready.long, c.put_u32.auto.s, c.put_u64.auto.s)), (omega (arith, p.len), (p.expected, p.follows)))
 
 pub returns : goal.returns
 returns c =

@@ -37,7 +37,7 @@ loop-i-preserved c =
     let o = octets-all a.state.now (λ i. omega (arith, c.slice_known-1.given i)) in (
       omega arith,
       (
-        c.relieve_one.auto.0 ∙ c.loop-i.invariant.1.0,
+        c.relieve_one.auto.state ∙ c.loop-i.invariant.1.0,
         rw add-one (c.relieve_one.ensures ∙ one_more a.state.now c.requires o a.t c.loop-i.i (omega arith) c.loop-i.state c.loop-i.invariant.1.1),
       ),
     )
