@@ -4,7 +4,6 @@ use native.Mathlib.Omega.{arith}
 use borrow.Author.Tests.{not-true, not-false}
 use mathlib.Core.Path.{sym, ◌∙◌}
 use Prim.Native.Nat.{◌+◌}
-use borrow.Author.Rules.{rules}
 use Rattle.log_line.proofs.read.fields.Goals as goal
 
 pub number-requires : goal.number-requires
@@ -62,9 +61,7 @@ overflow_sub-k c =
     h.long
 
 pub overflow_add-s-then-count-s-2 : goal.overflow_add-s-then-count-s-2
-overflow_add-s-then-count-s-2 c = let s =
-    c in omega
-    (arith, (shape s.args.s s.args.line.now s.pre).few)
+overflow_add-s-then-count-s-2 c = omega (arith, (shape c.args.s c.args.line.now c.requires).few)
 
 pub pairs-b-requires : goal.pairs-b-requires
 pairs-b-requires c =
@@ -81,9 +78,7 @@ returns-then-not-b c =
     (no-data a.s a.line.now _ sec _ ms _ id c.pairs-b.result.ok _ (not-true c.pairs-b.result.ok c.if-not-b.true) c.pairs-b.ensures.0)
 
 pub overflow_add-result : goal.overflow_add-result
-overflow_add-result c = let s =
-    c in
-    omega (arith, (shape s.args.s s.args.line.now s.pre).few)
+overflow_add-result c = omega (arith, (shape c.args.s c.args.line.now c.requires).few)
 
 pub overflow_cast-result : goal.overflow_cast-result
 overflow_cast-result c =

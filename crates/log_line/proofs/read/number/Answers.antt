@@ -5,7 +5,6 @@ use Rattle.bits.specs.Part.{span}
 use native.Mathlib.Nat.{add-sub_cancel_left}
 use Prim.Native.Nat.{ℕ}
 use mathlib.Core.Path.{ap, ◌∙◌}
-use borrow.Author.Rules.{rules}
 use Rattle.log_line.proofs.read.number.Goals as goal
 
 pub returns : goal.returns

@@ -1,6 +1,5 @@
 -- `read::pair` meets its contract.
 use Rattle.log_line.proofs.Steps.{is, not, byte, no_byte, no-space}
-use borrow.Author.Rules.{rules}
 use Rattle.log_line.proofs.read.pair.Goals as goal
 
 pub returns-in-Is : goal.returns-in-Is

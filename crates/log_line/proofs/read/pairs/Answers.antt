@@ -1,12 +1,10 @@
 -- `read::pairs` meets its contract.
-use Rattle.log_line.proofs.Steps.{ahead, begun, on, off, done, drop-zeros}
-use Rattle.log_line.specs.Reading.{pairs}
-use lib.ListN.{length, take, drop, replicate, length-set}
+use Rattle.log_line.proofs.Steps.{begun, on, off, done, drop-zeros}
+use lib.ListN.{length-set}
 use lib.Seq.{drop-set-lt}
 use native.Mathlib.Omega.{arith}
 use native.Mathlib.Numerals.{add-one}
-use Prim.Native.Nat.{◌+◌, ◌*◌, ◌-◌, ◌≤◌}
-use mathlib.Core.Path.{◌≡◌, refl, ◌∙◌}
+use mathlib.Core.Path.{refl, ◌∙◌}
 use Rattle.log_line.proofs.read.pairs.Goals as goal
 
 pub loop-j-init : goal.loop-j-init

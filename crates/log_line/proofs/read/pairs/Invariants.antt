@@ -1,11 +1,8 @@
-use Rattle.log_line.proofs.Steps.{ahead, begun, on, off, done, drop-zeros}
+use Rattle.log_line.proofs.Steps.{ahead}
 use Rattle.log_line.specs.Reading.{pairs}
-use lib.ListN.{length, take, drop, replicate, length-set}
-use lib.Seq.{drop-set-lt}
-use native.Mathlib.Omega.{arith}
-use native.Mathlib.Numerals.{add-one}
+use lib.ListN.{length, take, drop, replicate}
 use Prim.Native.Nat.{◌+◌, ◌*◌, ◌-◌, ◌≤◌}
-use mathlib.Core.Path.{◌≡◌, refl, ◌∙◌}
+use mathlib.Core.Path.{◌≡◌}
 use Rattle.log_line.proofs.read.pairs.Given as goal
 
 abbrev pub invariant-loop-j : goal.invariant-loop-j

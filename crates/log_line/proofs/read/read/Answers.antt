@@ -9,7 +9,6 @@ use mathlib.Core.Option.{none}
 use mathlib.Core.List.{List}
 use mathlib.Core.Bool.{true, false}
 use mathlib.Core.Path.{◌≡◌, sym, ap, ◌∙◌}
-use borrow.Author.Rules.{rules}
 use Rattle.log_line.proofs.read.read.Goals as goal
 
 -- the search for the dot

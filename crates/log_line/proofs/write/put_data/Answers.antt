@@ -1,10 +1,10 @@
 -- `write::put_data` meets its contract.
 use mathlib.Core.List.{List}
 use mathlib.Core.Path.{◌≡◌, refl, sym, ap, ◌∙◌}
-use Prim.Native.Nat.{ℕ, ◌-◌, ◌≤◌}
+use Prim.Native.Nat.{ℕ}
 use native.Mathlib.Numerals.{add-one}
 use native.Mathlib.Omega.{arith}
-use lib.ListN.{length, take}
+use lib.ListN.{length}
 use lib.Seq.{take_all}
 use Rattle.bits.specs.Part.{splice}
 use Rattle.digits.proofs.Puts.{splice-nil}
@@ -40,7 +40,7 @@ loop-i-preserved c =
     let a = c.args in (
       omega arith,
       (
-        c.put_byte.auto.0 ∙ c.loop-i.invariant.1.0,
+        c.put_byte.auto.out ∙ c.loop-i.invariant.1.0,
         rw (add-one c.loop-i.i) (data-turn a.out.now c.loop-i.out c.put_byte.new.out a.s.now a.at c.loop-i.i c.loop-i-test.true c.requires
             c.loop-i.invariant.1.1 c.put_byte.ensures),
       ),

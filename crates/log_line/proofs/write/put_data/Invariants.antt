@@ -1,15 +1,8 @@
-use mathlib.Core.List.{List}
-use mathlib.Core.Path.{◌≡◌, refl, sym, ap, ◌∙◌}
-use Prim.Native.Nat.{ℕ, ◌-◌, ◌≤◌}
-use native.Mathlib.Numerals.{add-one}
-use native.Mathlib.Omega.{arith}
+use mathlib.Core.Path.{◌≡◌}
+use Prim.Native.Nat.{◌-◌, ◌≤◌}
 use lib.ListN.{length, take}
-use lib.Seq.{take_all}
 use Rattle.bits.specs.Part.{splice}
-use Rattle.digits.proofs.Puts.{splice-nil}
 use Rattle.log_line.specs.Line.{data_text}
-use Rattle.log_line.proofs.Lines.{data-length}
-use Rattle.log_line.proofs.Writing.{data-turn}
 use Rattle.log_line.proofs.write.put_data.Given as goal
 
 abbrev pub invariant-loop-i : goal.invariant-loop-i

@@ -1,7 +1,6 @@
 -- `write::put_id` meets its contract.
 use mathlib.Core.Path.{refl}
 use native.Mathlib.Omega.{arith}
-use borrow.Author.Rules.{rules}
 use lib.ListN.{length-set}
 use Rattle.log_line.proofs.Writing.{spaced}
 use Rattle.log_line.proofs.write.put_id.Goals as goal
@@ -12,7 +11,7 @@ put_hex-requires c = simp length-set (omega (arith, c.requires))
 pub shape_of-out : goal.shape_of-out
 shape_of-out c =
     let a = c.args in
-    omega (arith, c.put_hex.auto.0, length-set a.out.now a.at 32)
+    omega (arith, c.put_hex.auto.out, length-set a.out.now a.at 32)
 
 pub returns : goal.returns
 returns c =
