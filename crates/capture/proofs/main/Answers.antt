@@ -4,4 +4,4 @@ use lib.ListN.{length-replicate}
 use Rattle.capture.proofs.main.Goals as goal
 
 pub run-requires : goal.run-requires
-run-requires c = (length-replicate {A = ℕ} 32768 0, length-replicate {A = ℕ} 688128 0)
+run-requires g c = (length-replicate {A = ℕ} 32768 0, length-replicate {A = ℕ} 688128 0)

@@ -6,4 +6,4 @@ use Rattle.state.specs.Layout.{size}
 use Rattle.log_program.proofs.main.Goals as goal
 
 pub whole-requires : goal.whole-requires
-whole-requires c = (length-replicate {A = ℕ} size 0, (length-replicate {A = ℕ} 8192 0, length-replicate {A = ℕ} 656560 0))
+whole-requires g c = (length-replicate {A = ℕ} size 0, (length-replicate {A = ℕ} 8192 0, length-replicate {A = ℕ} 656560 0))

@@ -1,7 +1,6 @@
 use mathlib.Core.Path.{◌≡◌}
 use Prim.Native.Nat.{◌≤◌, ◌+◌, ◌-◌}
 use lib.ListN.{length}
-use borrow.Author.Rules.{rules}
 use Rattle.codec_text.proofs.signed.read.Given as goal
 
 abbrev pub invariant-loop-p : goal.invariant-loop-p
