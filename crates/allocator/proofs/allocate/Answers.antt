@@ -4,7 +4,7 @@ use mathlib.Core.Bool.{true, false}
 use mathlib.Core.List.{List}
 use Prim.Native.Nat.{ℕ, ◌≤◌, ◌<◌}
 use native.Mathlib.Omega.{arith}
-use borrow.Author.Tests.{not-true, not-false, eq-eqb, ne_eqb, lt-ltb, le-ltb}
+use borrow.Author.Tests.{eq-eqb, ne_eqb, lt-ltb, le-ltb}
 use Rattle.bits.proofs.Octets.{octets-all}
 use Rattle.shape.specs.Answer.{Answer, refused, got}
 use Rattle.shape.specs.Shape.{Values, decoded}
@@ -51,17 +51,17 @@ fields : {n n' f f' : ℕ} {u u' : List ℕ} → n ≡ n' → f ≡ f' → u ≡
 fields a b c = cc
 
 pub returns-then-not-is_sound : goal.returns-then-not-is_sound
-returns-then-not-is_sound c = let a = c.args in faulty a.state.now a.q a.payload.now a.out.now (sym c.is_sound.ensures ∙ not-true _ c.if-not-is_sound.true)
+returns-then-not-is_sound c = let a = c.args in faulty a.state.now a.q a.payload.now a.out.now (sym c.is_sound.ensures ∙ c.if-not-is_sound.true)
 
 pub returns-then-reserved-eq0 : goal.returns-then-reserved-eq0
 returns-then-reserved-eq0 c =
     let a = c.args in
-    own-none a.state.now a.q a.payload.now a.out.now (sym c.is_sound.ensures ∙ not-false _ c.if-not-is_sound.false) c.if-reserved-eq0.true
+    own-none a.state.now a.q a.payload.now a.out.now (sym c.is_sound.ensures ∙ c.if-not-is_sound.false) c.if-reserved-eq0.true
 
 pub returns-then-reserved-gt127 : goal.returns-then-reserved-gt127
 returns-then-reserved-gt127 c =
     let a = c.args in
-    own-large a.state.now a.q a.payload.now a.out.now (sym c.is_sound.ensures ∙ not-false _ c.if-not-is_sound.false) c.if-reserved-eq0.false c.if-reserved-gt127.true
+    own-large a.state.now a.q a.payload.now a.out.now (sym c.is_sound.ensures ∙ c.if-not-is_sound.false) c.if-reserved-eq0.false c.if-reserved-gt127.true
 
 pub overflow_cast-a : goal.overflow_cast-a
 overflow_cast-a c =
@@ -76,14 +76,14 @@ overflow_cast-a-in-Got c =
     casts x.first_part_of_unique_id (first-held p c.decode-read.result c.decode-read.ensures (octets-all p (λ i. omega (arith, c.shared_slice_known-1.given i))) x c.in-Got.is)
 
 pub message-requires : goal.message-requires
-message-requires c = sym c.is_sound.ensures ∙ not-false _ c.if-not-is_sound.false
+message-requires c = sym c.is_sound.ensures ∙ c.if-not-is_sound.false
 
 pub returns-in-Refused : goal.returns-in-Refused
 returns-in-Refused c =
     let a = c.args in
     unread c.in-Refused.n (decoded allocation a.payload.now) a.state.now a.q a.out.now
     (read-refused a.payload.now c.decode-read.result c.decode-read.ensures c.in-Refused.n c.in-Refused.is)
-    ∙ by-message a.state.now a.q a.payload.now a.out.now (sym c.is_sound.ensures ∙ not-false _ c.if-not-is_sound.false) c.if-reserved-eq0.false (omega arith)
+    ∙ by-message a.state.now a.q a.payload.now a.out.now (sym c.is_sound.ensures ∙ c.if-not-is_sound.false) c.if-reserved-eq0.false (omega arith)
 
 pub returns-in-Got : goal.returns-in-Got
 returns-in-Got c =
@@ -96,4 +96,4 @@ returns-in-Got c =
     c.message.ensures
     ∙ ap (λ (v : Fields). performs (decide a.state.now a.q v) a.state.now a.q.time (joined a.state.now a.q.time v.1.1) a.out.now) (fields node first c.unique_id.ensures)
     ∙ read (x.node_id, (x.first_part_of_unique_id, unique_id_in p)) (decoded allocation p) a.state.now a.q a.out.now (read-got p c.decode-read.result c.decode-read.ensures o x c.in-Got.is)
-    ∙ by-message a.state.now a.q p a.out.now (sym c.is_sound.ensures ∙ not-false _ c.if-not-is_sound.false) c.if-reserved-eq0.false (omega arith)
+    ∙ by-message a.state.now a.q p a.out.now (sym c.is_sound.ensures ∙ c.if-not-is_sound.false) c.if-reserved-eq0.false (omega arith)

@@ -12,6 +12,6 @@ returns-in-1 c = ap letter_of (sym c.in-0.keys2)
 
 pub returns-in_default : goal.returns-in_default
 returns-in_default c =
-    let k = c.args.transfer-type in
+    let k = c.args.transfer_type in
     let r = c.in-0.rest in
     rw (ne_eqb k 0 r.0.1, ne_eqb k 1 r.1)

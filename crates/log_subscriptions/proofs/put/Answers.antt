@@ -28,6 +28,6 @@ joined m m' m'' m''' at k t h e f g =
 pub returns : goal.returns
 returns c =
     let a = c.args in
-    joined a.out.now c.put_at.new.s c.put_at-2.new.s c.put_at-3.new.s (a.j * 13) a.kind a.type-id c.requires
+    joined a.out.now c.put_at.new.s c.put_at-2.new.s c.put_at-3.new.s (a.j * 13) a.kind a.type_id c.requires
     c.put_at.ensures c.put_at-2.ensures (c.put_at-3.ensures
     ∙ ap (λ (x : ℕ). splice c.put_at-2.new.s (a.j * 13 + 5) (le_bytes 8 x)) c.signature.ensures)

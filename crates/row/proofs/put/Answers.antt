@@ -10,4 +10,4 @@ returns-then-fields-words c = let a = c.args in row-short a.words.now a.fields.n
 pub returns : goal.returns
 returns c =
     let a = c.args in
-    row-placed a.words.now a.fields.now c.copy.new.1.0 (omega arith) c.copy.ensures
+    row-placed a.words.now a.fields.now c.copy.new.fields (omega arith) c.copy.ensures

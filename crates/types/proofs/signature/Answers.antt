@@ -3,6 +3,7 @@ use Rattle.types.specs.Types.{signature_of}
 use Rattle.rules.specs.Setup.{subscribed}
 use borrow.Author.Tests.{ne_eqb}
 use Prim.Native.Nat.{ℕ}
+use native.Mathlib.Omega.{arith}
 use mathlib.Core.Path.{◌≡◌, sym, ap, ap₂, ◌∙◌}
 use Rattle.types.proofs.signature.Goals as goal
 
@@ -21,53 +22,51 @@ other-kind k t a b = simp (ne_eqb 0 k (λ q. a (sym q)), ne_eqb 1 k (λ q. b (sy
 
 pub returns-in-341 : goal.returns-in-341
 unfolding signature_of subscribed
-returns-in-341 c = ap₂ signature_of (sym c.if-kind-eq0.true) (sym c.in-341.keys1)
+returns-in-341 c = ap₂ signature_of (sym c.if-kind-eq0.true) (sym c.in-341.is)
 
 pub returns-in-1 : goal.returns-in-1
 unfolding signature_of subscribed
-returns-in-1 c = ap₂ signature_of (sym c.if-kind-eq0.true) (sym c.in-341.keys2)
+returns-in-1 c = ap₂ signature_of (sym c.if-kind-eq0.true) (sym c.in-1.is)
 
 pub returns-in-16370 : goal.returns-in-16370
 unfolding signature_of subscribed
-returns-in-16370 c = ap₂ signature_of (sym c.if-kind-eq0.true) (sym c.in-341.keys3)
+returns-in-16370 c = ap₂ signature_of (sym c.if-kind-eq0.true) (sym c.in-16370.is)
 
 pub returns-in-16383 : goal.returns-in-16383
 unfolding signature_of subscribed
-returns-in-16383 c = ap₂ signature_of (sym c.if-kind-eq0.true) (sym c.in-341.keys4)
+returns-in-16383 c = ap₂ signature_of (sym c.if-kind-eq0.true) (sym c.in-16383.is)
 
 pub returns-in-1092 : goal.returns-in-1092
 unfolding signature_of subscribed
-returns-in-1092 c = ap₂ signature_of (sym c.if-kind-eq0.true) (sym c.in-341.keys5)
+returns-in-1092 c = ap₂ signature_of (sym c.if-kind-eq0.true) (sym c.in-1092.is)
 
 pub returns-in-1030 : goal.returns-in-1030
 unfolding signature_of subscribed
-returns-in-1030 c = ap₂ signature_of (sym c.if-kind-eq0.true) (sym c.in-341.keys6)
+returns-in-1030 c = ap₂ signature_of (sym c.if-kind-eq0.true) (sym c.in-1030.is)
 
 pub returns-in_default : goal.returns-in_default
 returns-in_default c =
-    let r = c.in-341.rest in
-    let t = c.args.type-id in
-    sym (ap (λ (k : ℕ). signature_of k t) c.if-kind-eq0.true ∙ other-message t r.0.0.0.0.0.1 r.0.0.0.0.1 r.0.0.0.1 r.0.0.1 r.0.1 r.1)
+    let t = c.args.type_id in
+    sym (ap (λ (k : ℕ). signature_of k t) c.if-kind-eq0.true ∙ other-message t (omega arith) (omega arith) (omega arith) (omega arith) (omega arith) (omega arith))
 
 pub returns-in-1-type_id : goal.returns-in-1-type_id
 unfolding signature_of subscribed
-returns-in-1-type_id c = ap₂ signature_of (sym c.if-kind-eq1.true) (sym c.in-1-type_id.keys1)
+returns-in-1-type_id c = ap₂ signature_of (sym c.if-kind-eq1.true) (sym c.in-1-type_id.is)
 
 pub returns-in-11 : goal.returns-in-11
 unfolding signature_of subscribed
-returns-in-11 c = ap₂ signature_of (sym c.if-kind-eq1.true) (sym c.in-1-type_id.keys2)
+returns-in-11 c = ap₂ signature_of (sym c.if-kind-eq1.true) (sym c.in-11.is)
 
 pub returns-in-10 : goal.returns-in-10
 unfolding signature_of subscribed
-returns-in-10 c = ap₂ signature_of (sym c.if-kind-eq1.true) (sym c.in-1-type_id.keys3)
+returns-in-10 c = ap₂ signature_of (sym c.if-kind-eq1.true) (sym c.in-10.is)
 
 pub returns-in_default-type_id : goal.returns-in_default-type_id
 returns-in_default-type_id c =
-    let r = c.in-1-type_id.rest in
-    let t = c.args.type-id in
-    sym (ap (λ (k : ℕ). signature_of k t) c.if-kind-eq1.true ∙ other-service t r.0.0.1 r.0.1 r.1)
+    let t = c.args.type_id in
+    sym (ap (λ (k : ℕ). signature_of k t) c.if-kind-eq1.true ∙ other-service t (omega arith) (omega arith) (omega arith))
 
 pub returns : goal.returns
 returns c =
     let a = c.args in
-    sym (other-kind a.kind a.type-id c.if-kind-eq0.false c.if-kind-eq1.false)
+    sym (other-kind a.kind a.type_id c.if-kind-eq0.false c.if-kind-eq1.false)

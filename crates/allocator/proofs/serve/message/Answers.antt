@@ -4,7 +4,6 @@ use mathlib.Core.List.{List, ◌++◌}
 use Prim.Native.Nat.{ℕ, ◌+◌, ◌-◌}
 use native.Mathlib.Nat.{sub-zero}
 use native.Mathlib.Omega.{arith}
-use borrow.Author.Tests.{not-true, not-false}
 use lib.ListN.{length, take}
 use lib.Seq.{take_all, length-take-le}
 use Rattle.bits.specs.Part.{span}
@@ -41,20 +40,20 @@ pub returns-then-not-accepts : goal.returns-then-not-accepts
 unfolding performs
 returns-then-not-accepts c =
     let a = c.args in
-    let e = ap (accepts a.first (length a.u.now)) (sym c.kept-n.ensures) ∙ sym c.accepts.ensures ∙ not-true _ c.if-not-accepts.true in
+    let e = ap (accepts a.first (length a.u.now)) (sym c.kept-n.ensures) ∙ sym c.accepts.ensures ∙ c.if-not-accepts.true in
     ap (λ (m : List ℕ). returned Silent m a.out.now) (c.gathered_count.ensures ∙ ap (with_count a.state.now) c.kept-n.ensures)
     ∙ ap (λ (v : Verdict). performs v a.state.now a.q.time (joined a.state.now a.q.time a.u.now) a.out.now) (sym (is-awaited a.state.now a.q (a.p, (a.first, a.u.now)) c.if-q-ne0.false e))
 
 pub join-g-requires : goal.join-g-requires
 join-g-requires c =
     let a = c.args in
-    let e = sym c.accepts.ensures ∙ not-false _ c.if-not-accepts.false in
+    let e = sym c.accepts.ensures ∙ c.if-not-accepts.false in
     (long-enough a.state.now c.requires, accepted-fits a.first (length a.u.now) c.kept-n.result e)
 
 pub overflow_add-len : goal.overflow_add-len
 overflow_add-len c =
     let a = c.args in
-    omega (arith, accepted-fits a.first (length a.u.now) c.kept-n.result (sym c.accepts.ensures ∙ not-false _ c.if-not-accepts.false))
+    omega (arith, accepted-fits a.first (length a.u.now) c.kept-n.result (sym c.accepts.ensures ∙ c.if-not-accepts.false))
 
 pub follow_up-requires : goal.follow_up-requires
 follow_up-requires c =
@@ -68,7 +67,7 @@ returns-then-len-lt-UNIQUE_ID c =
     let t = a.q.time in
     let u = a.u.now in
     let v : Fields = (a.p, (a.first, u)) in
-    let e = ap (accepts a.first (length u)) (sym c.kept-n.ensures) ∙ sym c.accepts.ensures ∙ not-false _ c.if-not-accepts.false in
+    let e = ap (accepts a.first (length u)) (sym c.kept-n.ensures) ∙ sym c.accepts.ensures ∙ c.if-not-accepts.false in
     let d = length-joined m t u c.requires in
     let g = is-joined m u c.join-g.result t c.kept-n.result (c.kept-n.result + length u - 0) c.kept-n.ensures (sub-zero (c.kept-n.result + length u)) c.join-g.ensures.0 in
     c.follow_up.ensures ∙ ap (λ (y : List ℕ). performs gathers m t y a.out.now) g
@@ -81,7 +80,7 @@ returns c =
     let t = a.q.time in
     let u = a.u.now in
     let v : Fields = (a.p, (a.first, u)) in
-    let e = ap (accepts a.first (length u)) (sym c.kept-n.ensures) ∙ sym c.accepts.ensures ∙ not-false _ c.if-not-accepts.false in
+    let e = ap (accepts a.first (length u)) (sym c.kept-n.ensures) ∙ sym c.accepts.ensures ∙ c.if-not-accepts.false in
     let d = length-joined m t u c.requires in
     let g = sym (take_all (c.kept-n.result + length u) c.join-g.result (omega (arith, c.join-g.ensures.1, c.if-len-lt-UNIQUE_ID.false)))
     ∙ is-joined m u c.join-g.result t c.kept-n.result (c.kept-n.result + length u) c.kept-n.ensures refl c.join-g.ensures.0 in

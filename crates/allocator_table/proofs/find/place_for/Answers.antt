@@ -6,7 +6,6 @@ use native.Mathlib.Omega.{arith}
 use lib.Dec.{ltb}
 use Rattle.allocator_table.specs.Table.{place_for}
 use Rattle.allocator_table.specs.inside.Code.{number_of}
-use borrow.Author.Tests.{not-true, not-false}
 use Rattle.allocator_table.proofs.Walk.{rest, by_count, place_none, place-hit, place-miss}
 use Rattle.allocator_table.proofs.Soundness.{long-enough, entries-few}
 use borrow.Author.Rules.{rules}
@@ -27,7 +26,7 @@ pub returns-then-not-is_less : goal.returns-then-not-is_less
 returns-then-not-is_less c =
     let a = c.args in
     let u = number_of a.u in
-    let e = ap (λ (x : ℕ). ltb x u) (sym c.unique_id.ensures) ∙ sym c.is_less.ensures ∙ not-true _ c.if-not-is_less.true in
+    let e = ap (λ (x : ℕ). ltb x u) (sym c.unique_id.ensures) ∙ sym c.is_less.ensures ∙ c.if-not-is_less.true in
     let z = place-hit a.state.now c.loop-i.i c.count-n.result (omega arith) u e in
     omega (arith, c.loop-i.invariant.1, ap (place_for u) (by_count a.state.now c.count-n.result c.count-n.ensures))
 
@@ -41,7 +40,7 @@ pub loop-i-preserved : goal.loop-i-preserved
 loop-i-preserved c =
     let a = c.args in
     let u = number_of a.u in
-    let e = ap (λ (x : ℕ). ltb x u) (sym c.unique_id.ensures) ∙ sym c.is_less.ensures ∙ not-false _ c.if-not-is_less.false in
+    let e = ap (λ (x : ℕ). ltb x u) (sym c.unique_id.ensures) ∙ sym c.is_less.ensures ∙ c.if-not-is_less.false in
     (omega arith, rw add-one (omega (arith, place-miss a.state.now c.loop-i.i c.count-n.result (omega arith) u e, c.loop-i.invariant.1)))
 
 pub returns : goal.returns

@@ -5,7 +5,6 @@ use native.Mathlib.Omega.{arith}
 use lib.Dec.{ltb}
 use Rattle.allocator_table.specs.Table.{place_for}
 use Rattle.allocator_table.specs.inside.Code.{number_of}
-use borrow.Author.Tests.{not-true, not-false}
 use Rattle.allocator_table.proofs.Walk.{rest, by_count, place_none, place-hit, place-miss}
 use Rattle.allocator_table.proofs.Soundness.{long-enough, entries-few}
 use borrow.Author.Rules.{rules}

@@ -5,7 +5,6 @@ use mathlib.Core.List.{List}
 use Prim.Native.Nat.{ℕ, suc, ◌-◌, ◌≤◌}
 use native.Mathlib.Nat.{sub-zero}
 use native.Mathlib.Omega.{arith}
-use borrow.Author.Tests.{not-true, not-false}
 use lib.ListN.{set}
 use Rattle.bits.specs.Tabulate.{tabulate}
 use Rattle.allocator_table.specs.Layout.{node_at, entry_at}
@@ -41,7 +40,7 @@ returns-then-not-entry_fits c =
     let a = l.args in
     let m = a.state.now in
     let j = l.loop-i.i - 1 in
-    let f = sym k.entry_fits.ensures ∙ not-true _ c.if-not-entry_fits.true in
+    let f = sym k.entry_fits.ensures ∙ c.if-not-entry_fits.true in
     sym (unsound-before m a.n j (omega arith) (sound-step m j a.n (omega arith) ∙ ap (λ b. b && sound (rest m (suc j) a.n)) f)) ∙ ap (λ (k : ℕ). sound (tabulate (entry_at m) 0 k)) (sub-zero a.n)
 
 pub node-node-requires : goal.node-node-requires
@@ -50,7 +49,7 @@ node-node-requires c = omega arith
 pub bounds-seen-node : goal.bounds-seen-node
 bounds-seen-node c =
     let a = c.args in
-    let w = node-small (entry_at a.state.now (c.loop-i.i - 1)) _ (sym c.entry_fits.ensures ∙ not-false _ c.if-not-entry_fits.false) in
+    let w = node-small (entry_at a.state.now (c.loop-i.i - 1)) _ (sym c.entry_fits.ensures ∙ c.if-not-entry_fits.false) in
     omega (arith, c.node-node.ensures, c.loop-i.invariant.1.long)
 
 pub loop-i-smaller : goal.loop-i-smaller
@@ -62,7 +61,7 @@ loop-i-preserved c =
     let m = a.state.now in
     let j = c.loop-i.i - 1 in
     let e : c.loop-i.i ≡ suc j = omega arith in
-    let f = sym c.entry_fits.ensures ∙ not-false _ c.if-not-entry_fits.false in
+    let f = sym c.entry_fits.ensures ∙ c.if-not-entry_fits.false in
     let s = ap (λ (i : ℕ). sound (rest m i a.n)) (sym e) ∙ c.loop-i.invariant.0.1 in
     let q = rest-step m j a.n (omega arith) in
     let w = seen_more c.loop-i.seen (entry_at m j) (rest m (suc j) a.n) (omega (arith, node-small (entry_at m j) _ f)) (subst (λ (i : ℕ). Seen c.loop-i.seen (rest m i a.n)) e c.loop-i.invariant.1) in (

@@ -21,4 +21,4 @@ pub returns : goal.returns
 returns c =
     let a = c.args in
     let m = a.out.now in
-    write_as 4 a.fields.now _ m (omega arith) _ _ (c.encode.ensures ∙ ap (λ (p : ℤ × ℤ). written allocation (p.0, (p.1, a.unique-id.now)) m) (both (counted _ _ c.count.ensures) (counted _ _ c.count-2.ensures))) _ c.of_written.ensures
+    write_as 4 a.fields.now _ m (omega arith) _ _ (c.encode.ensures ∙ ap (λ (p : ℤ × ℤ). written allocation (p.0, (p.1, a.unique_id.now)) m) (both (counted _ _ c.count.ensures) (counted _ _ c.count-2.ensures))) _ c.of_written.ensures

@@ -1,5 +1,4 @@
 -- `battery_info::encode` meets its contract: the message call on the row's numbers; 17 for what is no float.
-use borrow.Author.Tests.{not-true, not-false}
 use borrow.Author.Rules.{rules}
 use mathlib.Core.Path.{◌≡◌, refl, sym, ap, ◌∙◌}
 use mathlib.Core.Bool.{Bool, true, false, not}
@@ -28,10 +27,10 @@ returns-then-fields-lt15 c = let a = c.args in write-short 15 a.fields.now _ a.o
 pub returns-then-not-are_floats : goal.returns-then-not-are_floats
 returns-then-not-are_floats c =
     let a = c.args in
-    write-refused 15 a.fields.now _ a.out.now (omega arith) 17 (no_floats _ _ (sym c.are_floats.ensures ∙ not-true _ c.if-not-are_floats.true))
+    write-refused 15 a.fields.now _ a.out.now (omega arith) 17 (no_floats _ _ (sym c.are_floats.ensures ∙ c.if-not-are_floats.true))
 
 pub from-requires : goal.from-requires
-from-requires c = (omega arith, sym c.are_floats.ensures ∙ not-false _ c.if-not-are_floats.false)
+from-requires c = (omega arith, sym c.are_floats.ensures ∙ c.if-not-are_floats.false)
 
 pub of_written-requires : goal.of_written-requires
 of_written-requires c =
@@ -42,4 +41,4 @@ pub returns : goal.returns
 returns c =
     let a = c.args in
     let m = a.out.now in
-    write_as 15 a.fields.now _ m (omega arith) _ _ (c.encode_raw.ensures ∙ ap (λ (x : Raw). written battery_info (raw_values x name_only a.model-name.now) m) c.from.ensures ∙ ap (λ (r : Answer (List ℕ)). wrote r m) (floats _ _ (sym c.are_floats.ensures ∙ not-false _ c.if-not-are_floats.false))) _ c.of_written.ensures
+    write_as 15 a.fields.now _ m (omega arith) _ _ (c.encode_raw.ensures ∙ ap (λ (x : Raw). written battery_info (raw_values x name_only a.model_name.now) m) c.from.ensures ∙ ap (λ (r : Answer (List ℕ)). wrote r m) (floats _ _ (sym c.are_floats.ensures ∙ c.if-not-are_floats.false))) _ c.of_written.ensures

@@ -23,5 +23,5 @@ pub returns : goal.returns
 returns c =
     let a = c.args in
     let m = a.out.now in
-    let l : Values lists = (a.unique-id.now, (a.certificate-of-authenticity.now, a.name.now)) in
+    let l : Values lists = (a.unique_id.now, (a.certificate_of_authenticity.now, a.name.now)) in
     write_as 18 a.fields.now _ m (omega arith) _ _ (c.encode.ensures ∙ ap (λ (x : Numbers). written response (number_values x lists l) m) c.from-m.ensures) _ c.of_written.ensures

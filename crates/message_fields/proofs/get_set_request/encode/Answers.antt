@@ -35,5 +35,5 @@ returns c =
     let a = c.args in
     let m = a.out.now in
     write_as 7 a.fields.now _ m (omega arith) _ _
-    (c.encode.ensures ∙ ap (λ (p : ℤ × Value). written request (p.0, value_values p.1 a.string-value.now 5 name_only a.name.now) m) (both (counted _ _ c.count.ensures) c.from-v.ensures))
+    (c.encode.ensures ∙ ap (λ (p : ℤ × Value). written request (p.0, value_values p.1 a.string_value.now 5 name_only a.name.now) m) (both (counted _ _ c.count.ensures) c.from-v.ensures))
     _ c.of_written.ensures

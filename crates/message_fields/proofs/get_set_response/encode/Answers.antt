@@ -54,5 +54,5 @@ returns c =
     let a = c.args in
     let m = a.out.now in
     write_as 14 a.fields.now _ m (omega arith) _ _
-    (c.encode.ensures ∙ ap (λ (p : (Value × Value) × (Value × Value)). written response (response_values p.0.0 a.string-value.now p.0.1 a.default-string-value.now p.1.0 p.1.1 a.name.now) m) (both (both c.from-v.ensures c.from-d.ensures) (both c.from-max.ensures c.from-min.ensures)))
+    (c.encode.ensures ∙ ap (λ (p : (Value × Value) × (Value × Value)). written response (response_values p.0.0 a.string_value.now p.0.1 a.default_string_value.now p.1.0 p.1.1 a.name.now) m) (both (both c.from-v.ensures c.from-d.ensures) (both c.from-max.ensures c.from-min.ensures)))
     _ c.of_written.ensures
