@@ -31,7 +31,10 @@ pub entry_fits-requires : goal.entry_fits-requires
 entry_fits-requires c =
     let a = c.args in
     let e : c.loop-i.i ≡ suc (c.loop-i.i - 1) = omega arith in
-    (((omega arith, omega arith), omega arith), subst (λ (k : ℕ). Seen c.loop-i.seen (rest a.state.now k a.n)) e c.loop-i.invariant.1)
+    record {
+      i_lt_n = ((omega arith, omega arith), omega arith);
+      seen = subst (λ (k : ℕ). Seen c.loop-i.seen (rest a.state.now k a.n)) e c.loop-i.invariant.1;
+    }
 
 pub returns-then-not-entry_fits : goal.returns-then-not-entry_fits
 returns-then-not-entry_fits c =

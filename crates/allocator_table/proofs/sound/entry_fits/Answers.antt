@@ -29,7 +29,7 @@ returns-then-seen-node-ne0 c =
     let m = a.state.now in
     let t = rest m (suc a.i) a.n in
     unfit-held (entry_at m a.i) t (omega (arith, c.node-node.ensures)) (omega (arith, c.node-node.ensures))
-    (ap (λ (x : ℕ). holds x t) (sym c.node-node.ensures) ∙ seen-held a.seen.now t c.requires.1 c.node-node.result (omega arith) c.if-seen-node-ne0.true)
+    (ap (λ (x : ℕ). holds x t) (sym c.node-node.ensures) ∙ seen-held a.seen.now t c.requires.seen c.node-node.result (omega arith) c.if-seen-node-ne0.true)
 
 pub returns-then-next-n : goal.returns-then-next-n
 returns-then-next-n c =
@@ -39,7 +39,7 @@ returns-then-next-n c =
     c.is_less.ensures ∙ ap₂ ltb c.unique_id.ensures (c.unique_id-then-next-n.ensures ∙ ap (unique_at m) (add-one a.i))
     ∙ below_next m (suc a.i) a.n (unique_at m a.i) (omega arith)
     ∙ by_order (entry_at m a.i) t (omega (arith, c.node-node.ensures)) (omega (arith, c.node-node.ensures))
-    (ap (λ (x : ℕ). holds x t) (sym c.node-node.ensures) ∙ unseen a.seen.now t c.requires.1 c.node-node.result (omega arith) c.if-seen-node-ne0.false)
+    (ap (λ (x : ℕ). holds x t) (sym c.node-node.ensures) ∙ unseen a.seen.now t c.requires.seen c.node-node.result (omega arith) c.if-seen-node-ne0.false)
 
 pub returns : goal.returns
 returns c =
@@ -48,4 +48,4 @@ returns c =
     let t = rest m (suc a.i) a.n in
     below_none m (suc a.i) a.n (unique_at m a.i) (omega arith)
     ∙ by_order (entry_at m a.i) t (omega (arith, c.node-node.ensures)) (omega (arith, c.node-node.ensures))
-    (ap (λ (x : ℕ). holds x t) (sym c.node-node.ensures) ∙ unseen a.seen.now t c.requires.1 c.node-node.result (omega arith) c.if-seen-node-ne0.false)
+    (ap (λ (x : ℕ). holds x t) (sym c.node-node.ensures) ∙ unseen a.seen.now t c.requires.seen c.node-node.result (omega arith) c.if-seen-node-ne0.false)

@@ -23,14 +23,17 @@ placed m u m' p x n e f l w =
     w ∙ ap (λ (k : ℕ). with_entry_at m k u n) (e ∙ ap (λ (k : ℕ). place_for k (table_of m)) (f ∙ ap le (take_all unique_id_max u (omega arith))))
 
 pub count-n-requires : goal.count-n-requires
-count-n-requires c = long-enough _ c.requires.0.0
+count-n-requires c = long-enough _ c.requires.state_value.0
 
 pub entry_at-requires : goal.entry_at-requires
 entry_at-requires c =
-    let l = long-enough c.args.state.now c.requires.0.0 in
+    let l = long-enough c.args.state.now c.requires.state_value.0 in
     let q = place_in c.args.state.now (number_of c.read.result) in
-    ((l, (omega (arith, q, c.place_for-p.ensures, c.count-n.ensures), omega (arith, c.count-n.ensures))), (c.requires.1, c.count-n.ensures))
+    record {
+      size_in_bounds = (l, (omega (arith, q, c.place_for-p.ensures, c.count-n.ensures), omega (arith, c.count-n.ensures)));
+      u_len = (c.requires.u_len, c.count-n.ensures);
+    }
 
 pub returns : goal.returns
 returns c =
-    placed c.args.state.now c.args.u.now c.entry_at.new.state c.place_for-p.result _ c.args.node c.place_for-p.ensures c.read.ensures c.requires.1 c.entry_at.ensures
+    placed c.args.state.now c.args.u.now c.entry_at.new.state c.place_for-p.result _ c.args.node c.place_for-p.ensures c.read.ensures c.requires.u_len c.entry_at.ensures
