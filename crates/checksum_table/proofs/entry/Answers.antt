@@ -1,5 +1,4 @@
 -- `entry` meets its contract.
-use borrow.Author.Rules.{rules}
 use Rattle.checksum.specs.Crc.{crc_over}
 use Rattle.checksum_table.proofs.entry.Goals as goal
 

@@ -1,11 +1,8 @@
-use mathlib.Core.Path.{◌≡◌, refl, sym, ◌∙◌}
+use mathlib.Core.Path.{◌≡◌}
 use Prim.Native.Nat.{◌-◌, ◌≤◌}
-use native.Mathlib.Omega.{arith}
-use borrow.Author.Rules.{rules}
 use lib.ListN.{length, drop}
 use Rattle.checksum.specs.Crc.{crc_over}
 use Rattle.checksum.specs.Crc16.{ccitt}
-use Rattle.checksum.proofs.Linear.{over-turn, over_done}
 use Rattle.checksum_table.proofs.steps.Given as goal
 
 abbrev pub invariant-loop-i : goal.invariant-loop-i

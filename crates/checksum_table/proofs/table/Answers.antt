@@ -1,12 +1,11 @@
 -- `table` meets its contract: the entries so far are right.
 use mathlib.Core.Path.{◌≡◌, refl, ap, ◌∙◌}
-use Prim.Native.Nat.{◌-◌, ◌%◌, ◌≤◌}
+use Prim.Native.Nat.{◌-◌, ◌%◌}
 use native.Mathlib.Omega.{arith}
-use borrow.Author.Rules.{rules}
-use lib.ListN.{length, length-set}
+use lib.ListN.{length-set}
 use Rattle.checksum.specs.Crc.{crc_byte}
 use Rattle.checksum.specs.Crc16.{ccitt}
-use Rattle.checksum_table.proofs.Bytes.{Entries, entry_more}
+use Rattle.checksum_table.proofs.Bytes.{entry_more}
 use Rattle.checksum_table.proofs.table.Goals as goal
 
 pub loop-i-init : goal.loop-i-init

@@ -1,11 +1,7 @@
-use mathlib.Core.Path.{◌≡◌, refl, ap, ◌∙◌}
-use Prim.Native.Nat.{◌-◌, ◌%◌, ◌≤◌}
-use native.Mathlib.Omega.{arith}
-use borrow.Author.Rules.{rules}
-use lib.ListN.{length, length-set}
-use Rattle.checksum.specs.Crc.{crc_byte}
-use Rattle.checksum.specs.Crc16.{ccitt}
-use Rattle.checksum_table.proofs.Bytes.{Entries, entry_more}
+use mathlib.Core.Path.{◌≡◌}
+use Prim.Native.Nat.{◌-◌, ◌≤◌}
+use lib.ListN.{length}
+use Rattle.checksum_table.proofs.Bytes.{Entries}
 use Rattle.checksum_table.proofs.table.Given as goal
 
 abbrev pub invariant-loop-i : goal.invariant-loop-i

@@ -1,6 +1,5 @@
 -- `number` meets its contract.
 use native.Mathlib.Omega.{arith}
-use borrow.Author.Rules.{rules}
 use Rattle.row.proofs.number.Goals as goal
 
 pub value-requires : goal.value-requires

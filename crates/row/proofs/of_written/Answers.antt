@@ -1,7 +1,6 @@
 -- `of_written` meets its contract, by cases.
-use mathlib.Core.Path.{sym, ap, ◌∙◌}
+use mathlib.Core.Path.{ap}
 use native.Mathlib.Omega.{arith}
-use borrow.Author.Rules.{rules}
 use Rattle.shape.specs.Answer.{answer_of}
 use Rattle.shape.specs.declared.answer.Written.{Written}
 use Rattle.row.specs.Row.{word_of}

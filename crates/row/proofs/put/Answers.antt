@@ -1,6 +1,5 @@
 -- `put` meets its contract.
 use native.Mathlib.Omega.{arith}
-use borrow.Author.Rules.{rules}
 use Rattle.row.proofs.Rows.{row-short, row-placed}
 use Rattle.row.proofs.put.Goals as goal
 

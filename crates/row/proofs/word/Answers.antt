@@ -1,5 +1,4 @@
 -- `word` meets its contract: the low bits of a number that 64 bits hold.
-use borrow.Author.Rules.{rules}
 use Rattle.row.proofs.Rows.{word-of}
 use Rattle.row.proofs.word.Goals as goal
 

@@ -3,7 +3,6 @@ use lib.Pow.{pow_pos}
 use mathlib.Core.Path.{ap}
 use Prim.Native.Nat.{ℕ, ◌^◌, ◌<◌, ◌%◌}
 use native.Mathlib.Omega.{arith}
-use borrow.Author.Rules.{rules}
 use Rattle.bits.proofs.field.lowest.Goals as goal
 
 pub nonzero_rem-result : goal.nonzero_rem-result

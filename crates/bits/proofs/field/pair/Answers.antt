@@ -1,7 +1,6 @@
 -- `field::pair` meets its contract.
 use Prim.Native.Nat.{◌+◌}
 use native.Mathlib.Omega.{arith}
-use borrow.Author.Rules.{rules}
 use Rattle.bits.proofs.field.pair.Goals as goal
 
 pub overflow_mul-result : goal.overflow_mul-result

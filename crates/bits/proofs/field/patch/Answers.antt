@@ -3,7 +3,6 @@ use Rattle.bits.proofs.Window.{old-le, new-lt, patch-is}
 use Prim.Native.Nat.{ℕ, ◌+◌, ◌-◌, ◌*◌}
 use mathlib.Core.Path.{◌≡◌, refl, ◌∙◌}
 use native.Mathlib.Omega.{arith}
-use borrow.Author.Rules.{rules}
 use Rattle.bits.proofs.field.patch.Goals as goal
 
 product : {a b x y : ℕ} → a ≡ x → b ≡ y → a * b ≡ x * y

@@ -2,7 +2,6 @@
 use lib.Pow.{pow-lt}
 use Prim.Native.Nat.{◌^◌, ◌<◌}
 use native.Mathlib.Omega.{arith}
-use borrow.Author.Rules.{rules}
 use Rattle.bits.proofs.field.power.Goals as goal
 
 pub returns : goal.returns

@@ -14,7 +14,6 @@ use mathlib.Core.List.{List}
 use mathlib.Core.Path.{◌≡◌, refl, sym, ap, ◌∙◌}
 use native.Mathlib.Numerals.{add-one}
 use native.Mathlib.Omega.{arith}
-use borrow.Author.Rules.{rules}
 use Rattle.bits.proofs.field.put_octet.Goals as goal
 
 none : (m : List ℕ) (at k v : ℕ) → Octets m → k ≡ 0 → m ≡ store m at (digits k v)

@@ -1,11 +1,7 @@
-use Rattle.bits.proofs.Bytes.{length-store, store-store}
-use Rattle.bits.proofs.Digits.{length_digits}
-use Rattle.bits.specs.Order.{digits, octets, to_bits, store}
+use Rattle.bits.specs.Order.{octets, store}
 use lib.ListN.{length}
-use Prim.Native.Nat.{ℕ, suc, ◌+◌, ◌-◌, ◌*◌, ◌/◌, ◌≤◌, ◌<◌, ◌%◌}
-use mathlib.Core.List.{List}
-use mathlib.Core.Path.{◌≡◌, refl, sym, ap, ◌∙◌}
-use native.Mathlib.Omega.{arith}
+use Prim.Native.Nat.{◌+◌, ◌-◌, ◌*◌, ◌≤◌, ◌%◌}
+use mathlib.Core.Path.{◌≡◌}
 use Rattle.bits.proofs.field.write.Given as goal
 
 abbrev pub invariant-loop-i : goal.invariant-loop-i

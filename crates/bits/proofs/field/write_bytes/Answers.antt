@@ -1,7 +1,6 @@
 -- `field::write_bytes` meets its contract: bytes in their place are their bits in theirs.
 use mathlib.Core.Path.{◌∙◌}
 use native.Mathlib.Omega.{arith}
-use borrow.Author.Rules.{rules}
 use Rattle.bits.proofs.Octets.{octets-all}
 use Rattle.bits.proofs.Window.{splice-store}
 use Rattle.bits.proofs.field.write_bytes.Goals as goal

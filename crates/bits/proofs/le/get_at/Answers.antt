@@ -4,7 +4,6 @@ use Prim.Native.Nat.{ℕ}
 use native.Mathlib.Nat.{add-sub_cancel_left}
 use Rattle.bits.specs.Little.{le}
 use Rattle.bits.specs.Part.{span}
-use borrow.Author.Rules.{rules}
 use Rattle.bits.proofs.le.get_at.Goals as goal
 
 pub returns : goal.returns

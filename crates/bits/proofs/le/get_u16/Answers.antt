@@ -1,7 +1,6 @@
 -- `le::get_u16` meets its contract: two bytes stand for the sum of their values.
 use native.Mathlib.Omega.{arith}
 use Rattle.bits.proofs.Little.{le-two}
-use borrow.Author.Rules.{rules}
 use Rattle.bits.proofs.le.get_u16.Goals as goal
 
 pub returns : goal.returns

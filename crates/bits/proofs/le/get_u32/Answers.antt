@@ -6,7 +6,6 @@ use lib.ListN.{get_or}
 use Rattle.bits.specs.Little.{le}
 use Rattle.bits.specs.Part.{span}
 use Rattle.bits.proofs.Little.{le_four}
-use borrow.Author.Rules.{rules}
 use Rattle.bits.proofs.le.get_u32.Goals as goal
 
 pub returns : goal.returns

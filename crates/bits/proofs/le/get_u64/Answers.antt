@@ -1,7 +1,6 @@
 -- `le::get_u64` meets its contract: two numbers of four bytes.
 use native.Mathlib.Omega.{arith}
 use Rattle.bits.proofs.Little.{le_low}
-use borrow.Author.Rules.{rules}
 use Rattle.bits.proofs.le.get_u64.Goals as goal
 
 pub returns : goal.returns

@@ -7,7 +7,6 @@ use lib.ListN.{length, take, drop}
 use Rattle.bits.specs.Little.{le_bytes}
 use Rattle.bits.proofs.Little.{length-le_bytes}
 use Rattle.bits.proofs.Splice.{mid-splice, length-span}
-use borrow.Author.Rules.{rules}
 use Rattle.bits.proofs.le.put_at.Goals as goal
 
 pub returns : goal.returns

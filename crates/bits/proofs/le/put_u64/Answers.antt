@@ -7,7 +7,6 @@ use Rattle.bits.specs.Little.{le_bytes}
 use Rattle.bits.specs.Part.{splice}
 use Rattle.bits.proofs.Little.{length-le_bytes, le_bytes-four}
 use Rattle.bits.proofs.Splice.{splice-next}
-use borrow.Author.Rules.{rules}
 use Rattle.bits.proofs.le.put_u64.Goals as goal
 
 pub returns : goal.returns

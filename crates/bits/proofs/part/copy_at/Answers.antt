@@ -2,7 +2,6 @@
 use mathlib.Core.Path.{refl}
 use lib.ListN.{length}
 use Rattle.bits.proofs.Splice.{mid-splice}
-use borrow.Author.Rules.{rules}
 use Rattle.bits.proofs.part.copy_at.Goals as goal
 
 pub returns : goal.returns

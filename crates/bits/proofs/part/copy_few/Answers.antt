@@ -5,7 +5,6 @@ use Prim.Native.Nat.{ℕ}
 use native.Mathlib.Omega.{arith}
 use lib.Seq.{take_all}
 use Rattle.bits.specs.Part.{splice}
-use borrow.Author.Rules.{rules}
 use Rattle.bits.proofs.part.copy_few.Goals as goal
 
 pub returns-then-src-eq7 : goal.returns-then-src-eq7

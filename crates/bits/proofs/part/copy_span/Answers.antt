@@ -3,7 +3,6 @@ use mathlib.Core.Path.{ap, ◌∙◌}
 use Prim.Native.Nat.{ℕ}
 use native.Mathlib.Nat.{add-sub_cancel_left}
 use Rattle.bits.specs.Part.{splice, span}
-use borrow.Author.Rules.{rules}
 use Rattle.bits.proofs.part.copy_span.Goals as goal
 
 pub returns : goal.returns

@@ -7,7 +7,6 @@ use borrow.Author.Tests.{eqb-true}
 use lib.Dec.{eqb}
 use Rattle.blocks.specs.inside.Bit.{bit_at, excluding_if, excluding}
 use Rattle.blocks.proofs.Bits.{shifted, power_le}
-use borrow.Author.Rules.{rules}
 use Rattle.blocks.proofs.set.exclude.Goals as goal
 
 by-test : (n b : ℕ) (t r : Bool) → r ≡ eqb (bit_at b n) 1 → r ≡ t → excluding_if t n b ≡ excluding n b

@@ -3,7 +3,6 @@ use mathlib.Core.Path.{ap}
 use Prim.Native.Nat.{ℕ}
 use lib.Dec.{eqb}
 use Rattle.blocks.proofs.Bits.{bit-shift}
-use borrow.Author.Rules.{rules}
 use Rattle.blocks.proofs.set.has.Goals as goal
 
 pub returns : goal.returns

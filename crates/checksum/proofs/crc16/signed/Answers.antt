@@ -1,8 +1,7 @@
 -- `crc16::signed` meets its contract: what is left of the signature, from the state so far, gives the whole.
 use mathlib.Core.Path.{◌≡◌, refl, sym, ap, ◌∙◌}
-use Prim.Native.Nat.{ℕ, suc, ◌-◌, ◌/◌, ◌%◌, ◌≤◌, ◌<◌}
+use Prim.Native.Nat.{ℕ, suc, ◌-◌, ◌/◌, ◌%◌, ◌<◌}
 use native.Mathlib.Omega.{arith}
-use borrow.Author.Rules.{rules}
 use Rattle.checksum.specs.Crc.{crc_byte, crc_over}
 use Rattle.checksum.specs.Crc16.{ccitt}
 use Rattle.bits.specs.Little.{le_bytes}

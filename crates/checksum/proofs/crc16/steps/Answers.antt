@@ -1,10 +1,7 @@
 -- `crc16::steps` meets its contract: the bytes still to come, from the register so far, give what all of them give from the start.
-use mathlib.Core.Path.{◌≡◌, refl, sym, ◌∙◌}
-use Prim.Native.Nat.{◌-◌, ◌≤◌}
+use mathlib.Core.Path.{refl, sym, ◌∙◌}
+use Prim.Native.Nat.{◌-◌}
 use native.Mathlib.Omega.{arith}
-use borrow.Author.Rules.{rules}
-use lib.ListN.{length, drop}
-use Rattle.checksum.specs.Crc.{crc_over}
 use Rattle.checksum.specs.Crc16.{ccitt}
 use Rattle.checksum.proofs.Linear.{over-turn, over_done}
 use Rattle.checksum.proofs.crc16.steps.Goals as goal

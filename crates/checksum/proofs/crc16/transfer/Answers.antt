@@ -2,7 +2,6 @@
 use mathlib.Core.Path.{◌≡◌, sym, ap, ◌∙◌}
 use mathlib.Core.List.{List}
 use Prim.Native.Nat.{ℕ}
-use borrow.Author.Rules.{rules}
 use Rattle.checksum.specs.Crc.{crc_over}
 use Rattle.checksum.specs.Crc16.{ccitt, checksum}
 use Rattle.bits.specs.Little.{le_bytes}

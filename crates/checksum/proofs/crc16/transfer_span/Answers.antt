@@ -4,7 +4,6 @@ use Prim.Native.Nat.{ℕ}
 use native.Mathlib.Nat.{add-sub_cancel_left}
 use Rattle.checksum.specs.Crc16.{checksum}
 use Rattle.bits.specs.Part.{span}
-use borrow.Author.Rules.{rules}
 use Rattle.checksum.proofs.crc16.transfer_span.Goals as goal
 
 pub returns : goal.returns

@@ -9,7 +9,6 @@ use Rattle.bits.specs.Part.{splice}
 use Rattle.checksum.specs.Signature.{hash_from, extended}
 use Rattle.bits.proofs.Little.{length-le_bytes}
 use Rattle.bits.proofs.Splice.{splice-splice, splice_all}
-use borrow.Author.Rules.{rules}
 use Rattle.checksum.proofs.crc64.extend.Goals as goal
 
 -- the two numbers fill the sixteen bytes

@@ -3,7 +3,6 @@ use mathlib.Core.Path.{ap}
 use Prim.Native.Nat.{ℕ}
 use lib.Bits.{bit_xor}
 use Rattle.checksum.specs.Signature.{hash_from}
-use borrow.Author.Rules.{rules}
 use Rattle.checksum.proofs.crc64.hash_from.Goals as goal
 
 pub returns : goal.returns

@@ -1,9 +1,6 @@
-use mathlib.Core.Path.{◌≡◌, sym, ap, ◌∙◌}
-use Prim.Native.Nat.{ℕ, suc, ◌*◌, ◌-◌, ◌%◌, ◌≤◌, ◌<◌}
-use native.Mathlib.Omega.{arith}
-use borrow.Author.Rules.{rules}
-use lib.Bits.{bit_xor}
-use Rattle.checksum.specs.Crc.{shift, shifts, crc_byte}
+use mathlib.Core.Path.{◌≡◌}
+use Prim.Native.Nat.{◌-◌, ◌≤◌}
+use Rattle.checksum.specs.Crc.{shifts, crc_byte}
 use Rattle.checksum.specs.Signature.{we}
 use Rattle.checksum.proofs.crc64.step.Given as goal
 
