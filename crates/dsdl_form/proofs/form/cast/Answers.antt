@@ -2,23 +2,19 @@
 use mathlib.Core.Path.{sym, ap}
 use Rattle.dsdl.specs.Form.{cast_form}
 use Rattle.dsdl_form.proofs.Placements.{fits-as, as-text}
-use borrow.Author.Rules.{rules}
 use Rattle.dsdl_form.proofs.form.cast.Goals as goal
 
 pub text-requires : goal.text-requires
 text-requires c =
-    let enum_told = c.enum_told-1 in
-    fits-as c.args.at (ap cast_form enum_told.given.1) c.requires
+    fits-as c.args.at (ap cast_form c.in-Unsaid.is) c.requires
 
 pub text-requires-in-Saturated : goal.text-requires-in-Saturated
 text-requires-in-Saturated c =
-    let enum-told2 = c.enum_told-in-Saturated-1 in
-    fits-as c.args.at (ap cast_form enum-told2.given.1) c.requires
+    fits-as c.args.at (ap cast_form c.in-Saturated.is) c.requires
 
 pub text-requires-in-Truncated : goal.text-requires-in-Truncated
 text-requires-in-Truncated c =
-    let enum-told3 = c.enum_told-in-Truncated-1 in
-    fits-as c.args.at (ap cast_form enum-told3.given.1) c.requires
+    fits-as c.args.at (ap cast_form c.in-Truncated.is) c.requires
 
 pub returns-in-Unsaid : goal.returns-in-Unsaid
 returns-in-Unsaid c = as-text (sym (ap cast_form c.in-Unsaid.is)) c.text.ensures

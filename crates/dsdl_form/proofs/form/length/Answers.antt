@@ -1,7 +1,6 @@
 -- `form::length` meets its contract.
 use native.Mathlib.Omega.{arith}
 use Rattle.dsdl_form.proofs.Bounds.{form-bound}
-use borrow.Author.Rules.{rules}
 use Rattle.dsdl_form.proofs.form.length.Goals as goal
 
 pub place-requires : goal.place-requires

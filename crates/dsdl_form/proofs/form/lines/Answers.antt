@@ -1,15 +1,14 @@
 -- `form::lines` meets its contract.
-use mathlib.Core.Path.{◌≡◌, sym, ap, ◌∙◌}
+use mathlib.Core.Path.{sym, ap, ◌∙◌}
 use mathlib.Core.List.{[], append-nil}
-use Prim.Native.Nat.{◌-◌, ◌≤◌}
+use Prim.Native.Nat.{◌-◌}
 use native.Mathlib.Omega.{arith}
-use lib.ListN.{length}
 use Rattle.bits.specs.Part.{span}
-use Rattle.dsdl_text.specs.inside.Lines.{end_of, after_end}
+use Rattle.dsdl_text.specs.inside.Lines.{after_end}
 use Rattle.dsdl_line.specs.Line.{line_of}
 use Rattle.dsdl.specs.Definition.{lines_of}
 use Rattle.dsdl.specs.Form.{line_form, lines_form}
-use Rattle.dsdl_form.proofs.Placements.{Left, all_left, less-left, none_left, left-fits, left_as}
+use Rattle.dsdl_form.proofs.Placements.{all_left, less-left, none_left, left-fits, left_as}
 use Rattle.dsdl_form.proofs.Sizes.{part_length}
 use Rattle.dsdl_form.proofs.Forms.{onward, one_line, final-line}
 use Rattle.dsdl_form.proofs.form.lines.Goals as goal
@@ -52,17 +51,14 @@ loop-end-smaller c =
 
 pub loop-end-preserved : goal.loop-end-preserved
 loop-end-preserved c =
-    let loop-test = c.loop-end-test in
-    let added = c.added-p in
-    let next = c.next-from in
     let s = c.args.space.now in
     let t = c.args.text.now in
     let i = c.loop-end.invariant in
     let x = line_form s (line_of (span t c.loop-end.from (c.loop-end.end - c.loop-end.from))) in
     let r = onward s t (after_end t c.loop-end.end) in
     let e = c.end-end-in-loop-end.ensures in
-    let f = less-left x r (left_as (one_line s t c.loop-end.from c.loop-end.end i.0 loop-test.true) i.1.1.1) added.ensures in
-    (e.0, (e.1.0, (e.1.1, left_as (ap (onward s t) (sym next.ensures.0)) f)))
+    let f = less-left x r (left_as (one_line s t c.loop-end.from c.loop-end.end i.0 c.loop-end-test.true) i.1.1.1) c.added-p.ensures in
+    (e.0, (e.1.0, (e.1.1, left_as (ap (onward s t) (sym c.next-from.ensures.0)) f)))
 
 pub slice_bounds-added-count-2 : goal.slice_bounds-added-count-2
 slice_bounds-added-count-2 c = omega arith
@@ -82,14 +78,12 @@ added-requires c = let s = c.args.space.now in
     (part_length t (c.loop-end.end - c.loop-end.from) c.loop-end.from c.requires.0, left-fits x [] (left_as (sym (append-nil x)) f) c.requires.1)
 
 pub shape_of-out : goal.shape_of-out
-shape_of-out c = c.added.auto.0 ∙ c.loop-end.invariant.1.1.1.same
+shape_of-out c = c.added.auto.out ∙ c.loop-end.invariant.1.1.1.same
 
 pub returns : goal.returns
 returns c =
-    let loop-test = c.loop-end-test in
-    let added2 = c.added in
     let s = c.args.space.now in
     let t = c.args.text.now in
     let i = c.loop-end.invariant in
     let x = line_form s (line_of (span t c.loop-end.from (c.loop-end.end - c.loop-end.from))) in
-    none_left x (left_as (final-line s t c.loop-end.from c.loop-end.end i.0 loop-test.false) i.1.1.1) added2.ensures
+    none_left x (left_as (final-line s t c.loop-end.from c.loop-end.end i.0 c.loop-end-test.false) i.1.1.1) c.added.ensures

@@ -7,7 +7,6 @@ use Rattle.dsdl.specs.Definition.{lines_of}
 use Rattle.dsdl.specs.Form.{lines_form}
 use Rattle.dsdl_form.proofs.Placements.{next, front, behind, as-text, fits-as}
 use Rattle.dsdl_form.proofs.Forms.{space-is}
-use borrow.Author.Rules.{rules}
 use Rattle.dsdl_form.proofs.form.place.Goals as goal
 
 pub text-p-requires : goal.text-p-requires
@@ -16,17 +15,12 @@ text-p-requires c =
 
 pub lines-requires : goal.lines-requires
 lines-requires c =
-    let text = c.text-p in
-    let space = c.space-n in
     let n = c.args.name.now in
     let f : List ℕ → List ℕ = λ (x : List ℕ). lines_form x (lines_of c.args.text.now) in
-    (c.requires.0, fits-as text.result (ap f (sym (space-is n space.result space.ensures.0))) (behind n (f (space_of n)) text.ensures c.requires.1))
+    (c.requires.0, fits-as c.text-p.result (ap f (sym (space-is n c.space-n.result c.space-n.ensures.0))) (behind n (f (space_of n)) c.text-p.ensures c.requires.1))
 
 pub returns : goal.returns
 returns c =
-    let text = c.text-p in
-    let space = c.space-n in
-    let lines = c.lines in
     let n = c.args.name.now in
     let f : List ℕ → List ℕ = λ (x : List ℕ). lines_form x (lines_of c.args.text.now) in
-    next n (f (space_of n)) text.ensures (as-text (ap f (space-is n space.result space.ensures.0)) lines.ensures)
+    next n (f (space_of n)) c.text-p.ensures (as-text (ap f (space-is n c.space-n.result c.space-n.ensures.0)) c.lines.ensures)

@@ -1,6 +1,5 @@
 -- `form::word_of` meets its contract.
 use Rattle.dsdl_form.proofs.Words.{empty, outside, cut}
-use borrow.Author.Rules.{rules}
 use Rattle.dsdl_form.proofs.form.word_of.Goals as goal
 
 pub returns-then-end-at : goal.returns-then-end-at

@@ -1,6 +1,5 @@
 -- `place::text` meets its contract.
 use Rattle.dsdl_form.proofs.Placements.{no_room}
-use borrow.Author.Rules.{rules}
 use Rattle.dsdl_form.proofs.place.text.Goals as goal
 
 pub returns-then-out-end : goal.returns-then-out-end

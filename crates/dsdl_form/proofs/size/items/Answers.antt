@@ -8,7 +8,6 @@ use Rattle.dsdl_type.specs.Size.{count, bounds_of, items_by}
 use Rattle.dsdl_type.proofs.Sizes.{told, one-there, two-there}
 use Rattle.dsdl_form.proofs.Placements.{as-text}
 use Rattle.dsdl_form.proofs.Sizes.{passed, part_length, exactly, below, at-most}
-use borrow.Author.Rules.{rules}
 use Rattle.dsdl_form.proofs.size.items.Goals as goal
 
 pub count-requires : goal.count-requires
@@ -19,15 +18,11 @@ count-requires c =
 
 pub slice_bounds-count-count : goal.slice_bounds-count-count
 slice_bounds-count-count c =
-    let bounds_of = c.bounds_of in
-    let enum-told2 = c.enum_told-in-Below-1 in
-    one-there c.args.l.now (told c.args.l.now _ _ bounds_of.ensures enum-told2.given.1)
+    one-there c.args.l.now (told c.args.l.now _ _ c.bounds_of.ensures c.in-Below.is)
 
 pub slice_bounds-count-start : goal.slice_bounds-count-start
 slice_bounds-count-start c =
-    let bounds_of = c.bounds_of in
-    let enum-told2 = c.enum_told-in-Below-1 in
-    one-there c.args.l.now (told c.args.l.now _ _ bounds_of.ensures enum-told2.given.1)
+    one-there c.args.l.now (told c.args.l.now _ _ c.bounds_of.ensures c.in-Below.is)
 
 pub count-requires-in-Below : goal.count-requires-in-Below
 count-requires-in-Below c =
@@ -37,15 +32,11 @@ count-requires-in-Below c =
 
 pub slice_bounds-count-count-in-AtMost : goal.slice_bounds-count-count-in-AtMost
 slice_bounds-count-count-in-AtMost c =
-    let bounds_of = c.bounds_of in
-    let enum-told3 = c.enum_told-in-AtMost-1 in
-    two-there c.args.l.now (told c.args.l.now _ _ bounds_of.ensures enum-told3.given.1)
+    two-there c.args.l.now (told c.args.l.now _ _ c.bounds_of.ensures c.in-AtMost.is)
 
 pub slice_bounds-count-start-in-AtMost : goal.slice_bounds-count-start-in-AtMost
 slice_bounds-count-start-in-AtMost c =
-    let bounds_of = c.bounds_of in
-    let enum-told3 = c.enum_told-in-AtMost-1 in
-    two-there c.args.l.now (told c.args.l.now _ _ bounds_of.ensures enum-told3.given.1)
+    two-there c.args.l.now (told c.args.l.now _ _ c.bounds_of.ensures c.in-AtMost.is)
 
 pub count-requires-in-AtMost : goal.count-requires-in-AtMost
 count-requires-in-AtMost c =
@@ -55,21 +46,12 @@ count-requires-in-AtMost c =
 
 pub returns-in-Exactly : goal.returns-in-Exactly
 returns-in-Exactly c =
-    let bounds_of = c.bounds_of in
-    let enum_told = c.enum_told-1 in
-    let count' = c.count in
-    as-text (ap decimal (sym (exactly c.args.l.now (told c.args.l.now _ _ bounds_of.ensures enum_told.given.1)))) count'.ensures
+    as-text (ap decimal (sym (exactly c.args.l.now (told c.args.l.now _ _ c.bounds_of.ensures c.in-Exactly.is)))) c.count.ensures
 
 pub returns-in-Below : goal.returns-in-Below
 returns-in-Below c =
-    let bounds_of = c.bounds_of in
-    let enum-told2 = c.enum_told-in-Below-1 in
-    let count2 = c.count-in-Below in
-    as-text (ap decimal (sym (below c.args.l.now (told c.args.l.now _ _ bounds_of.ensures enum-told2.given.1)))) count2.ensures
+    as-text (ap decimal (sym (below c.args.l.now (told c.args.l.now _ _ c.bounds_of.ensures c.in-Below.is)))) c.count-in-Below.ensures
 
 pub returns-in-AtMost : goal.returns-in-AtMost
 returns-in-AtMost c =
-    let bounds_of = c.bounds_of in
-    let enum-told3 = c.enum_told-in-AtMost-1 in
-    let count3 = c.count-in-AtMost in
-    as-text (ap decimal (sym (at-most c.args.l.now (told c.args.l.now _ _ bounds_of.ensures enum-told3.given.1)))) count3.ensures
+    as-text (ap decimal (sym (at-most c.args.l.now (told c.args.l.now _ _ c.bounds_of.ensures c.in-AtMost.is)))) c.count-in-AtMost.ensures

@@ -6,7 +6,6 @@ use lib.ListN.{length}
 use Rattle.dsdl_number.proofs.Literals.{prefixed}
 use Rattle.dsdl_form.proofs.Placements.{as-text}
 use Rattle.dsdl_form.proofs.Sizes.{based, asked, as-literal, all_digits, behind-prefix, part_length}
-use borrow.Author.Rules.{rules}
 use Rattle.dsdl_form.proofs.size.unsigned.Goals as goal
 
 -- the prefix is there
@@ -43,9 +42,6 @@ number-requires-2 c = let l = c.args.l.now in
 
 pub returns : goal.returns
 returns c =
-    let base = c.base-b in
-    let if1 = c.if-b-eq10 in
-    let number2 = c.number-2 in
     let l = c.args.l.now in
-    let e = base.ensures in
-    as-text (as-literal l _ _ c.args.less e (behind-prefix l _ e if1.false) c.requires.1.1.0) number2.ensures
+    let e = c.base-b.ensures in
+    as-text (as-literal l _ _ c.args.less e (behind-prefix l _ e c.if-b-eq10.false) c.requires.1.1.0) c.number-2.ensures
