@@ -1,19 +1,11 @@
 -- `oversized::is_again` meets its contract: what is left decides.
 use Rattle.dsdl_given.proofs.Names.{among-turn, among_none}
-use Rattle.dsdl_given.specs.inside.Places.{definition_at, names_from}
+use Rattle.dsdl_given.specs.inside.Places.{definition_at}
 use Rattle.dsdl_text.specs.Text.{same}
-use Rattle.dsdl.specs.Definition.{is_among}
 use native.Mathlib.Omega.{arith}
-use Prim.Native.Nat.{◌+◌, ◌-◌}
 use mathlib.Core.Bool.{true, false}
-use mathlib.Core.Path.{◌≡◌, refl, sym, ap₂, ◌∙◌}
-use borrow.Author.Rules.{rules}
+use mathlib.Core.Path.{refl, sym, ap₂, ◌∙◌}
 use Rattle.dsdl_given.proofs.oversized.is_again.Goals as goal
-
--- what the test gave is what the definition asks
-is_same : (q : goal.After-same invariant-loop decreases-loop) → let l = q in let a = l.args in
-    same (definition_at a.source.now a.bounds a.i).name (definition_at a.source.now a.bounds l.loop.j).name ≡ q.same.result
-is_same q = let l = q in sym (q.same.ensures ∙ ap₂ same l.name.ensures q.name2.ensures)
 
 pub name-name-requires : goal.name-name-requires
 name-name-requires c = c.requires.1.holds c.args.i c.requires.0
@@ -31,7 +23,7 @@ pub returns-then-same : goal.returns-then-same
 returns-then-same c =
     let a = c.args in
     let d = definition_at a.source.now a.bounds in
-    sym (among-turn d c.loop-j.j a.n (d a.i).name true (omega arith) (is_same c ∙ c.if-same.true)) ∙ c.loop-j.invariant
+    sym (among-turn d c.loop-j.j a.n (d a.i).name true (omega arith) (sym (c.same.ensures ∙ ap₂ same c.name-name.ensures c.name.ensures) ∙ c.if-same.true)) ∙ c.loop-j.invariant
 
 pub overflow_add-j-in-loop-j : goal.overflow_add-j-in-loop-j
 overflow_add-j-in-loop-j c = omega arith
@@ -43,7 +35,7 @@ pub loop-j-preserved : goal.loop-j-preserved
 loop-j-preserved c =
     let a = c.args in
     let d = definition_at a.source.now a.bounds in
-    sym (among-turn d c.loop-j.j a.n (d a.i).name false (omega arith) (is_same c ∙ c.if-same.false)) ∙ c.loop-j.invariant
+    sym (among-turn d c.loop-j.j a.n (d a.i).name false (omega arith) (sym (c.same.ensures ∙ ap₂ same c.name-name.ensures c.name.ensures) ∙ c.if-same.false)) ∙ c.loop-j.invariant
 
 pub returns : goal.returns
 returns c =

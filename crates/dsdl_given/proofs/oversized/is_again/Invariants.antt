@@ -1,12 +1,7 @@
-use Rattle.dsdl_given.proofs.Names.{among-turn, among_none}
 use Rattle.dsdl_given.specs.inside.Places.{definition_at, names_from}
-use Rattle.dsdl_text.specs.Text.{same}
 use Rattle.dsdl.specs.Definition.{is_among}
-use native.Mathlib.Omega.{arith}
 use Prim.Native.Nat.{◌+◌, ◌-◌}
-use mathlib.Core.Bool.{true, false}
-use mathlib.Core.Path.{◌≡◌, refl, sym, ap₂, ◌∙◌}
-use borrow.Author.Rules.{rules}
+use mathlib.Core.Path.{◌≡◌}
 use Rattle.dsdl_given.proofs.oversized.is_again.Given as goal
 
 abbrev pub invariant-loop-j : goal.invariant-loop-j

@@ -3,7 +3,6 @@ use Rattle.dsdl_given.proofs.Sizes.{count, many, long, by_names}
 use Rattle.dsdl_given.proofs.Located.{inside}
 use Rattle.dsdl_text.proofs.Choices.{by}
 use mathlib.Core.Path.{◌∙◌}
-use borrow.Author.Rules.{rules}
 use Rattle.dsdl_given.proofs.oversized.is_oversized.Goals as goal
 
 pub returns-then-n-gt-DEFINITIONS : goal.returns-then-n-gt-DEFINITIONS

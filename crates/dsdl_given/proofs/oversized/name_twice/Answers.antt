@@ -2,12 +2,11 @@
 use Rattle.dsdl_given.proofs.Names.{twice-turn, twice-none}
 use Rattle.dsdl_given.specs.Given.{name_twice}
 use Rattle.dsdl_given.specs.inside.Places.{definition_at, given}
-use Rattle.bits.specs.Tabulate.{tabulate}
 use native.Mathlib.Nat.{sub-zero}
 use native.Mathlib.Omega.{arith}
-use Prim.Native.Nat.{ℕ, ◌-◌}
+use Prim.Native.Nat.{ℕ}
 use mathlib.Core.Bool.{true, false}
-use mathlib.Core.Path.{◌≡◌, sym, ap, ◌∙◌}
+use mathlib.Core.Path.{sym, ap, ◌∙◌}
 use Rattle.dsdl_given.proofs.oversized.name_twice.Goals as goal
 
 pub loop-i-init : goal.loop-i-init

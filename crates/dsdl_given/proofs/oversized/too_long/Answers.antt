@@ -1,12 +1,12 @@
 -- `oversized::too_long` meets its contract: what is left decides.
 use Rattle.dsdl_given.proofs.Lengths.{long-text, past, goes_on, no_more}
-use Rattle.dsdl_given.specs.Given.{length_at, lengths_in, too_long}
+use Rattle.dsdl_given.specs.Given.{length_at, too_long}
 use Rattle.bits.specs.Tabulate.{tabulate}
 use native.Mathlib.Nat.{sub-zero}
 use native.Mathlib.Omega.{arith}
 use lib.ListN.{length}
-use Prim.Native.Nat.{ℕ, ◌*◌, ◌-◌, ◌/◌, ◌%◌, ◌≤◌}
-use mathlib.Core.Path.{◌≡◌, refl, sym, ap, ◌∙◌}
+use Prim.Native.Nat.{ℕ, ◌*◌, ◌/◌}
+use mathlib.Core.Path.{refl, sym, ap, ◌∙◌}
 use Rattle.dsdl_given.proofs.oversized.too_long.Goals as goal
 
 pub overflow_mul-n : goal.overflow_mul-n

@@ -1,11 +1,8 @@
-use Rattle.dsdl_given.proofs.Lengths.{long-text, past, goes_on, no_more}
 use Rattle.dsdl_given.specs.Given.{length_at, lengths_in, too_long}
 use Rattle.bits.specs.Tabulate.{tabulate}
-use native.Mathlib.Nat.{sub-zero}
-use native.Mathlib.Omega.{arith}
 use lib.ListN.{length}
-use Prim.Native.Nat.{ℕ, ◌*◌, ◌-◌, ◌/◌, ◌%◌, ◌≤◌}
-use mathlib.Core.Path.{◌≡◌, refl, sym, ap, ◌∙◌}
+use Prim.Native.Nat.{◌*◌, ◌-◌, ◌/◌, ◌%◌, ◌≤◌}
+use mathlib.Core.Path.{◌≡◌}
 use Rattle.dsdl_given.proofs.oversized.too_long.Given as goal
 
 abbrev pub invariant-loop-k : goal.invariant-loop-k

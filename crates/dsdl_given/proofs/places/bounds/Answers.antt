@@ -1,13 +1,11 @@
 -- `places::bounds` meets its contract.
 use Rattle.dsdl_given.proofs.Located.{one_more}
 use Rattle.dsdl_given.specs.Given.{length_at}
-use Rattle.dsdl_given.specs.inside.Places.{Bounds}
 use native.Mathlib.Omega.{arith}
 use lib.Seq.{get_or-set_same}
-use lib.ListN.{length, get_or, length-set}
-use Prim.Native.Nat.{◌+◌, ◌*◌, ◌-◌, ◌≤◌, ◌<◌}
-use mathlib.Core.Path.{◌≡◌, refl, sym, ◌∙◌}
-use borrow.Author.Rules.{rules}
+use lib.ListN.{length, length-set}
+use Prim.Native.Nat.{◌+◌, ◌<◌}
+use mathlib.Core.Path.{refl, sym, ◌∙◌}
 use Rattle.dsdl_given.proofs.places.bounds.Goals as goal
 
 pub loop-k-init : goal.loop-k-init

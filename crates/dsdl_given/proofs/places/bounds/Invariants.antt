@@ -1,12 +1,8 @@
-use Rattle.dsdl_given.proofs.Located.{one_more}
 use Rattle.dsdl_given.specs.Given.{length_at}
 use Rattle.dsdl_given.specs.inside.Places.{Bounds}
-use native.Mathlib.Omega.{arith}
-use lib.Seq.{get_or-set_same}
-use lib.ListN.{length, get_or, length-set}
-use Prim.Native.Nat.{◌+◌, ◌*◌, ◌-◌, ◌≤◌, ◌<◌}
-use mathlib.Core.Path.{◌≡◌, refl, sym, ◌∙◌}
-use borrow.Author.Rules.{rules}
+use lib.ListN.{length, get_or}
+use Prim.Native.Nat.{◌*◌, ◌-◌, ◌≤◌}
+use mathlib.Core.Path.{◌≡◌}
 use Rattle.dsdl_given.proofs.places.bounds.Given as goal
 
 abbrev pub invariant-loop-k : goal.invariant-loop-k
