@@ -5,7 +5,6 @@ use lib.ListN.{drop, length-take, length-drop}
 use Prim.Native.Nat.{◌-◌}
 use mathlib.Core.Path.{ap, ◌∙◌}
 use native.Mathlib.Omega.{arith}
-use borrow.Author.Rules.{rules}
 use Rattle.dsdl_nesting.proofs.base.of_type.Goals as goal
 
 pub returns : goal.returns

@@ -1,7 +1,6 @@
 -- `base::read` meets its contract.
 use Rattle.dsdl_nesting.proofs.Bases.{read_as, other}
 use mathlib.Core.Path.{refl, ◌∙◌}
-use borrow.Author.Rules.{rules}
 use Rattle.dsdl_nesting.proofs.base.read.Goals as goal
 
 pub returns-in-Nothing : goal.returns-in-Nothing

@@ -1,7 +1,6 @@
 -- `base::within` meets its contract.
 use Rattle.dsdl_nesting.proofs.Bases.{empty, behind, cut}
 use native.Mathlib.Omega.{arith}
-use borrow.Author.Rules.{rules}
 use Rattle.dsdl_nesting.proofs.base.within.Goals as goal
 
 pub returns-then-n-at : goal.returns-then-n-at

@@ -1,14 +1,9 @@
-use Rattle.dsdl_nesting.proofs.Kept.{starts, here, later, nowhere}
 use Rattle.dsdl_nesting.specs.inside.Kept.{index_of}
 use Rattle.dsdl_text.specs.Names.{full_name}
 use Rattle.dsdl_given.specs.inside.Places.{definition_at, given}
 use Rattle.bits.specs.Tabulate.{tabulate}
-use Rattle.dsdl_text.proofs.Choices.{by}
-use Rattle.dsdl_text.specs.Text.{same}
-use native.Mathlib.Omega.{arith}
 use Prim.Native.Nat.{◌+◌, ◌-◌, ◌≤◌}
-use mathlib.Core.Path.{◌≡◌, ap, ◌∙◌}
-use borrow.Author.Rules.{rules}
+use mathlib.Core.Path.{◌≡◌}
 use Rattle.dsdl_nesting.proofs.index.find.Given as goal
 
 abbrev pub invariant-loop-i : goal.invariant-loop-i

@@ -1,11 +1,8 @@
 -- `marks::all` meets its contract.
 use Rattle.dsdl_nesting.proofs.Kept.{on, off, done}
 use Rattle.bits.specs.Tabulate.{every}
-use borrow.Author.Tests.{not-true, not-false}
-use lib.ListN.{get_or}
 use native.Mathlib.Omega.{arith}
-use Prim.Native.Nat.{ℕ, ◌-◌, ◌≤◌}
-use mathlib.Core.Bool.{false}
+use Prim.Native.Nat.{◌-◌}
 use mathlib.Core.Path.{◌≡◌, sym, ap, ◌∙◌}
 use Rattle.dsdl_nesting.proofs.marks.all.Goals as goal
 
@@ -17,7 +14,7 @@ bounds-marks-i c = omega arith
 
 pub returns-then-not-marks-i : goal.returns-then-not-marks-i
 returns-then-not-marks-i c =
-    sym (sym c.loop-i.invariant.1 ∙ off _ c.loop-i.i c.args.n (omega arith) (not-true _ c.if-not-marks-i.true))
+    sym (sym c.loop-i.invariant.1 ∙ off _ c.loop-i.i c.args.n (omega arith) c.if-not-marks-i.true)
 
 pub overflow_add-i : goal.overflow_add-i
 overflow_add-i c = omega arith
@@ -27,7 +24,7 @@ loop-i-smaller c = omega arith
 
 pub loop-i-preserved : goal.loop-i-preserved
 loop-i-preserved c =
-    (omega arith, sym (on _ c.loop-i.i c.args.n (omega arith) (not-false _ c.if-not-marks-i.false)) ∙ c.loop-i.invariant.1)
+    (omega arith, sym (on _ c.loop-i.i c.args.n (omega arith) c.if-not-marks-i.false) ∙ c.loop-i.invariant.1)
 
 pub returns : goal.returns
 returns c =

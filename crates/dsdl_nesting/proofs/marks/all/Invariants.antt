@@ -1,11 +1,8 @@
-use Rattle.dsdl_nesting.proofs.Kept.{on, off, done}
 use Rattle.bits.specs.Tabulate.{every}
-use borrow.Author.Tests.{not-true, not-false}
 use lib.ListN.{get_or}
-use native.Mathlib.Omega.{arith}
 use Prim.Native.Nat.{ℕ, ◌-◌, ◌≤◌}
 use mathlib.Core.Bool.{false}
-use mathlib.Core.Path.{◌≡◌, sym, ap, ◌∙◌}
+use mathlib.Core.Path.{◌≡◌}
 use Rattle.dsdl_nesting.proofs.marks.all.Given as goal
 
 abbrev pub invariant-loop-i : goal.invariant-loop-i

@@ -6,7 +6,6 @@ use Rattle.dsdl_given.specs.inside.Places.{definition_at}
 use native.Mathlib.Omega.{arith}
 use mathlib.Core.Bool.{true}
 use mathlib.Core.Path.{◌∙◌}
-use borrow.Author.Rules.{rules}
 use Rattle.dsdl_nesting.proofs.marks.all_within.Goals as goal
 
 pub returns : goal.returns

@@ -1,15 +1,11 @@
 -- `marks::messages` meets its contract.
 use Rattle.dsdl_nesting.proofs.Kept.{none, one_more}
-use Rattle.dsdl_nesting.specs.inside.Kept.{Kept}
-use Rattle.dsdl_given.specs.Given.{is_service_of}
-use Rattle.dsdl_given.specs.inside.Places.{definition_at}
 use native.Mathlib.Omega.{arith}
-use Prim.Native.Nat.{ℕ, ◌-◌, ◌≤◌}
-use mathlib.Core.Bool.{false, not}
+use Prim.Native.Nat.{ℕ}
+use mathlib.Core.Bool.{not}
 use mathlib.Core.List.{List}
 use mathlib.Core.Path.{◌≡◌, ap, ◌∙◌}
 use Rattle.dsdl.specs.Definition.{lines_of, is_service}
-use borrow.Author.Rules.{rules}
 use Rattle.dsdl_nesting.proofs.marks.messages.Goals as goal
 
 pub loop-i-init : goal.loop-i-init

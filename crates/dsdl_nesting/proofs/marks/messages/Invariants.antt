@@ -1,14 +1,8 @@
-use Rattle.dsdl_nesting.proofs.Kept.{none, one_more}
 use Rattle.dsdl_nesting.specs.inside.Kept.{Kept}
 use Rattle.dsdl_given.specs.Given.{is_service_of}
 use Rattle.dsdl_given.specs.inside.Places.{definition_at}
-use native.Mathlib.Omega.{arith}
 use Prim.Native.Nat.{ℕ, ◌-◌, ◌≤◌}
 use mathlib.Core.Bool.{false, not}
-use mathlib.Core.List.{List}
-use mathlib.Core.Path.{◌≡◌, ap, ◌∙◌}
-use Rattle.dsdl.specs.Definition.{lines_of, is_service}
-use borrow.Author.Rules.{rules}
 use Rattle.dsdl_nesting.proofs.marks.messages.Given as goal
 
 abbrev pub invariant-loop-i : goal.invariant-loop-i

@@ -1,10 +1,6 @@
 -- `marks::next` meets its contract.
 use Rattle.dsdl_nesting.proofs.Kept.{none, one_more}
-use Rattle.dsdl_nesting.specs.inside.Kept.{Kept}
-use Rattle.dsdl_nesting.specs.inside.Sets.{row_holds}
 use native.Mathlib.Omega.{arith}
-use Prim.Native.Nat.{◌-◌, ◌≤◌}
-use mathlib.Core.Bool.{true, false}
 use mathlib.Core.Path.{◌≡◌}
 use Rattle.dsdl_nesting.proofs.marks.next.Goals as goal
 

@@ -1,10 +1,7 @@
-use Rattle.dsdl_nesting.proofs.Kept.{none, one_more}
 use Rattle.dsdl_nesting.specs.inside.Kept.{Kept}
 use Rattle.dsdl_nesting.specs.inside.Sets.{row_holds}
-use native.Mathlib.Omega.{arith}
 use Prim.Native.Nat.{◌-◌, ◌≤◌}
 use mathlib.Core.Bool.{true, false}
-use mathlib.Core.Path.{◌≡◌}
 use Rattle.dsdl_nesting.proofs.marks.next.Given as goal
 
 abbrev pub invariant-loop-i : goal.invariant-loop-i

@@ -1,15 +1,8 @@
 -- `marks::row` meets its contract.
 use Rattle.dsdl_nesting.proofs.Kept.{on, off, done}
-use Rattle.dsdl_nesting.specs.inside.Sets.{row_holds}
 use Rattle.dsdl_text.proofs.Choices.{by}
-use Rattle.bits.specs.Tabulate.{every}
-use lib.ListN.{get_or}
-use borrow.Author.Tests.{not-true, not-false}
 use native.Mathlib.Omega.{arith}
-use Prim.Native.Nat.{ℕ, ◌+◌, ◌*◌, ◌-◌, ◌≤◌}
-use mathlib.Core.Bool.{false, not, ◌||◌}
-use mathlib.Core.Path.{◌≡◌, refl, sym, ◌∙◌}
-use borrow.Author.Rules.{rules}
+use mathlib.Core.Path.{refl, sym, ◌∙◌}
 use Rattle.dsdl_nesting.proofs.marks.row.Goals as goal
 
 pub loop-j-init : goal.loop-j-init
@@ -29,7 +22,7 @@ bounds-marks-j c = omega arith
 
 pub returns-then-not-holds : goal.returns-then-not-holds
 returns-then-not-holds c =
-    sym (sym c.loop-j.invariant.1 ∙ off _ c.loop-j.j 9 (omega arith) (by c.holds.ensures (not-true _ c.if-not-holds.true)))
+    sym (sym c.loop-j.invariant.1 ∙ off _ c.loop-j.j 9 (omega arith) (by c.holds.ensures c.if-not-holds.true))
 
 pub overflow_add-j : goal.overflow_add-j
 overflow_add-j c = omega arith
@@ -39,7 +32,7 @@ loop-j-smaller c = omega arith
 
 pub loop-j-preserved : goal.loop-j-preserved
 loop-j-preserved c =
-    (omega arith, sym (on _ c.loop-j.j 9 (omega arith) (by c.holds.ensures (not-false _ c.if-not-holds.false))) ∙ c.loop-j.invariant.1)
+    (omega arith, sym (on _ c.loop-j.j 9 (omega arith) (by c.holds.ensures c.if-not-holds.false)) ∙ c.loop-j.invariant.1)
 
 pub returns : goal.returns
 returns c =

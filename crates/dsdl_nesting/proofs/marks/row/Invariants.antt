@@ -1,14 +1,9 @@
-use Rattle.dsdl_nesting.proofs.Kept.{on, off, done}
 use Rattle.dsdl_nesting.specs.inside.Sets.{row_holds}
-use Rattle.dsdl_text.proofs.Choices.{by}
 use Rattle.bits.specs.Tabulate.{every}
 use lib.ListN.{get_or}
-use borrow.Author.Tests.{not-true, not-false}
-use native.Mathlib.Omega.{arith}
 use Prim.Native.Nat.{ℕ, ◌+◌, ◌*◌, ◌-◌, ◌≤◌}
 use mathlib.Core.Bool.{false, not, ◌||◌}
-use mathlib.Core.Path.{◌≡◌, refl, sym, ◌∙◌}
-use borrow.Author.Rules.{rules}
+use mathlib.Core.Path.{◌≡◌}
 use Rattle.dsdl_nesting.proofs.marks.row.Given as goal
 
 abbrev pub invariant-loop-j : goal.invariant-loop-j

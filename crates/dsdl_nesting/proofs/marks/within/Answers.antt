@@ -2,7 +2,6 @@
 use Rattle.dsdl_nesting.proofs.Levels.{four}
 use Rattle.dsdl_given.specs.inside.Places.{definition_at}
 use native.Mathlib.Omega.{arith}
-use borrow.Author.Rules.{rules}
 use Rattle.dsdl_nesting.proofs.marks.within.Goals as goal
 
 pub returns : goal.returns

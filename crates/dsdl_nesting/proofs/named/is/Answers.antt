@@ -6,9 +6,7 @@ use Rattle.dsdl_text.specs.Text.{same}
 use Prim.Native.Nat.{◌-◌}
 use lib.ListN.{length}
 use mathlib.Core.Path.{ap, ◌∙◌}
-use borrow.Author.Tests.{not-true, not-false}
 use native.Mathlib.Omega.{arith}
-use borrow.Author.Rules.{rules}
 use Rattle.dsdl_nesting.proofs.named.is.Goals as goal
 
 pub returns-then-has_dot : goal.returns-then-has_dot
@@ -25,10 +23,10 @@ pub returns-then-not-same : goal.returns-then-not-same
 returns-then-not-same c =
     let a = c.args in
     elsewhere a.space.now a.base.now a.name.now (by c.has_dot.ensures c.if-has_dot.false) (length a.space.now - 0) (omega arith) (omega arith)
-    (by c.same-2.ensures (not-true _ c.if-not-same.true))
+    (by c.same-2.ensures c.if-not-same.true)
 
 pub returns : goal.returns
 returns c =
     let a = c.args in
     inside a.space.now a.base.now a.name.now (by c.has_dot.ensures c.if-has_dot.false) (length a.space.now - 0) (omega arith) (omega arith) c.same-3.result
-    (by c.same-2.ensures (not-false _ c.if-not-same.false)) (c.same-3.ensures ∙ ap (same a.base.now) (rest (length a.space.now) a.name.now))
+    (by c.same-2.ensures c.if-not-same.false) (c.same-3.ensures ∙ ap (same a.base.now) (rest (length a.space.now) a.name.now))

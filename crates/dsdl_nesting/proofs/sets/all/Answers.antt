@@ -1,8 +1,6 @@
 -- `sets::all` meets its contract.
 use Rattle.dsdl_nesting.proofs.Rows.{no_rows, one-row}
-use Rattle.dsdl_nesting.specs.inside.Sets.{Nested}
 use native.Mathlib.Omega.{arith}
-use Prim.Native.Nat.{◌-◌, ◌≤◌}
 use mathlib.Core.Path.{◌≡◌}
 use Rattle.dsdl_nesting.proofs.sets.all.Goals as goal
 

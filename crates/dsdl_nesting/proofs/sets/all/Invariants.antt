@@ -1,8 +1,5 @@
-use Rattle.dsdl_nesting.proofs.Rows.{no_rows, one-row}
 use Rattle.dsdl_nesting.specs.inside.Sets.{Nested}
-use native.Mathlib.Omega.{arith}
 use Prim.Native.Nat.{◌-◌, ◌≤◌}
-use mathlib.Core.Path.{◌≡◌}
 use Rattle.dsdl_nesting.proofs.sets.all.Given as goal
 
 abbrev pub invariant-loop-i : goal.invariant-loop-i

@@ -2,21 +2,19 @@
 use Rattle.dsdl_nesting.proofs.Walks.{marked-goes, without, with-one}
 use Rattle.dsdl_nesting.specs.inside.Sets.{marked_by}
 use lib.ListN.{set}
-use borrow.Author.Tests.{not-true, not-false}
 use Prim.Native.Nat.{ℕ, ◌+◌, ◌*◌}
 use mathlib.Core.Bool.{true}
 use mathlib.Core.Path.{ap}
-use borrow.Author.Rules.{rules}
 use Rattle.dsdl_nesting.proofs.sets.in_line.Goals as goal
 
 pub returns-then-not-found : goal.returns-then-not-found
 returns-then-not-found c =
     let a = c.args in
-    without _ (marked-goes _) _ c.read-b.result.found _ (c.read-b.ensures.0 a.space.now) _ (not-true _ c.if-not-found.true)
+    without _ (marked-goes _) _ c.read-b.result.found _ (c.read-b.ensures.0 a.space.now) _ c.if-not-found.true
 
 pub returns : goal.returns
 unfolding marked_by
 returns c =
     let a = c.args in
-    with-one _ (marked-goes _) _ c.read-b.result.found _ (c.read-b.ensures.0 a.space.now) a.sets.now _ (not-false _ c.if-not-found.false)
+    with-one _ (marked-goes _) _ c.read-b.result.found _ (c.read-b.ensures.0 a.space.now) a.sets.now _ c.if-not-found.false
     (ap (λ (j : ℕ). set a.sets.now (a.i * 9 + j) true) c.find-j.ensures.0)

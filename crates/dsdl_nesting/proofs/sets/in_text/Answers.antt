@@ -1,11 +1,7 @@
 -- `sets::in_text` meets its contract.
-use Rattle.dsdl_nesting.proofs.Walks.{marked-goes, nested_from, on, last}
-use Rattle.dsdl_nesting.specs.inside.Sets.{place_in, marked_by}
-use Rattle.dsdl_given.specs.inside.Places.{given}
-use lib.ListN.{length}
+use Rattle.dsdl_nesting.proofs.Walks.{marked-goes, on, last}
 use native.Mathlib.Omega.{arith}
-use Prim.Native.Nat.{◌-◌, ◌≤◌}
-use mathlib.Core.Path.{◌≡◌, refl, ◌∙◌}
+use mathlib.Core.Path.{refl, ◌∙◌}
 use Rattle.dsdl_nesting.proofs.sets.in_text.Goals as goal
 
 pub loop-bounds-init : goal.loop-bounds-init

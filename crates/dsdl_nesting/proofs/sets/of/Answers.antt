@@ -2,7 +2,6 @@
 use Rattle.dsdl_nesting.proofs.Walks.{nested_same}
 use Rattle.dsdl_nesting.specs.inside.Sets.{marked_by}
 use mathlib.Core.Path.{ap, ◌∙◌}
-use borrow.Author.Rules.{rules}
 use Rattle.dsdl_nesting.proofs.sets.of.Goals as goal
 
 pub name-name-requires : goal.name-name-requires

@@ -2,7 +2,6 @@
 use Rattle.dsdl_nesting.proofs.Levels.{four-signatures}
 use Rattle.dsdl_given.specs.inside.Places.{definition_at}
 use native.Mathlib.Omega.{arith}
-use borrow.Author.Rules.{rules}
 use Rattle.dsdl_nesting.proofs.signature.all.Goals as goal
 
 pub returns : goal.returns

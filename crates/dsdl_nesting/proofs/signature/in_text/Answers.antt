@@ -1,12 +1,7 @@
 -- `signature::in_text` meets its contract.
-use Rattle.dsdl_nesting.proofs.Walks.{extended-goes, nested_from, on, last}
-use Rattle.dsdl_nesting.specs.Signature.{extended_by}
-use Rattle.dsdl_nesting.specs.inside.Kept.{value_of}
-use Rattle.dsdl_given.specs.inside.Places.{given}
-use lib.ListN.{length}
+use Rattle.dsdl_nesting.proofs.Walks.{extended-goes, on, last}
 use native.Mathlib.Omega.{arith}
-use Prim.Native.Nat.{◌-◌, ◌≤◌}
-use mathlib.Core.Path.{◌≡◌, refl, ◌∙◌}
+use mathlib.Core.Path.{refl, ◌∙◌}
 use Rattle.dsdl_nesting.proofs.signature.in_text.Goals as goal
 
 pub loop-bounds-init : goal.loop-bounds-init

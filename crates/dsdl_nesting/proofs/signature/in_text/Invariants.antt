@@ -1,11 +1,10 @@
-use Rattle.dsdl_nesting.proofs.Walks.{extended-goes, nested_from, on, last}
+use Rattle.dsdl_nesting.proofs.Walks.{nested_from}
 use Rattle.dsdl_nesting.specs.Signature.{extended_by}
 use Rattle.dsdl_nesting.specs.inside.Kept.{value_of}
 use Rattle.dsdl_given.specs.inside.Places.{given}
 use lib.ListN.{length}
-use native.Mathlib.Omega.{arith}
 use Prim.Native.Nat.{◌-◌, ◌≤◌}
-use mathlib.Core.Path.{◌≡◌, refl, ◌∙◌}
+use mathlib.Core.Path.{◌≡◌}
 use Rattle.dsdl_nesting.proofs.signature.in_text.Given as goal
 
 abbrev pub invariant-loop-bounds : goal.invariant-loop-bounds

@@ -1,13 +1,10 @@
-use Rattle.dsdl_nesting.proofs.Kept.{none, one_more}
 use Rattle.dsdl_nesting.specs.Signature.{extended_by}
 use Rattle.dsdl_nesting.specs.inside.Kept.{value_of, Kept}
 use Rattle.dsdl_given.specs.Given.{nested_of}
 use Rattle.dsdl_given.specs.inside.Places.{definition_at, given}
 use lib.ListN.{get_or}
-use native.Mathlib.Omega.{arith}
 use Prim.Native.Nat.{ℕ, ◌-◌, ◌≤◌}
 use mathlib.Core.Bool.{false, cond}
-use mathlib.Core.Path.{◌≡◌}
 use Rattle.dsdl_nesting.proofs.signature.next.Given as goal
 
 abbrev pub invariant-loop-i : goal.invariant-loop-i

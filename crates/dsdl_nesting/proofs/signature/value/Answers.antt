@@ -1,6 +1,5 @@
 -- `signature::value` meets its contract.
 use Rattle.dsdl_text.proofs.Choices.{first, next}
-use borrow.Author.Rules.{rules}
 use Rattle.dsdl_nesting.proofs.signature.value.Goals as goal
 
 pub returns-then-done : goal.returns-then-done
