@@ -1,5 +1,5 @@
 -- RULES 18.2: a capture, as a list of frames with their times, and reading one.
-use Rattle.std.specs.Prelude.{Bool, ◌&&◌, List, [], ◌∷◌, ◌++◌, ℕ, zero, suc, ◌+◌, ◌*◌, ◌-◌, leb, eqb, length, take, drop}
+use Rattle.std.specs.Prelude.{Bool, ◌&&◌, List, [], ◌∷◌, ◌++◌, ℕ, zero, suc, ◌*◌, ◌-◌, leb, eqb, length, take, drop}
 use Rattle.std.proofs.Math.Option.{Option, some}
 use Rattle.bits.specs.Little.{le, le_bytes}
 use Rattle.bits.specs.Part.{span}

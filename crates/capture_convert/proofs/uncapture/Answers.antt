@@ -2,7 +2,6 @@
 use mathlib.Core.Path.{refl}
 use Prim.Native.Nat.{◌-◌}
 use native.Mathlib.Omega.{arith}
-use borrow.Author.Rules.{rules}
 use borrow.Author.Tests.{not-true, not-false}
 use lib.ListN.{length}
 use Rattle.bits.specs.Part.{span}
@@ -12,7 +11,7 @@ use Rattle.capture_convert.proofs.uncapture.Goals as goal
 pub returns-then-not-t : goal.returns-then-not-t
 returns-then-not-t c =
     let a = c.args in
-    (no_capture a.capture.now a.out.now c.find-t.result c.find-t.ensures (not-true c.find-t.result.ok c.if-not-t.true), omega arith)
+    record { out_after = no_capture a.capture.now a.out.now c.find-t.result c.find-t.ensures (not-true c.find-t.result.ok c.if-not-t.true); result_bound = omega arith }
 
 pub overflow_sub-to : goal.overflow_sub-to
 overflow_sub-to c =
@@ -46,7 +45,7 @@ returns-then-not-m c =
     let w = a.capture.now in
     let b = span w r.from (length w - 16 - r.from) in
     let l = size-there w r p in
-    (not_carried w a.out.now r p b refl l c.measure-m.result c.measure-m.ensures (not-true c.measure-m.result.ok c.if-not-m.true), omega arith)
+    record { out_after = not_carried w a.out.now r p b refl l c.measure-m.result c.measure-m.ensures (not-true c.measure-m.result.ok c.if-not-m.true); result_bound = omega arith }
 
 pub returns-then-out-len : goal.returns-then-out-len
 returns-then-out-len c =
@@ -57,7 +56,7 @@ returns-then-out-len c =
     let b = span w r.from (length w - 16 - r.from) in
     let l = size-there w r p in
     let q = measured b c.measure-m.result c.measure-m.ensures (not-false c.measure-m.result.ok c.if-not-m.false) in
-    (small-log w a.out.now r p b refl l c.measure-m.result.len q c.if-out-len.true, omega arith)
+    record { out_after = small-log w a.out.now r p b refl l c.measure-m.result.len q c.if-out-len.true; result_bound = omega arith }
 
 pub slice_bounds-lines-count : goal.slice_bounds-lines-count
 slice_bounds-lines-count c =
@@ -90,7 +89,8 @@ returns c =
     let w = a.capture.now in
     let b = span w r.from (length w - 16 - r.from) in
     let l = size-there w r p in
-    let q = measured b c.measure-m.result c.measure-m.ensures (not-false c.measure-m.result.ok c.if-not-m.false) in (
-      printed w a.out.now r p b refl l c.measure-m.result.len q c.lines.result c.lines.new.1.0 c.if-out-len.false c.lines.ensures,
-      short-log w a.out.now r p b refl l c.measure-m.result.len q,
-    )
+    let q = measured b c.measure-m.result c.measure-m.ensures (not-false c.measure-m.result.ok c.if-not-m.false) in
+    record {
+      out_after = printed w a.out.now r p b refl l c.measure-m.result.len q c.lines.result c.lines.new.out c.if-out-len.false c.lines.ensures;
+      result_bound = short-log w a.out.now r p b refl l c.measure-m.result.len q;
+    }

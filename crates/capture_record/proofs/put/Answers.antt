@@ -1,5 +1,4 @@
 -- `put` meets its contract: two stores.
-use borrow.Author.Rules.{rules}
 use Rattle.capture_record.proofs.Stores.{stored}
 use Rattle.capture_record.proofs.put.Goals as goal
 

@@ -2,7 +2,6 @@
 use mathlib.Core.Path.{ap, subst}
 use Prim.Native.Nat.{◌/◌}
 use native.Mathlib.Omega.{arith}
-use borrow.Author.Rules.{rules}
 use lib.ListN.{length}
 use Rattle.digits.specs.Digits.{count_of}
 use Rattle.digits.specs.inside.Text.{Puts}

@@ -4,7 +4,7 @@ use Prim.Native.Nat.{◌+◌, ◌*◌, ◌-◌, ◌/◌}
 use native.Mathlib.Omega.{arith}
 use lib.ListN.{length}
 use Rattle.bits.proofs.Splice.{length-span}
-use Rattle.capture_convert.proofs.Walking.{Lining, begin-lining, carriable-next, line-fits, next-lining, lined}
+use Rattle.capture_convert.proofs.Walking.{begin-lining, carriable-next, line-fits, next-lining, lined}
 use Rattle.capture_convert.proofs.lines.lines.Goals as goal
 
 pub loop-count-init : goal.loop-count-init
@@ -50,7 +50,7 @@ pub loop-count-preserved : goal.loop-count-preserved
 loop-count-preserved c =
     let b = c.args.records.now in
     next-lining b c.args.out.now c.loop-count.out (length b / 21) c.loop-count.count c.loop-count.p c.loop-count.invariant c.requires.frames c.requires.carried
-    c.requires.room c.loop-count-test.true c.line-p.new.1.0 c.line-p.result c.line-p.ensures c.line-p.auto.1.0
+    c.requires.room c.loop-count-test.true c.line-p.new.out c.line-p.result c.line-p.ensures c.line-p.auto.out
 
 pub shape_of-out : goal.shape_of-out
 shape_of-out c = c.loop-count.invariant.long

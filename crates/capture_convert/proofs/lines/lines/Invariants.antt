@@ -1,9 +1,5 @@
-use mathlib.Core.Path.{◌∙◌}
-use Prim.Native.Nat.{◌+◌, ◌*◌, ◌-◌, ◌/◌}
-use native.Mathlib.Omega.{arith}
-use lib.ListN.{length}
-use Rattle.bits.proofs.Splice.{length-span}
-use Rattle.capture_convert.proofs.Walking.{Lining, begin-lining, carriable-next, line-fits, next-lining, lined}
+use Prim.Native.Nat.{◌-◌}
+use Rattle.capture_convert.proofs.Walking.{Lining}
 use Rattle.capture_convert.proofs.lines.lines.Given as goal
 
 abbrev pub invariant-loop-count : goal.invariant-loop-count

@@ -8,7 +8,7 @@ use Rattle.bits.specs.Part.{span}
 use Rattle.bits.proofs.Splice.{length-span}
 use Rattle.capture_record.proofs.Records.{carriable-fit}
 use Rattle.capture_convert.specs.inside.Walks.{whole, broken}
-use Rattle.capture_convert.proofs.Walking.{Measuring, begin-measuring, halt, passed, size_is, next-measuring}
+use Rattle.capture_convert.proofs.Walking.{begin-measuring, halt, passed, size_is, next-measuring}
 use Rattle.capture_convert.proofs.lines.measure.Goals as goal
 
 pub loop-count-init : goal.loop-count-init

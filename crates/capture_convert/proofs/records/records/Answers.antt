@@ -1,12 +1,9 @@
 -- `records::records` meets its contract.
 use mathlib.Core.Path.{refl}
-use Prim.Native.Nat.{◌-◌}
 use native.Mathlib.Omega.{arith}
-use borrow.Author.Rules.{rules}
 use borrow.Author.Tests.{not-true, not-false}
-use lib.ListN.{length}
 use Rattle.capture_convert.specs.inside.Walks.{whole, broken}
-use Rattle.capture_convert.proofs.Walking.{well, ill, stop, all_said, left, Storing, begin-storing, so_far, one-fits, next-storing}
+use Rattle.capture_convert.proofs.Walking.{well, ill, stop, all_said, left, begin-storing, so_far, one-fits, next-storing}
 use Rattle.capture_convert.proofs.records.records.Goals as goal
 
 pub loop-end-init : goal.loop-end-init
@@ -74,7 +71,7 @@ loop-end-preserved c =
     let a = c.args in
     let w = well _ c.read-l.result c.read-l.ensures (not-false c.read-l.result.ok c.if-not-l.false) in
     next-storing a.block.now a.out.now c.loop-end.out c.loop-end.count c.loop-end.from c.loop-end.end c.loop-end.invariant c.requires c.loop-end-test.true
-    w.frame w.said w.carried _ c.put.new.out w.text c.put.ensures c.put.auto.0 c.find-end-in-loop-end.result c.find-end-in-loop-end.ensures.0
+    w.frame w.said w.carried _ c.put.new.out w.text c.put.ensures c.put.auto.out c.find-end-in-loop-end.result c.find-end-in-loop-end.ensures.0
     c.find-end-in-loop-end.ensures.1
 
 pub shape_of-out : goal.shape_of-out

@@ -1,13 +1,10 @@
 -- `records::scan` meets its contract.
 use mathlib.Core.Path.{refl}
-use Prim.Native.Nat.{◌-◌}
 use native.Mathlib.Omega.{arith}
-use borrow.Author.Rules.{rules}
 use borrow.Author.Tests.{not-true, not-false}
-use lib.ListN.{length}
 use Rattle.capture_convert.specs.inside.Walks.{broken}
 use Rattle.capture_convert.proofs.Logs.{broken-frames}
-use Rattle.capture_convert.proofs.Walking.{well, ill, Walk, begin, stop, next, finish}
+use Rattle.capture_convert.proofs.Walking.{well, ill, begin, stop, next, finish}
 use Rattle.capture_convert.proofs.records.scan.Goals as goal
 
 pub loop-end-init : goal.loop-end-init

@@ -1,6 +1,5 @@
 -- `trailer::find` meets its contract.
 use mathlib.Core.Path.{refl, ap}
-use borrow.Author.Rules.{rules}
 use borrow.Author.Tests.{not-true, not-false}
 use Rattle.capture_convert.specs.inside.Walks.{missing}
 use Rattle.capture_convert.specs.declared.trailer.Place.{Place}
@@ -15,18 +14,14 @@ returns-then-n-lt-SIZE c =
 
 pub returns-then-not-t : goal.returns-then-not-t
 returns-then-not-t c =
-    let r = c in
-    let e = r in
-    let p = e.args.c.now in
-    unformed p e.if-n-lt-SIZE.false r.read-t.result r.read-t.ensures (not-true r.read-t.result.ok c.if-not-t.true) c.nowhere-then-not-t.result
+    let p = c.args.c.now in
+    unformed p c.if-n-lt-SIZE.false c.read-t.result c.read-t.ensures (not-true c.read-t.result.ok c.if-not-t.true) c.nowhere-then-not-t.result
     (ap (λ (r : Place). r.ok) c.nowhere-then-not-t.ensures)
 
 pub returns-then-end-size : goal.returns-then-end-size
 returns-then-end-size c =
-    let r = c in
-    let e = r in
-    let p = e.args.c.now in
-    outside p e.if-n-lt-SIZE.false r.read-t.result r.read-t.ensures (not-false r.read-t.result.ok c.if-not-t.false) c.if-end-size.true c.nowhere-then-end-size.result
+    let p = c.args.c.now in
+    outside p c.if-n-lt-SIZE.false c.read-t.result c.read-t.ensures (not-false c.read-t.result.ok c.if-not-t.false) c.if-end-size.true c.nowhere-then-end-size.result
     (ap (λ (r : Place). r.ok) c.nowhere-then-end-size.ensures)
 
 pub returns-then-sum-t : goal.returns-then-sum-t
@@ -37,8 +32,6 @@ returns-then-sum-t c =
 
 pub returns : goal.returns
 returns c =
-    let r = c in
-    let e = r in
-    let p = e.args.c.now in
-    mismatched p e.if-n-lt-SIZE.false r.read-t.result r.read-t.ensures (not-false r.read-t.result.ok c.if-not-t.false) c.if-end-size.false c.sum.result
+    let p = c.args.c.now in
+    mismatched p c.if-n-lt-SIZE.false c.read-t.result c.read-t.ensures (not-false c.read-t.result.ok c.if-not-t.false) c.if-end-size.false c.sum.result
     c.sum.ensures c.if-sum-t.false c.nowhere-2.result (ap (λ (r : Place). r.ok) c.nowhere-2.ensures)

@@ -1,5 +1,4 @@
 -- `trailer::put` meets its contract: four stores, one after the other.
-use borrow.Author.Rules.{rules}
 use Rattle.capture_convert.proofs.Trailers.{trailer-stored}
 use Rattle.capture_convert.proofs.trailer.put.Goals as goal
 

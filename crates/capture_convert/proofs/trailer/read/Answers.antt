@@ -2,7 +2,6 @@
 use mathlib.Core.Path.{◌∙◌}
 use Prim.Native.Nat.{◌*◌}
 use native.Mathlib.Omega.{arith}
-use borrow.Author.Rules.{rules}
 use Rattle.bits.proofs.Octets.{octets-all}
 use Rattle.capture_convert.proofs.Trailers.{formed-is, count-lt}
 use Rattle.capture_convert.proofs.trailer.read.Goals as goal
@@ -10,7 +9,7 @@ use Rattle.capture_convert.proofs.trailer.read.Goals as goal
 pub overflow_mul-size : goal.overflow_mul-size
 overflow_mul-size c =
     let t = c.args.t.now in
-    omega (arith, c.get_at-count.ensures, count-lt t c.requires (octets-all t (λ i. omega (arith, c.shared_slice_known-1.given i))))
+    omega (arith, c.get_at-count.ensures, count-lt t c.requires (octets-all t (λ i. omega (arith, c.type_inv.t i))))
 
 pub returns : goal.returns
 returns c =
@@ -21,5 +20,5 @@ returns c =
           (omega (arith, c.get_at-count.ensures));
       count = c.get_at-count.ensures;
       sum = c.get_at.ensures;
-      few = omega (arith, c.get_at-count.ensures, count-lt t c.requires (octets-all t (λ i. omega (arith, c.shared_slice_known-1.given i))));
+      few = omega (arith, c.get_at-count.ensures, count-lt t c.requires (octets-all t (λ i. omega (arith, c.type_inv.t i))));
     }
