@@ -14,10 +14,16 @@ def table(function, shapes):
     values, type_ = body[0][2][1], function.types[0]
     if type_[0] != 'array' or any(v[0] != 'int' for v in values) or len(values) != type_[2]:
         return None
-    numbers = [f'0x{v[2]:0{v[1] // 4}X}u' if v[1] < 64 else f'UINT64_C(0x{v[2]:016X})' for v in values]
-    row = {8: 16, 16: 12, 32: 8, 64: 4}[values[0][1]]
-    rows = ',\n    '.join(', '.join(numbers[i:i + row]) for i in range(0, len(numbers), row))
-    return f'static const {shapes.c_type(type_)} {c_name(function.symbol)} = {{ {{\n    {rows}\n}} }};'
+    return constants(type_, [v[2] for v in values], shapes, c_name(function.symbol))
+
+
+def constants(type_, numbers, shapes, name):
+    """An array of constants in read-only memory."""
+    width = type_[1][1]
+    texts = [f'0x{n:0{width // 4}X}u' if width < 64 else f'UINT64_C(0x{n:016X})' for n in numbers]
+    row = {8: 16, 16: 12, 32: 8, 64: 4}[width]
+    rows = ',\n    '.join(', '.join(texts[i:i + row]) for i in range(0, len(texts), row))
+    return f'static const {shapes.c_type(type_)} {name} = {{ {{\n    {rows}\n}} }};'
 
 
 def copy(function, shapes):

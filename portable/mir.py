@@ -1,11 +1,12 @@
-"""MIR, the program that the proofs are about, as the compiler keeps it: toolchain/mir.json in the folder of a proved library.
+"""MIR, the program that the proofs are about, as the compiler keeps it: toolchain/mir.json in the folder of a proved library, CRATE/out/rlib/CRATE.rlib.
 
 Terms as this translator uses them:
 
   place      Place(local, steps); a step is ('deref', type), ('field', k) or ('variant', k)
   operand    ('copy', place), ('int', width, number), ('bool', value) or ('unit',)
   value      ('opd', operand), ('op2', operator, operand, operand), ('op1', operator, operand), ('addrOf', place),
-             ('aggregate', operands) or ('repeat', operand, count); an operator is (name, argument...)
+             ('aggregate', operands), ('repeat', operand, count) or ('static', type, numbers), which lends an array of constants; an operator
+             is (name, argument...)
   statement  ['assign', place, value], ['call', symbol, operands, place], ['if', operand, body, body], ['exit', depth], ['return'],
              ['switch', operand, [(keys, body)...], body or None], ['block', body] or ['loop', body]; a body is a list of statements
   type       ('int', width), ('bool',), ('unit',), ('raw',), ('ref', 'imm' or 'mut', type), ('slice', 'imm' or 'mut', type),
@@ -54,8 +55,8 @@ def read_type(term):
         pointer, length = map(read_type, argument[1])
         if pointer[0] == 'ref' and length == ('int', 64):
             return ('slice',) + pointer[1:]
-    if name == 'Named' and not argument['lifetimes']:
-        return ('named', argument['name'])
+    if name == 'Named' and not argument[0]['lifetimes'] and not argument[1]:
+        return ('named', argument[0]['name'])
     return refuse('the type', term)
 
 
@@ -104,9 +105,24 @@ def read_value(term):
         return ('addrOf', read_place(argument))
     if name == 'Aggregate':
         return ('aggregate', tuple(map(read_operand, argument)))
-    if name == 'Repeat':
-        return ('repeat', read_operand(argument[0]), argument[1])
+    if name == 'Repeat' and 'Lit' in argument[1]:
+        return ('repeat', read_operand(argument[0]), argument[1]['Lit'])
     return refuse('the value', term)
+
+
+def read_callee(term):
+    """The symbol of a function that is called by its name, and is no generic one."""
+    name, argument = split(term)
+    if name == 'Fn' and not argument[1]['types'] and not argument[1]['dicts']:
+        return argument[0]
+    return refuse('the call of', term)
+
+
+def read_static(type_term, term):
+    type_, (name, argument) = read_type(type_term), split(term)
+    if name == 'Ints' and type_ == ('array', ('int', argument['width']), len(argument['values'])):
+        return ('static', type_, tuple(argument['values']))
+    return refuse('the constant', term)
 
 
 def read_body(terms):
@@ -127,8 +143,10 @@ def read_body(terms):
         return [['if', read_operand(argument), read_body(terms), read_body(terms)]]
     if name == 'Exit':
         return [['exit', argument]]
-    if name == 'Call' and 'Direct' in argument[0]:
-        return [['call', argument[0]['Direct'], tuple(map(read_operand, argument[1])), read_place(argument[2])]]
+    if name == 'Call':
+        return [['call', read_callee(argument[0]), tuple(map(read_operand, argument[1])), read_place(argument[2])]]
+    if name == 'LendStatic':
+        return [['assign', read_place(argument[0]), read_static(*argument[1:])]]
     if name == 'Switch':
         number, keys, has_default = argument
         arms = [(one, read_body(terms)) for one in keys]
@@ -146,6 +164,11 @@ def read_shape(shape):
     return refuse('the declared type', shape)
 
 
+def is_plain(declared):
+    """A declared type without parameters."""
+    return declared['lifetimes'] == 0 and declared['type_params'] == 0 and not declared['const_params']
+
+
 class Function:
     def __init__(self, symbol, term):
         self.symbol, self.params = symbol, term['params']
@@ -155,7 +178,9 @@ class Function:
         self.body = read_body(terms)
         if next(terms, None) is not None:
             refuse('a body with a rest', symbol)
-        self.declared = {one['name']: read_shape(one['shape']) for one in term['types'] if one['lifetimes'] == 0}
+        if term['generics']['types'] or term['generics']['bounds']:
+            refuse('the generic function', symbol)
+        self.declared = {one['name']: read_shape(one['shape']) for one in term['types'] if is_plain(one)}
         self.note()
 
     def note(self):
@@ -177,7 +202,7 @@ class Functions(dict):
 
 
 class Library:
-    """A proved library and all that it depends on, from the folder that rt writes them to."""
+    """A proved library and all that it depends on, from the folder of the crates, in which rt writes each to CRATE/out/rlib."""
 
     def __init__(self, folder, name):
         self.name, self.folder = name, pathlib.Path(folder)
@@ -186,7 +211,7 @@ class Library:
         self.add(name)
 
     def add(self, name):
-        home = self.folder / f'{name}.rlib'
+        home = self.folder / name / 'out' / 'rlib' / f'{name}.rlib'
         if name in self.crates or not home.is_dir():  # a library of the toolchain: a function of it that is called is then missing
             return
         lines = [line.split() for line in (home / 'format').read_text().splitlines()]
@@ -199,10 +224,6 @@ class Library:
         for words in lines:
             if words[0] == 'dep':
                 self.add(words[1])
-
-    def interface(self):
-        """What C may call is marked in the library's interface, which the compiler wrote beside the MIR."""
-        return '\n'.join(path.read_text() for path in sorted((self.folder / f'{self.name}.rlib' / 'lang' / 'src').glob('**/*.rt')))
 
 
 # ---- looking through terms

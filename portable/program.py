@@ -1,15 +1,15 @@
 """The whole C file: which functions, in which order, and what stands at its top."""
 import collections
+import re
 
 import returns
 from apart import APART, apart
 from body import Body
 from copies import LARGE, Storage
-from idioms import FOUR_BYTES, copy, load, store, table
+from idioms import FOUR_BYTES, constants, copy, load, store, table
 from layout import comment
 from mir import calls, refuse
 from shapes import Shapes, c_name
-from sources import exports
 
 MAKE = '''/* A value of a struct type: C's compound literal, C++'s braces. */
 #ifdef __cplusplus
@@ -23,9 +23,10 @@ typedef char int_has_at_most_32_bits[sizeof(int) <= 4 ? 1 : -1];'''
 
 
 class Program:
-    def __init__(self, library, sources):
+    def __init__(self, library, sources, names):
+        """names are those of the library's functions that C calls."""
         self.functions, self.sources = library.functions, sources
-        self.entries = [self.exported(library.name, name) for name in exports(library.interface())]
+        self.entries = [self.exported(library.name, name) for name in names]
         if not self.entries:
             refuse('a library without a function that C may call,', library.name)
         self.order = self.reached()
@@ -40,6 +41,7 @@ class Program:
         self.size, self.holds_pointer = self.shapes.size, self.shapes.holds_pointer
         self.storage, self.helpers = {}, set()
         self.tables = {}  # symbol of a function that gives an array of constants: the array's C name
+        self.statics = {}  # an array of constants that functions lend, as (type, numbers): its C name
 
     def exported(self, crate, name):
         """The symbol of an exported function, wherever in its crate it stands."""
@@ -84,9 +86,17 @@ class Program:
         kept = apart(self, bodies)
         texts.update({symbol: body.text(symbol in kept) for symbol, body in bodies.items()})
         top = f'#include "{header}"\n\n' + '\n'.join(f'#include <{name}.h>' for name in ('stdbool', 'stddef', 'stdint', 'string'))
+        statics = [constants(type_, numbers, self.shapes, name) for (type_, numbers), name in self.statics.items()]
         types = list(self.shapes.definitions.values()) + list(self.shapes.makers.values())
         code = [comment(self.sources.comments.get(symbol)) + text for symbol, text in texts.items() if symbol in self.entries or self.sites[symbol]]
-        return '\n\n'.join([head, top, MAKE, APART] + types + sorted(self.helpers) + code) + '\n'
+        return '\n\n'.join([head, top, MAKE, APART] + types + statics + sorted(self.helpers) + code) + '\n'
+
+    def static(self, type_, numbers):
+        """The C name of an array of constants: a word is named for its letters."""
+        if (type_, numbers) not in self.statics:
+            word = ''.join(map(chr, numbers)) if type_[1] == ('int', 8) else ''
+            self.statics[type_, numbers] = f'letters_{word}' if re.fullmatch('[A-Za-z0-9_]{1,16}', word) else f'lent_{len(self.statics) + 1}'
+        return self.statics[type_, numbers]
 
     def idiom(self, function):
         """The text of a function that C says in a form of its own."""

@@ -3,9 +3,11 @@ for the reader of the C; it does not change what the C does."""
 import pathlib
 import re
 
+from mir import refuse
+
 ITEM = re.compile(r'^(?P<indent> *)(?:pub )?(?:extern "C" )?(?:(?P<fn>fn)|struct|enum|impl) (?P<name>\w+)(?:<[^>]*>)?', re.M)
 BINDER = re.compile(r'\blet (?:mut )?([a-z_]\w*)\s*[:=;]|\bfor (\w+) in\b|\b[A-Z]\w*::[A-Z]\w*\(([^()]*)\)\s*(?:=>|=(?!=)|\|)')
-EXPORT = re.compile(r'#\s*\[\s*no_mangle\s*\]\s*pub\s+extern\s+"C"\s+fn\s+(\w+)')
+EXPORT = re.compile(r'#\[unsafe\(no_mangle\)\]\npub extern "C" fn (\w+)\(([^()]*)\)[^{}]*(?:(?:requires|ensures)[^\n]*\n)*\{\n(.*?)^\}', re.M | re.S)
 
 
 class Sources:
@@ -54,6 +56,20 @@ def comment_above(text):
     return ' '.join(reversed(lines)).removeprefix('Internal. ')
 
 
-def exports(interface):
-    """The functions that C may call, from the compiler's own text of the library's interface."""
-    return EXPORT.findall(interface)
+def exports(folder, crate, library):
+    """The functions that a crate gives to C. Where it is a crate beside the library, each must only call the library's function of its name, with
+    its own parameters."""
+    names = []
+    for path in sorted((pathlib.Path(folder) / crate / 'src').glob('**/*.rt')):
+        text = path.read_text()
+        found = EXPORT.findall(text)
+        if len(found) != text.count('no_mangle'):
+            refuse('a function for C of another form in', path.name)
+        for name, params, body in found:
+            names.append(name)
+            module = [library] + [path.stem] * (path.stem != 'lib')
+            words = re.findall(r'(\w+)\s*:', params)
+            call = '::'.join(module + [name]) + '(' + ','.join(words) + ')'
+            if crate != library and ''.join(body.split()).replace(',)', ')') != call:
+                refuse('a function for C that is not', call)
+    return names

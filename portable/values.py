@@ -139,13 +139,16 @@ class Values:
     # ---- right-hand sides
 
     def value(self, term, type_):
-        operands = {'opd': term[1:], 'op1': term[2:], 'op2': term[2:], 'aggregate': term[1], 'repeat': term[1:2], 'addrOf': ()}[term[0]]
+        operands = {'opd': term[1:], 'op1': term[2:], 'op2': term[2:], 'aggregate': term[1], 'repeat': term[1:2], 'addrOf': (), 'static': ()}[term[0]]
         parts = [self.operand(o) for o in operands]
         self.separate(parts)
         if term[0] == 'addrOf':
             return self.convert(self.address(term[1]), type_)
         if term[0] == 'opd':
             return self.convert(parts[0], type_)
+        if term[0] == 'static':
+            name = self.program.static(*term[1:])
+            return self.convert(Expr('&' + name, ('ref', 'imm', term[1]), atom=False, deref=name), type_)
         if term[0] == 'op2' and term[1] == ('Offset',):
             e = self.offset(*parts, type_[2])
         elif term[0] == 'op2':
@@ -165,6 +168,8 @@ class Values:
         type_ = ('ref', self.place_type(place)[1], at.type)
         if at.text.startswith('*'):
             e = Expr(at.text[1:], type_, at.address)
+        elif at.text.endswith('.a[0]'):
+            e = Expr(at.text.removesuffix('[0]'), type_, at.address, deref=at.text)
         else:
             e = Expr('&' + at.inner(), type_, at.address, atom=False, deref=at.text)
         e.temps |= at.temps

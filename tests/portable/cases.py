@@ -1,37 +1,43 @@
 """The translator's cases: tiny Rattle programs (cases/src), proved and compiled by rt, beside the same programs as C.
 
-The sources have the ending .txt, as every file of Rattle in this repository belongs to a crate of crates.txt."""
+The sources have the ending .txt, as every file of Rattle in this repository belongs to a crate of crates.txt. For the same reason they are proved in a
+folder of the system's for temporary files."""
 import functools
 import hashlib
+import os
 import pathlib
 import shutil
 import subprocess
 import sys
+import tempfile
 import threading
 
 ROOT = pathlib.Path(__file__).resolve().parents[2]
 TRANSLATOR = ROOT / 'portable'
 HOME = ROOT / 'target' / 'portable' / 'cases'
-RLIB = HOME / 'check' / 'target' / 'rlib'
-ARCHIVE = HOME / 'archive' / 'target' / 'staticlib' / 'libcases.a'
-SOURCES = HOME / 'check' / 'crates'
+PROVED = pathlib.Path(tempfile.gettempdir()) / f'tecelume-cases-{os.getuid()}-{hashlib.sha256(bytes(ROOT)).hexdigest()[:12]}'
+CRATES = PROVED / 'crates'
+ARCHIVE = CRATES / 'cases' / 'out' / 'libcases.a'
 
 sys.path.insert(0, str(TRANSLATOR))
 sys.setrecursionlimit(100000)
 
 
 def prove():
-    """Proves the cases, for their MIR, and makes rt's archive of them, which proves them again: side by side. Not again, if nothing
-    changed."""
-    stamp, state = HOME / 'stamp', digest()
+    """Proves the cases as a library, for their MIR, and then makes rt's archive of them, over what was proved. Not again, if nothing changed."""
+    stamp, state = PROVED / 'stamp', digest()
+    PROVED.mkdir(mode=0o700, exist_ok=True)
+    if PROVED.is_symlink() or PROVED.stat().st_uid != os.getuid():
+        sys.exit(f'{PROVED} is not a folder of this user')
     if stamp.is_file() and stamp.read_text() == state:
         return
-    runs = [(copy(HOME / name), words) for name, words in (('check', ['rt', 'check', 'cases']), ('archive', ['rt', 'staticlib', 'cases']))]
-    started = [subprocess.Popen(words, cwd=at, stdout=subprocess.PIPE, stderr=subprocess.STDOUT, text=True) for at, words in runs]
-    for process in started:
-        said = process.communicate()[0]
-        if process.returncode:
-            sys.exit(f'{" ".join(process.args)} failed:\n{said[-3000:]}')
+    stamp.unlink(missing_ok=True)
+    copy()
+    for line in ('cases:', 'cases staticlib:'):
+        (PROVED / 'crates.txt').write_text(line + '\n')
+        done = subprocess.run(['rt', 'lib'], cwd=CRATES / 'cases', stdout=subprocess.PIPE, stderr=subprocess.STDOUT, text=True, check=False)
+        if done.returncode:
+            sys.exit(f'rt lib of "{line}" failed:\n{done.stdout[-3000:]}')
     stamp.write_text(state)
 
 
@@ -45,24 +51,23 @@ def texts():
     return sorted((ROOT / 'tests' / 'portable' / 'cases').glob('*/*.txt'))
 
 
-def copy(home):
+def copy():
     """The cases as a repository of their own."""
-    crate = home / 'crates' / 'cases'
-    shutil.rmtree(crate, ignore_errors=True)
+    crate = CRATES / 'cases'
+    for part in ('src', 'proofs'):
+        shutil.rmtree(crate / part, ignore_errors=True)
     for path in texts():
         to = crate / path.parent.name / path.stem
         if path.parent.name == 'proofs':
-            to = to.with_suffix('') / 'Proof.antt'
+            to = to.with_suffix('') / 'Invariants.antt'
         to.parent.mkdir(parents=True, exist_ok=True)
         shutil.copy(path, to)
-    (home / 'crates.txt').write_text('cases:\n')
-    return home
 
 
 def translate(translator, out):
     """The cases as C by a translator, which may be a wrong one: None, or what it said."""
     out.mkdir(parents=True, exist_ok=True)
-    words = [sys.executable, '-B', translator / 'translate', 'cases', 'cases.h', '--rlib', RLIB, '--crates', SOURCES]
+    words = [sys.executable, '-B', translator / 'translate', 'cases', 'cases.h', '--crates', CRATES]
     done = subprocess.run(words, capture_output=True, text=True, check=False)
     (out / 'cases.c').write_text(done.stdout)
     return done.stderr if done.returncode else None
@@ -127,8 +132,8 @@ def signatures():
     """Each entry of the cases: name, result type, parameter types."""
     from mir import Library
     from sources import exports
-    library = Library(RLIB, 'cases')
-    found = [(name, library.functions[f'cases::{name}']) for name in exports(library.interface())]
+    library = Library(CRATES, 'cases')
+    found = [(name, library.functions[f'cases::{name}']) for name in exports(CRATES, 'cases', 'cases')]
     return [(name, f.types[0], f.types[1:f.params + 1]) for name, f in found]
 
 
@@ -197,7 +202,7 @@ def compile_and_run(out, compiler='gcc -std=c99', warnings=True):
 def driver(compiler):
     """The driver, which is the same for every translator."""
     out = HOME / f'driver_{compiler}'
-    out.mkdir(exist_ok=True)
+    out.mkdir(parents=True, exist_ok=True)
     write_driver(out)
     subprocess.run([compiler, '-std=c99', *SANITIZE, '-c', 'driver.c', '-o', 'driver.o'], cwd=out, check=True)
     return out / 'driver.o'
