@@ -155,7 +155,7 @@ fn begin(
     out: &mut [u8],
 ) -> Answer
     requires called { Called state.old f p.now out.old }
-    requires i_lt_sessions_max { ((i < sessions_max) × (k ≡ key_of (stream_of f))) × ((c.expected < 32) × ((c.follows < interfaces_max) × ((c.toggle ≡ false) × (c.len ≡ 0)))) }
+    requires idle { ((i < sessions_max) × (k ≡ key_of (stream_of f))) × ((c.expected < 32) × ((c.follows < interfaces_max) × ((c.toggle ≡ false) × (c.len ≡ 0)))) }
     ensures { returned result state.new out.new ≡ lent state.old out.old (step_at (places_of state.old) i (waiting c.expected c.time c.follows) [] (parsed_of f p.now)) }
 {
     place::wait(state, i, k, c);
@@ -165,7 +165,7 @@ fn begin(
 // The stream's session is in place i.
 fn known(state: &mut [u8], i: usize, k: u32, f: Incoming, p: &[u8], out: &mut [u8]) -> Answer
     requires called { Called state.old f p.now out.old }
-    requires i_lt_sessions_max { (i < sessions_max) × ((k ≡ key_of (stream_of f)) × (key_at state.old i ≡ k)) }
+    requires held { (i < sessions_max) × ((k ≡ key_of (stream_of f)) × (key_at state.old i ≡ k)) }
     ensures { returned result state.new out.new ≡ lent state.old out.old (step_held (places_of state.old) i (place_at state.old i) (parsed_of f p.now)) }
 {
     let c = place::load(state, i);
@@ -179,7 +179,7 @@ fn known(state: &mut [u8], i: usize, k: u32, f: Incoming, p: &[u8], out: &mut [u
 // A start of a stream without a session: the lowest empty place, else the lowest old session's.
 fn unknown(state: &mut [u8], k: u32, f: Incoming, p: &[u8], out: &mut [u8]) -> Answer
     requires called { Called state.old f p.now out.old }
-    requires k_value { (k ≡ key_of (stream_of f)) × (f.head.start ≡ true) }
+    requires start { (k ≡ key_of (stream_of f)) × (f.head.start ≡ true) }
     ensures { returned result state.new out.new ≡ lent state.old out.old (step_new (place_for f.time (places_of state.old)) (places_of state.old) (parsed_of f p.now)) }
 {
     let c = Session::fresh(f.head.transfer, f.time, f.interface);

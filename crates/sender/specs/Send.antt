@@ -12,7 +12,7 @@ use Rattle.sender.specs.declared.Outgoing.{Outgoing}
 abbrev pub call_of : Outgoing → List ℕ → Call
 call_of c p =
     record {
-      own_val = c.own;
+      own = c.own;
       transfer_type = c.transfer_type;
       type = c.type_id;
       destination = c.destination;

@@ -33,8 +33,8 @@ pub struct Outgoing {
 
 // A message or a request: the transfer ID comes from the map.
 fn number(map: &mut [u8], c: Outgoing, payload: &[u8], out: &mut [u8]) -> Sent
-    requires map_value { (sound_map map.old ≡ true) × InRange (call_of c payload.now) }
-    requires fact { (c.transfer_type ≡ 2 → ⊥) × ((length payload.now ≤ payload_max) × (frame_record * frame_count (length payload.now) ≤ length out.old)) }
+    requires ready { (sound_map map.old ≡ true) × InRange (call_of c payload.now) }
+    requires fits { (c.transfer_type ≡ 2 → ⊥) × ((length payload.now ≤ payload_max) × (frame_record * frame_count (length payload.now) ≤ length out.old)) }
     ensures { returned result map.new out.new ≡ lent map.old out.old (send_in (slot_for (topic_of (call_of c payload.now)) c.time (map_of map.old)) (call_of c payload.now) (map_of map.old)) }
 {
     let k = id_map::entry::key_of(c.transfer_type, c.type_id, c.destination);

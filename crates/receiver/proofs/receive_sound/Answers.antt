@@ -38,7 +38,7 @@ use Rattle.subscriptions.specs.declared.Subscribed.{Subscribed}
 use Rattle.state.proofs.Faultless.{long}
 use borrow.Author.Rules.{rules}
 use Rattle.receiver.proofs.receive_sound.Goals as goal
-use Rattle.receiver.proofs.receive_sound.Goals.{After-find, After-refusal-refused, After-slice_known-1, Else-unreadable-gt0, Start}
+use Rattle.receiver.proofs.receive_sound.Goals.{After-find, After-refusal-refused, Else-unreadable-gt0, Start}
 
 -- a frame that is refused leaves everything as it was
 refusing : (m out : List ℕ) → sound_state m ≡ true → Octets m → (f : rules.Arrival) (n : ℕ) → check (setup_of m) (arriving f out) ≡ some n
@@ -62,31 +62,21 @@ kind-small t k e = go (eqb t 0) e where
   go false q = omega arith
 
 -- ── what is known on the way ──
-octets : (b : After-slice_known-1) → Octets b.args.state.now
-octets b = octets-all b.args.state.now (λ i. omega (arith, b.slice_known-1.given i))
-
-read_ok : (e : Else-unreadable-gt0) → let s = e in Readable s.args.id (length s.args.frame.now) s.args.interface
-read_ok e =
-    let a = e.args in
-    readable a.id (length a.frame.now) a.interface e.unreadable-unreadable.result e.unreadable-unreadable.ensures e.if-unreadable-gt0.false
+read_ok : (c : Else-unreadable-gt0) → Readable c.args.id (length c.args.frame.now) c.args.interface
+read_ok c = readable c.args.id (length c.args.frame.now) c.args.interface c.unreadable-unreadable.result c.unreadable-unreadable.ensures c.if-unreadable-gt0.false
 
 -- the number of the checks 4 to 6
-heads-number : (r : After-refusal-refused) → let a = r.args in
-    r.refusal-refused.result ≡ or_zero (heads (setup_of a.state.now) a.id a.interface a.time a.frame.now a.out.now)
+heads-number : (c : After-refusal-refused) → let a = c.args in
+    c.refusal-refused.result ≡ or_zero (heads (setup_of a.state.now) a.id a.interface a.time a.frame.now a.out.now)
 unfolding setup_of head_of
-heads-number r =
-    let d = r in
-    let a = d.args in
-    r.refusal-refused.ensures ∙ ap (λ (h : Head). or_zero (first (head_tests_of (get_or a.state.now 0 0) h (length a.frame.now)))) d.read-h.ensures
+heads-number c =
+    let a = c.args in
+    c.refusal-refused.ensures ∙ ap (λ (h : Head). or_zero (first (head_tests_of (get_or a.state.now 0 0) h (length a.frame.now)))) c.read-h.ensures
 
 -- the subscription that the frame's type has
-found : (n : After-find) → let a = n.args in
-    asked (signature_for (setup_of a.state.now) a.id) ≡ n.find.result
-found n =
-    let k = n in
-    let d = k in
-    let a = d.args in
-    looked-up a.state.now a.id (tail_of a.frame.now) k.kind.result d.read-h.result n.find.result d.read-h.ensures k.kind.ensures n.find.ensures
+found : (c : After-find) → asked (signature_for (setup_of c.args.state.now) c.args.id) ≡ c.find.result
+found c =
+    looked-up c.args.state.now c.args.id (tail_of c.args.frame.now) c.kind.result c.read-h.result c.find.result c.read-h.ensures c.kind.ensures c.find.ensures
 
 type-fits : (id tail : ℕ) → (head_of id tail).type_id < 65536
 unfolding head_of
@@ -124,7 +114,7 @@ accepts s h g i e k r f z room by pass =
 pub returns-then-unreadable-gt0 : goal.returns-then-unreadable-gt0
 returns-then-unreadable-gt0 c =
     let a = c.args in
-    refusing a.state.now a.out.now c.requires (octets (goal.at.returns-then-unreadable-gt0 c).After-slice_known-1) (arrival_of a.id a.frame.now a.interface a.time) c.unreadable-unreadable.result
+    refusing a.state.now a.out.now c.requires (octets-all c.args.state.now (λ i. omega (arith, c.slice_known-1.given i))) (arrival_of a.id a.frame.now a.interface a.time) c.unreadable-unreadable.result
     (read-refuses (setup_of a.state.now) a.id a.interface a.time a.frame.now a.out.now c.unreadable-unreadable.result c.unreadable-unreadable.ensures c.if-unreadable-gt0.true)
 
 pub overflow_sub-n : goal.overflow_sub-n
@@ -142,7 +132,7 @@ bounds-state-0 c = omega (arith, long c.args.state.now c.requires)
 pub returns-then-refused-gt0 : goal.returns-then-refused-gt0
 returns-then-refused-gt0 c =
     let a = c.args in
-    refusing a.state.now a.out.now c.requires (octets (goal.at.returns-then-refused-gt0 c).After-slice_known-1) (arrival_of a.id a.frame.now a.interface a.time) c.refusal-refused.result
+    refusing a.state.now a.out.now c.requires (octets-all c.args.state.now (λ i. omega (arith, c.slice_known-1.given i))) (arrival_of a.id a.frame.now a.interface a.time) c.refusal-refused.result
     (head-refuses (setup_of a.state.now) a.id a.interface a.time a.frame.now a.out.now c.unreadable-unreadable.result c.unreadable-unreadable.ensures c.if-unreadable-gt0.false
     c.refusal-refused.result (heads-number (goal.at.returns-then-refused-gt0 c).After-refusal-refused) c.if-refused-gt0.true)
 
@@ -159,7 +149,7 @@ pub returns-then-out-lt-PAYLOAD : goal.returns-then-out-lt-PAYLOAD
 returns-then-out-lt-PAYLOAD c =
     let a = c.args in
     let u = setup_of a.state.now in
-    refusing a.state.now a.out.now c.requires (octets (goal.at.returns-then-out-lt-PAYLOAD c).After-slice_known-1) (arrival_of a.id a.frame.now a.interface a.time) 8
+    refusing a.state.now a.out.now c.requires (octets-all c.args.state.now (λ i. omega (arith, c.slice_known-1.given i))) (arrival_of a.id a.frame.now a.interface a.time) 8
     (no-room u a.id a.interface a.time a.frame.now a.out.now c.unreadable-unreadable.result c.unreadable-unreadable.ensures c.if-unreadable-gt0.false
     c.refusal-refused.result (heads-number (goal.at.returns-then-out-lt-PAYLOAD c).After-refusal-refused) c.if-refused-gt0.false _ (under (signature_for u a.id) _ (found (goal.at.returns-then-out-lt-PAYLOAD c).After-find ∙ c.in-Under.is)) c.if-out-lt-PAYLOAD.true)
 
@@ -174,28 +164,24 @@ pub returns-in-Not : goal.returns-in-Not
 returns-in-Not c =
     let a = c.args in
     let u = setup_of a.state.now in
-    refusing a.state.now a.out.now c.requires (octets (goal.at.returns-in-Not c).After-slice_known-1) (arrival_of a.id a.frame.now a.interface a.time) 7
+    refusing a.state.now a.out.now c.requires (octets-all c.args.state.now (λ i. omega (arith, c.slice_known-1.given i))) (arrival_of a.id a.frame.now a.interface a.time) 7
     (not-subscribed u a.id a.interface a.time a.frame.now a.out.now c.unreadable-unreadable.result c.unreadable-unreadable.ensures c.if-unreadable-gt0.false
     c.refusal-refused.result (heads-number (goal.at.returns-in-Not c).After-refusal-refused) c.if-refused-gt0.false (not-asked (signature_for u a.id) (found (goal.at.returns-in-Not c).After-find ∙ c.in-Not.is)))
 
 pub returns-else-out-lt-PAYLOAD : goal.returns-else-out-lt-PAYLOAD
 unfolding head_of
 returns-else-out-lt-PAYLOAD c =
-    let i = c in
-    let r = i in
-    let d = r in
-    let e = d in
-    let a = e.args in
+    let a = c.args in
     let m = a.state.now in
     let out = a.out.now in
     let bs = a.frame.now in
     let u = setup_of m in
     let q = under (signature_for u a.id) _ (found (goal.at.returns-else-out-lt-PAYLOAD c).After-find ∙ c.in-Under.is) in
-    let small : a.interface % 256 ≡ a.interface = omega (arith, (read_ok e).interface) in
+    let small : a.interface % 256 ≡ a.interface = omega (arith, (read_ok (goal.at.returns-else-out-lt-PAYLOAD c).Else-unreadable-gt0).interface) in
     c.accept.ensures
-    ∙ ap (λ (h : Head). lent m out (step_anonymous (rules.unnamed (head.stream_of h)) (places_of m) (parsed_of (record { head = h; signature = c.in-Under.signature; time = a.time; interface = a.interface % 256 }) (payload_of bs)))) d.read-h.ensures
+    ∙ ap (λ (h : Head). lent m out (step_anonymous (rules.unnamed (head.stream_of h)) (places_of m) (parsed_of (record { head = h; signature = c.in-Under.signature; time = a.time; interface = a.interface % 256 }) (payload_of bs)))) c.read-h.ensures
     ∙ ap (λ (v : Parsed). lent m out (step_anonymous (is_anonymous a.id) (places_of m) v))
     (ap (λ (i : ℕ). parsed_of (record { head = head_of a.id (tail_of bs); signature = c.in-Under.signature; time = a.time; interface = i }) (payload_of bs)) small
     ∙ parsed-is u a.id a.interface a.time c.in-Under.signature bs q)
     ∙ ap (lent m out) (sym (step-accepted u (places_of m) (arriving (arrival_of a.id bs a.interface a.time) out)
-    (accepted u a.id a.interface a.time bs out e.unreadable-unreadable.result e.unreadable-unreadable.ensures e.if-unreadable-gt0.false r.refusal-refused.result (heads-number r) i.if-refused-gt0.false _ q c.if-out-lt-PAYLOAD.false)))
+    (accepted u a.id a.interface a.time bs out c.unreadable-unreadable.result c.unreadable-unreadable.ensures c.if-unreadable-gt0.false c.refusal-refused.result (heads-number (goal.at.returns-else-out-lt-PAYLOAD c).After-refusal-refused) c.if-refused-gt0.false _ q c.if-out-lt-PAYLOAD.false)))

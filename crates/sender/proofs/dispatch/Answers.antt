@@ -17,74 +17,55 @@ use Rattle.sender.proofs.Pieces.{count_most}
 use Rattle.sender.proofs.Lent.{misfitting, too_long, too_small, responded, numbered, without-payload, same_id}
 use borrow.Author.Rules.{rules}
 use Rattle.sender.proofs.dispatch.Goals as goal
-use Rattle.sender.proofs.dispatch.Goals.{After-slice_known-1, Else-not_sendable, Else-out-frames, Start}
+use Rattle.sender.proofs.dispatch.Goals.{Else-not_sendable}
 
-call : Start → Call
-call s = call_of s.args.c s.args.payload.now
+fit : (c : Else-not_sendable) → not_sendable (call_of c.args.c c.args.payload.now) ≡ false
+fit c = sym c.not_sendable.ensures ∙ c.if-not_sendable.false
 
-octets : (k : After-slice_known-1) → Octets k.args.map.now
-octets k = octets-all k.args.map.now (λ i. omega (arith, k.slice_known-1.given i))
-
-fit : (e : Else-not_sendable) → not_sendable (call e) ≡ false
-unfolding call
-fit e = sym e.not_sendable.ensures ∙ e.if-not_sendable.false
-
--- what is known after the check for room
-ranged : (e : Else-not_sendable) → InRange (call e)
-ranged e = in-range (call e) (fit e)
-
-roomy : (e : Else-out-frames) → let s = e in 13 * frame_count (length s.args.payload.now) ≤ length s.args.out.now
-roomy e = omega (arith, e.count-frames.ensures)
+-- what is known once the call may be sent
+ranged : (c : Else-not_sendable) → InRange (call_of c.args.c c.args.payload.now)
+ranged c = in-range (call_of c.args.c c.args.payload.now) (fit c)
 
 pub returns-then-not_sendable : goal.returns-then-not_sendable
-unfolding call
 returns-then-not_sendable c =
-    misfitting c.args.map.now c.requires (octets (goal.at.returns-then-not_sendable c).After-slice_known-1) (call (goal.at.returns-then-not_sendable c).Start) c.args.out.now (length c.args.out.now) (sym c.not_sendable.ensures ∙ c.if-not_sendable.true)
+    misfitting c.args.map.now c.requires (octets-all c.args.map.now (λ i. omega (arith, c.slice_known-1.given i))) (call_of c.args.c c.args.payload.now) c.args.out.now (length c.args.out.now) (sym c.not_sendable.ensures ∙ c.if-not_sendable.true)
 
 pub returns-then-n-gt-PAYLOAD : goal.returns-then-n-gt-PAYLOAD
-unfolding call
 returns-then-n-gt-PAYLOAD c =
-    too_long c.args.map.now c.requires (octets (goal.at.returns-then-n-gt-PAYLOAD c).After-slice_known-1) (call (goal.at.returns-then-n-gt-PAYLOAD c).Start) c.args.out.now (length c.args.out.now) (fit (goal.at.returns-then-n-gt-PAYLOAD c).Else-not_sendable) c.if-n-gt-PAYLOAD.true
+    too_long c.args.map.now c.requires (octets-all c.args.map.now (λ i. omega (arith, c.slice_known-1.given i))) (call_of c.args.c c.args.payload.now) c.args.out.now (length c.args.out.now) (fit (goal.at.returns-then-n-gt-PAYLOAD c).Else-not_sendable) c.if-n-gt-PAYLOAD.true
 
 pub overflow_mul-frames : goal.overflow_mul-frames
 overflow_mul-frames c =
     omega (arith, c.count-frames.ensures, count_most (length c.args.payload.now) c.if-n-gt-PAYLOAD.false)
 
 pub returns-then-out-frames : goal.returns-then-out-frames
-unfolding call
 returns-then-out-frames c =
-    too_small c.args.map.now c.requires (octets (goal.at.returns-then-out-frames c).After-slice_known-1) (call (goal.at.returns-then-out-frames c).Start) c.args.out.now (length c.args.out.now) (fit (goal.at.returns-then-out-frames c).Else-not_sendable) c.if-n-gt-PAYLOAD.false (omega (arith, c.count-frames.ensures))
+    too_small c.args.map.now c.requires (octets-all c.args.map.now (λ i. omega (arith, c.slice_known-1.given i))) (call_of c.args.c c.args.payload.now) c.args.out.now (length c.args.out.now) (fit (goal.at.returns-then-out-frames c).Else-not_sendable) c.if-n-gt-PAYLOAD.false (omega (arith, c.count-frames.ensures))
 
 pub overflow_cast-transfer : goal.overflow_cast-transfer
-unfolding call
 overflow_cast-transfer c =
     omega (arith, (ranged (goal.at.overflow_cast-transfer c).Else-not_sendable).response c.if-c-eq2.true)
 
 pub id-requires : goal.id-requires
-unfolding call
 id-requires c =
     without-payload c.args.c c.args.payload.now (ranged (goal.at.id-requires c).Else-not_sendable)
 
 pub write-requires : goal.write-requires
-unfolding call
 write-requires c =
-    ((ranged (goal.at.write-requires c).Else-not_sendable).response c.if-c-eq2.true, (c.if-n-gt-PAYLOAD.false, roomy (goal.at.write-requires c).Else-out-frames))
+    ((ranged (goal.at.write-requires c).Else-not_sendable).response c.if-c-eq2.true, (c.if-n-gt-PAYLOAD.false, omega (arith, c.count-frames.ensures)))
 
 pub returns-then-c-eq2 : goal.returns-then-c-eq2
-unfolding call
 returns-then-c-eq2 c =
     let f : ℕ → List ℕ = λ x. splice c.args.out.now 0 (records_of x (sent c.args.c.signature c.args.c.transfer_id c.args.payload.now)) in
     let o : c.write.new.out ≡ f c.id.result = c.write.ensures in
-    responded c.args.map.now c.requires (octets (goal.at.returns-then-c-eq2 c).After-slice_known-1) (call (goal.at.returns-then-c-eq2 c).Start) c.args.out.now (length c.args.out.now) (fit (goal.at.returns-then-c-eq2 c).Else-not_sendable) c.if-n-gt-PAYLOAD.false (roomy (goal.at.returns-then-c-eq2 c).Else-out-frames) c.if-c-eq2.true
+    responded c.args.map.now c.requires (octets-all c.args.map.now (λ i. omega (arith, c.slice_known-1.given i))) (call_of c.args.c c.args.payload.now) c.args.out.now (length c.args.out.now) (fit (goal.at.returns-then-c-eq2 c).Else-not_sendable) c.if-n-gt-PAYLOAD.false (omega (arith, c.count-frames.ensures)) c.if-c-eq2.true
     c.count-frames.result c.write.new.out c.count-frames.ensures (o ∙ ap f (c.id.ensures ∙ same_id c.args.c c.args.payload.now))
 
 pub number-requires : goal.number-requires
-unfolding call
 number-requires c =
-    ((c.requires, ranged (goal.at.number-requires c).Else-not_sendable), (c.if-c-eq2.false, (c.if-n-gt-PAYLOAD.false, roomy (goal.at.number-requires c).Else-out-frames)))
+    record { ready = (c.requires, ranged (goal.at.number-requires c).Else-not_sendable); fits = (c.if-c-eq2.false, (c.if-n-gt-PAYLOAD.false, omega (arith, c.count-frames.ensures))) }
 
 pub returns : goal.returns
-unfolding call
 returns c =
-    numbered c.args.map.now c.requires (octets (goal.at.returns c).After-slice_known-1) (call (goal.at.returns c).Start) c.args.out.now (length c.args.out.now) (fit (goal.at.returns c).Else-not_sendable) c.if-n-gt-PAYLOAD.false (roomy (goal.at.returns c).Else-out-frames) c.if-c-eq2.false
-    (returned c.number.result c.number.new.map c.number.new.out.1.1.0) c.number.ensures
+    numbered c.args.map.now c.requires (octets-all c.args.map.now (λ i. omega (arith, c.slice_known-1.given i))) (call_of c.args.c c.args.payload.now) c.args.out.now (length c.args.out.now) (fit (goal.at.returns c).Else-not_sendable) c.if-n-gt-PAYLOAD.false (omega (arith, c.count-frames.ensures)) c.if-c-eq2.false
+    (returned c.number.result c.number.new.map c.number.new.out) c.number.ensures

@@ -19,82 +19,56 @@ use Rattle.sender.specs.Send.{call_of}
 use Rattle.sender.proofs.Lent.{drawn-lt, no_place, stored, without-payload, same_id, key_in}
 use borrow.Author.Rules.{rules}
 use Rattle.sender.proofs.number.Goals as goal
-use Rattle.sender.proofs.number.Goals.{After-drawn-transfer, After-place-i, After-slice_known-1, Start}
-
-call : Start → Call
-call s = call_of s.args.c s.args.payload.now
-
-octets : (k : After-slice_known-1) → Octets k.args.map.now
-octets k = octets-all k.args.map.now (λ i. omega (arith, k.slice_known-1.given i))
-
-long : (s : Start) → size ≤ length s.args.map.now
-long s = long-enough s.args.map.now s.requires.0.0
+use Rattle.sender.proofs.number.Goals.{After-drawn-transfer, After-place-i}
 
 -- the place is the call's
-place_is : (p : After-place-i) → let s = p in
-    p.place-i.result ≡ place_or32 (slot_for (topic_of (call s)) (call s).time (map_of s.args.map.now))
-unfolding call
-place_is p =
-    let k = p in
-    let s = k in
-    p.place-i.ensures ∙ ap (λ t. place_or32 (slot_for t s.args.c.time (map_of s.args.map.now))) k.key_of-k.ensures.0
+place_is : (c : After-place-i) → let k = call_of c.args.c c.args.payload.now in
+    c.place-i.result ≡ place_or32 (slot_for (topic_of k) k.time (map_of c.args.map.now))
+place_is c = c.place-i.ensures ∙ ap (λ t. place_or32 (slot_for t c.args.c.time (map_of c.args.map.now))) c.key_of-k.ensures.0
 
-drawn-is : (d : After-drawn-transfer) → let p = d in let s = p in
-    d.drawn-transfer.result ≡ rules.drawn (topic_of (call s)) (slot_at s.args.map.now p.place-i.result)
-unfolding call
-drawn-is d =
-    let p = d in
-    let k = p in
-    let s = k in
-    d.drawn-transfer.ensures ∙ ap (λ t. rules.drawn t (slot_at s.args.map.now p.place-i.result)) k.key_of-k.ensures.0
+drawn-is : (c : After-drawn-transfer) → c.drawn-transfer.result ≡ rules.drawn (topic_of (call_of c.args.c c.args.payload.now)) (slot_at c.args.map.now c.place-i.result)
+drawn-is c = c.drawn-transfer.ensures ∙ ap (λ t. rules.drawn t (slot_at c.args.map.now c.place-i.result)) c.key_of-k.ensures.0
 
-small : (d : After-drawn-transfer) → d.drawn-transfer.result < 32
-small d =
-    let e = d in
-    let p = e in
-    let k = p in
-    let s = k in
-    let l = drawn-lt s.args.map.now s.requires.0.0 (octets k) (topic_of (call s)) p.place-i.result (omega arith) in
-    omega (arith, drawn-is d)
+small : (c : After-drawn-transfer) → c.drawn-transfer.result < 32
+small c =
+    let o = octets-all c.args.map.now (λ i. omega (arith, c.slice_known-1.given i)) in
+    let l = drawn-lt c.args.map.now c.requires.ready.0 o (topic_of (call_of c.args.c c.args.payload.now)) c.place-i.result (omega arith) in
+    omega (arith, drawn-is c)
 
 pub key_of-k-requires : goal.key_of-k-requires
-unfolding call
-key_of-k-requires c = key_in (call (goal.at.key_of-k-requires c).Start) c.requires.0.1 c.requires.1.0
+key_of-k-requires c = key_in (call_of c.args.c c.args.payload.now) c.requires.ready.1 c.requires.fits.0
 
 pub place-i-requires : goal.place-i-requires
-place-i-requires c = (long (goal.at.place-i-requires c).Start, c.key_of-k.ensures.1)
+place-i-requires c = (long-enough c.args.map.now c.requires.ready.0, c.key_of-k.ensures.1)
 
 pub returns-then-i-gt31 : goal.returns-then-i-gt31
-unfolding call
 returns-then-i-gt31 c =
-    no_place c.args.map.now c.requires.0.0 (octets (goal.at.returns-then-i-gt31 c).After-slice_known-1) (call (goal.at.returns-then-i-gt31 c).Start) c.args.out.now c.place-i.result (place_is (goal.at.returns-then-i-gt31 c).After-place-i) c.if-i-gt31.true
+    no_place c.args.map.now c.requires.ready.0 (octets-all c.args.map.now (λ i. omega (arith, c.slice_known-1.given i))) (call_of c.args.c c.args.payload.now) c.args.out.now c.place-i.result (place_is (goal.at.returns-then-i-gt31 c).After-place-i) c.if-i-gt31.true
 
 pub drawn-transfer-requires : goal.drawn-transfer-requires
 drawn-transfer-requires c =
-    ((omega arith, long (goal.at.drawn-transfer-requires c).Start), c.key_of-k.ensures.1)
+    ((omega arith, long-enough c.args.map.now c.requires.ready.0), c.key_of-k.ensures.1)
 
 pub overflow_add-transfer : goal.overflow_add-transfer
 overflow_add-transfer c = omega (arith, small (goal.at.overflow_add-transfer c).After-drawn-transfer)
 
 pub store-requires : goal.store-requires
 store-requires c =
-    ((omega arith, long (goal.at.store-requires c).Start), c.key_of-k.ensures.1)
+    ((omega arith, long-enough c.args.map.now c.requires.ready.0), c.key_of-k.ensures.1)
 
 pub id-requires : goal.id-requires
-unfolding call
 id-requires c =
-    without-payload c.args.c c.args.payload.now c.requires.0.1
+    without-payload c.args.c c.args.payload.now c.requires.ready.1
 
 pub write-requires : goal.write-requires
 write-requires c =
-    (small (goal.at.write-requires c).After-drawn-transfer, (c.requires.1.1.0, c.requires.1.1.1))
+    (small (goal.at.write-requires c).After-drawn-transfer, (c.requires.fits.1.0, c.requires.fits.1.1))
 
 pub returns : goal.returns
-unfolding call
 returns c =
     let r : ℕ → List ℕ = λ x. splice c.args.out.now 0 (records_of x (sent c.args.c.signature c.drawn-transfer.result c.args.payload.now)) in
     let o : c.write.new.out ≡ r c.id.result = c.write.ensures in
-    stored c.args.map.now c.requires.0.0 (octets (goal.at.returns c).After-slice_known-1) (call (goal.at.returns c).Start) c.args.out.now c.place-i.result c.drawn-transfer.result c.count.result c.store.new.map c.write.new.out
+    stored c.args.map.now c.requires.ready.0 (octets-all c.args.map.now (λ i. omega (arith, c.slice_known-1.given i))) (call_of c.args.c c.args.payload.now) c.args.out.now c.place-i.result c.drawn-transfer.result c.count.result c.store.new.map c.write.new.out
     (place_is (goal.at.returns c).After-place-i) (omega arith) (drawn-is (goal.at.returns c).After-drawn-transfer)
     (c.store.ensures ∙ ap (λ x. with_slot c.args.map.now c.place-i.result (used x (next c.drawn-transfer.result) c.args.c.time)) c.key_of-k.ensures.0)
     c.count.ensures (o ∙ ap r (c.id.ensures ∙ same_id c.args.c c.args.payload.now))

@@ -10,7 +10,7 @@ dispatch-requires c = sym c.is_sound.ensures ∙ c.if-is_sound.true
 
 pub returns-then-is_sound : goal.returns-then-is_sound
 returns-then-is_sound c =
-    faultless c.args.map.now (call_of c.args.c c.args.payload.now) c.args.out.now (returned c.dispatch.result c.dispatch.new.map c.dispatch.new.out.1.1.0)
+    faultless c.args.map.now (call_of c.args.c c.args.payload.now) c.args.out.now (returned c.dispatch.result c.dispatch.new.map c.dispatch.new.out)
     (sym c.is_sound.ensures ∙ c.if-is_sound.true) c.dispatch.ensures
 
 pub returns : goal.returns

@@ -13,11 +13,10 @@ use Rattle.setup.proofs.all_fit.Goals as goal
 use Rattle.setup.proofs.all_fit.Goals.{After-type_fits}
 
 -- what the test gave is what the rules ask
-fits : (q : After-type_fits) → let l = q in let a = record_at l.args.records.now l.loop-j.j in
-    type_fits a.kind a.type ≡ q.type-fits.result
+fits : (q : After-type_fits) → let a = record_at q.args.records.now q.loop-j.j in
+    type_fits a.kind a.type ≡ q.type_fits.result
 fits q =
-    let l = q in
-    same-type (record_at l.args.records.now l.loop-j.j) q.key.result q.key.ensures ∙ sym q.type-fits.ensures
+    same-type (record_at q.args.records.now q.loop-j.j) q.key.result q.key.ensures ∙ sym q.type_fits.ensures
 
 pub loop-j-init : goal.loop-j-init
 loop-j-init c =

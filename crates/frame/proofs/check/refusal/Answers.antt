@@ -18,12 +18,11 @@ by : (own : ℕ) (h : Head) (n : ℕ) (x y z : Bool) → unnamed_service (stream
     → or_zero (pick x (some 4) (pick y (some 5) (pick z (some 6) none))) ≡ or_zero (first (head_tests_of own h n))
 by own h n x y z p q r = sym (λ i. or_zero (pick (p i) (some 4) (pick (q i) (some 5) (pick (r i) (some 6) none))))
 
-tail-is : (b : After-bad_tail) → let s = b in let a = s.args in
+tail-is : (b : After-bad_tail) → let a = b.args in
     bad_tail (unnamed (stream_of a.h)) a.h.start a.h.end a.h.toggle a.n ≡ b.bad_tail.result
 tail-is b =
-    let s = b in
-    let a = s.args in
-    ap (λ x. bad_tail x a.h.start a.h.end a.h.toggle a.n) (sym s.is_anonymous.ensures) ∙ sym b.bad_tail.ensures
+    let a = b.args in
+    ap (λ x. bad_tail x a.h.start a.h.end a.h.toggle a.n) (sym b.is_anonymous.ensures) ∙ sym b.bad_tail.ensures
 
 pub returns-then-unnamed_service : goal.returns-then-unnamed_service
 returns-then-unnamed_service c =

@@ -38,7 +38,7 @@ known-requires c =
     let z : c.key-k.result ≡ 0 → ⊥ = λ e. key-some d q.named (sym f ∙ e) in
     let w : c.key-k.result < 4294967296 = omega (arith, f, key-word d q.transfer_type q.type q.source q.destination) in
     let g : stream_of_key c.key-k.result ≡ d = ap stream_of_key f ∙ head-key d q.transfer_type q.type q.source q.destination in
-    (q, (c.if-i-lt-SESSIONS.true, (f, key-found m o (long m q.sound) d c.key-k.result z w g c.scan-i.result c.scan-i.ensures c.if-i-lt-SESSIONS.true)))
+    record { called = q; held = (c.if-i-lt-SESSIONS.true, (f, key-found m o (long m q.sound) d c.key-k.result z w g c.scan-i.result c.scan-i.ensures c.if-i-lt-SESSIONS.true)) }
 
 pub returns-then-i-lt-SESSIONS : goal.returns-then-i-lt-SESSIONS
 unfolding step_seek parsed_of
@@ -58,47 +58,37 @@ returns-then-i-lt-SESSIONS c =
     ∙ at_place m a.out.now a.p.now a.f (place_of m o (long m q.sound) d c.key-k.result z w g i c.scan-i.ensures c.if-i-lt-SESSIONS.true)
 
 pub unknown-requires : goal.unknown-requires
-unknown-requires c = (c.requires, (c.key-k.ensures, c.if-f.true))
+unknown-requires c = record { called = c.requires; start = (c.key-k.ensures, c.if-f.true) }
 
 pub returns-then-f : goal.returns-then-f
 unfolding step_seek step_start parsed_of
 returns-then-f c =
-    let e = c in
-    let n = e in
-    let y = n in
-    let b = y in
-    let s = b in
-    let a = s.args in
+    let a = c.args in
     let m = a.state.now in
-    let q = s.requires in
+    let q = c.requires in
     let d = stream_of a.f in
-    let f : y.key-k.result ≡ key_of d = y.key-k.ensures in
-    let o = octets-all m (λ i. omega (arith, b.slice_known-1.given i)) in
-    let z : y.key-k.result ≡ 0 → ⊥ = λ e. key-some d q.named (sym f ∙ e) in
-    let w : y.key-k.result < 4294967296 = omega (arith, f, key-word d q.transfer_type q.type q.source q.destination) in
-    let g : stream_of_key y.key-k.result ≡ d = ap stream_of_key f ∙ head-key d q.transfer_type q.type q.source q.destination in
+    let f : c.key-k.result ≡ key_of d = c.key-k.ensures in
+    let o = octets-all m (λ i. omega (arith, c.slice_known-1.given i)) in
+    let z : c.key-k.result ≡ 0 → ⊥ = λ e. key-some d q.named (sym f ∙ e) in
+    let w : c.key-k.result < 4294967296 = omega (arith, f, key-word d q.transfer_type q.type q.source q.destination) in
+    let g : stream_of_key c.key-k.result ≡ d = ap stream_of_key f ∙ head-key d q.transfer_type q.type q.source q.destination in
     let v = parsed_of a.f a.p.now in
     c.unknown.ensures ∙ ap (λ (x : Bool). lent m a.out.now (step_start x (places_of m) v)) (sym c.if-f.true)
-    ∙ at_place m a.out.now a.p.now a.f (no-place-of m o (long m q.sound) d y.key-k.result z w g n.scan-i.result n.scan-i.ensures e.if-i-lt-SESSIONS.false)
+    ∙ at_place m a.out.now a.p.now a.f (no-place-of m o (long m q.sound) d c.key-k.result z w g c.scan-i.result c.scan-i.ensures c.if-i-lt-SESSIONS.false)
 
 pub returns : goal.returns
 unfolding step_seek step_start parsed_of
 returns c =
-    let e = c in
-    let n = e in
-    let y = n in
-    let b = y in
-    let s = b in
-    let a = s.args in
+    let a = c.args in
     let m = a.state.now in
-    let q = s.requires in
+    let q = c.requires in
     let d = stream_of a.f in
-    let f : y.key-k.result ≡ key_of d = y.key-k.ensures in
-    let o = octets-all m (λ i. omega (arith, b.slice_known-1.given i)) in
-    let z : y.key-k.result ≡ 0 → ⊥ = λ e. key-some d q.named (sym f ∙ e) in
-    let w : y.key-k.result < 4294967296 = omega (arith, f, key-word d q.transfer_type q.type q.source q.destination) in
-    let g : stream_of_key y.key-k.result ≡ d = ap stream_of_key f ∙ head-key d q.transfer_type q.type q.source q.destination in
+    let f : c.key-k.result ≡ key_of d = c.key-k.ensures in
+    let o = octets-all m (λ i. omega (arith, c.slice_known-1.given i)) in
+    let z : c.key-k.result ≡ 0 → ⊥ = λ e. key-some d q.named (sym f ∙ e) in
+    let w : c.key-k.result < 4294967296 = omega (arith, f, key-word d q.transfer_type q.type q.source q.destination) in
+    let g : stream_of_key c.key-k.result ≡ d = ap stream_of_key f ∙ head-key d q.transfer_type q.type q.source q.destination in
     let v = parsed_of a.f a.p.now in
     untouched m q.sound o a.out.now (step_start false (places_of m) v) _ refl refl a.out.now refl
     ∙ ap (λ (x : Bool). lent m a.out.now (step_start x (places_of m) v)) (sym c.if-f.false)
-    ∙ at_place m a.out.now a.p.now a.f (no-place-of m o (long m q.sound) d y.key-k.result z w g n.scan-i.result n.scan-i.ensures e.if-i-lt-SESSIONS.false)
+    ∙ at_place m a.out.now a.p.now a.f (no-place-of m o (long m q.sound) d c.key-k.result z w g c.scan-i.result c.scan-i.ensures c.if-i-lt-SESSIONS.false)

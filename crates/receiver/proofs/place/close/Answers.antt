@@ -20,7 +20,7 @@ copy_at-requires c =
     let a = c.args in
     let q = c.requires in
     let o = octets-all a.state.now (λ i. omega (arith, c.slice_known-1.given i)) in
-    omega (arith, len_is a.state.now a.i a.k a.c a.f a.p.now a.out.now q.0 o q.1.0.awaited q.1.0.few, q.1.0.few, c.gather.auto.all.1.1.0)
+    omega (arith, len_is a.state.now a.i a.k a.c a.f a.p.now a.out.now q.0 o q.1.0.awaited q.1.0.few, q.1.0.few, c.gather.auto.all)
 
 pub over-requires : goal.over-requires
 over-requires c =
@@ -49,7 +49,7 @@ finish-requires c =
     let q = c.requires in
     let o = octets-all a.state.now (λ i. omega (arith, c.slice_known-1.given i)) in
     let l = len_is a.state.now a.i a.k a.c a.f a.p.now a.out.now q.0 o q.1.0.awaited q.1.0.few in
-    (omega (arith, l, q.1.0.few, c.gather.auto.all.1.1.0, c.copy_at.auto.dst), (omega (arith, l, q.1.0.few), (q.0.room, λ k. first-few a.state.now a.i a.k a.c a.f a.p.now a.out.now q.0 o q.1.0.awaited q.1.0.few k)))
+    (omega (arith, l, q.1.0.few, c.gather.auto.all, c.copy_at.auto.dst), (omega (arith, l, q.1.0.few), (q.0.room, λ k. first-few a.state.now a.i a.k a.c a.f a.p.now a.out.now q.0 o q.1.0.awaited q.1.0.few k)))
 
 pub returns : goal.returns
 returns c =

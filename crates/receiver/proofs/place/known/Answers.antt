@@ -15,45 +15,45 @@ load-c-requires c =
     let a = c.args in
     let q = c.requires in
     let o = octets-all a.state.now (λ i. omega (arith, c.slice_known-1.given i)) in
-    (q.1.0, long a.state.now q.0.sound)
+    (q.held.0, long a.state.now q.called.sound)
 
 pub restarts-requires : goal.restarts-requires
 restarts-requires c =
     let a = c.args in
     let q = c.requires in
     let o = octets-all a.state.now (λ i. omega (arith, c.slice_known-1.given i)) in
-    (expected a.state.now a.i a.k a.f a.p.now a.out.now q.0 o q.1.0 q.1.1.0 q.1.1.1 c.load-c.result c.load-c.ensures, q.0.transfer)
+    (expected a.state.now a.i a.k a.f a.p.now a.out.now q.called o q.held.0 q.held.1.0 q.held.1.1 c.load-c.result c.load-c.ensures, q.called.transfer)
 
 pub expects-requires : goal.expects-requires
-expects-requires c = c.requires.0.transfer
+expects-requires c = c.requires.called.transfer
 
 pub begin-requires : goal.begin-requires
 begin-requires c =
     let a = c.args in
     let q = c.requires in
     let o = octets-all a.state.now (λ i. omega (arith, c.slice_known-1.given i)) in
-    (q.0, ((q.1.0, q.1.1.0), anew a.state.now a.i a.k a.f a.p.now a.out.now q.0 o q.1.0 q.1.1.0 q.1.1.1 c.load-c.result c.load-c.ensures c.expects.result c.expects.ensures c.restart-q.result c.restart-q.ensures))
+    record { called = q.called; idle = ((q.held.0, q.held.1.0), anew a.state.now a.i a.k a.f a.p.now a.out.now q.called o q.held.0 q.held.1.0 q.held.1.1 c.load-c.result c.load-c.ensures c.expects.result c.expects.ensures c.restart-q.result c.restart-q.ensures) }
 
 pub returns-then-restarts : goal.returns-then-restarts
 returns-then-restarts c =
     let a = c.args in
     let q = c.requires in
     let o = octets-all a.state.now (λ i. omega (arith, c.slice_known-1.given i)) in
-    c.begin.ensures ∙ restarting a.state.now a.i a.k a.f a.p.now a.out.now q.0 o q.1.0 q.1.1.0 q.1.1.1 c.load-c.result c.load-c.ensures c.expects.result c.expects.ensures c.restart-q.result c.restart-q.ensures
-    (restarts-at (session_at a.state.now a.i) c.load-c.result (coded-is a.state.now a.i a.k a.f a.p.now a.out.now q.0 o q.1.0 q.1.1.0 q.1.1.1 c.load-c.result c.load-c.ensures) a.f a.p.now c.restarts.result c.restarts.ensures true c.if-restarts.true)
+    c.begin.ensures ∙ restarting a.state.now a.i a.k a.f a.p.now a.out.now q.called o q.held.0 q.held.1.0 q.held.1.1 c.load-c.result c.load-c.ensures c.expects.result c.expects.ensures c.restart-q.result c.restart-q.ensures
+    (restarts-at (session_at a.state.now a.i) c.load-c.result (coded-is a.state.now a.i a.k a.f a.p.now a.out.now q.called o q.held.0 q.held.1.0 q.held.1.1 c.load-c.result c.load-c.ensures) a.f a.p.now c.restarts.result c.restarts.ensures true c.if-restarts.true)
 
 pub proceed-requires : goal.proceed-requires
 proceed-requires c =
     let a = c.args in
     let q = c.requires in
     let o = octets-all a.state.now (λ i. omega (arith, c.slice_known-1.given i)) in
-    meets a.state.now a.i a.k a.f a.p.now a.out.now q.0 o q.1.0 q.1.1.0 q.1.1.1 c.load-c.result c.load-c.ensures
-    (restarts-at (session_at a.state.now a.i) c.load-c.result (coded-is a.state.now a.i a.k a.f a.p.now a.out.now q.0 o q.1.0 q.1.1.0 q.1.1.1 c.load-c.result c.load-c.ensures) a.f a.p.now c.restarts.result c.restarts.ensures false c.if-restarts.false)
+    meets a.state.now a.i a.k a.f a.p.now a.out.now q.called o q.held.0 q.held.1.0 q.held.1.1 c.load-c.result c.load-c.ensures
+    (restarts-at (session_at a.state.now a.i) c.load-c.result (coded-is a.state.now a.i a.k a.f a.p.now a.out.now q.called o q.held.0 q.held.1.0 q.held.1.1 c.load-c.result c.load-c.ensures) a.f a.p.now c.restarts.result c.restarts.ensures false c.if-restarts.false)
 
 pub returns : goal.returns
 returns c =
     let a = c.args in
     let q = c.requires in
     let o = octets-all a.state.now (λ i. omega (arith, c.slice_known-1.given i)) in
-    c.proceed.ensures ∙ going_on a.state.now a.i a.k a.f a.p.now a.out.now q.0 o q.1.0 q.1.1.0 q.1.1.1 c.load-c.result c.load-c.ensures
-    (restarts-at (session_at a.state.now a.i) c.load-c.result (coded-is a.state.now a.i a.k a.f a.p.now a.out.now q.0 o q.1.0 q.1.1.0 q.1.1.1 c.load-c.result c.load-c.ensures) a.f a.p.now c.restarts.result c.restarts.ensures false c.if-restarts.false)
+    c.proceed.ensures ∙ going_on a.state.now a.i a.k a.f a.p.now a.out.now q.called o q.held.0 q.held.1.0 q.held.1.1 c.load-c.result c.load-c.ensures
+    (restarts-at (session_at a.state.now a.i) c.load-c.result (coded-is a.state.now a.i a.k a.f a.p.now a.out.now q.called o q.held.0 q.held.1.0 q.held.1.1 c.load-c.result c.load-c.ensures) a.f a.p.now c.restarts.result c.restarts.ensures false c.if-restarts.false)

@@ -29,13 +29,13 @@ placed m p out h i c e f =
     ∙ ap (λ (x : Option ℕ). lent m out (step_new x (places_of m) (parsed_of h p))) (sym f)
 
 pub scan-free-requires : goal.scan-free-requires
-scan-free-requires c = long c.args.state.now c.requires.0.sound
+scan-free-requires c = long c.args.state.now c.requires.called.sound
 
 pub begin-requires : goal.begin-requires
 begin-requires c =
     let a = c.args in
     let q = c.requires in
-    (q.0, ((c.if-free-lt-SESSIONS.true, q.1.0), subst Idle (sym c.fresh-c.ensures) (q.0.transfer, (q.0.interface, (refl, refl)))))
+    record { called = q.called; idle = ((c.if-free-lt-SESSIONS.true, q.start.0), subst Idle (sym c.fresh-c.ensures) (q.called.transfer, (q.called.interface, (refl, refl)))) }
 
 pub returns-then-free-lt-SESSIONS : goal.returns-then-free-lt-SESSIONS
 returns-then-free-lt-SESSIONS c =
@@ -45,13 +45,13 @@ returns-then-free-lt-SESSIONS c =
     (place-free a.state.now a.f.time _ c.scan-free.ensures c.if-free-lt-SESSIONS.true)
 
 pub scan-old-requires : goal.scan-old-requires
-scan-old-requires c = long c.args.state.now c.requires.0.sound
+scan-old-requires c = long c.args.state.now c.requires.called.sound
 
 pub begin-requires-then-old-lt-SESSIONS : goal.begin-requires-then-old-lt-SESSIONS
 begin-requires-then-old-lt-SESSIONS c =
     let a = c.args in
     let q = c.requires in
-    (q.0, ((c.if-old-lt-SESSIONS.true, q.1.0), subst Idle (sym c.fresh-c.ensures) (q.0.transfer, (q.0.interface, (refl, refl)))))
+    record { called = q.called; idle = ((c.if-old-lt-SESSIONS.true, q.start.0), subst Idle (sym c.fresh-c.ensures) (q.called.transfer, (q.called.interface, (refl, refl)))) }
 
 pub returns-then-old-lt-SESSIONS : goal.returns-then-old-lt-SESSIONS
 returns-then-old-lt-SESSIONS c =
@@ -67,6 +67,6 @@ returns c =
     let q = c.requires in
     let o = octets-all a.state.now (λ i. omega (arith, c.slice_known-1.given i)) in
     let v = parsed_of a.f a.p.now in
-    untouched a.state.now q.0.sound o a.out.now (step_new none (places_of a.state.now) v) _ refl refl a.out.now refl
+    untouched a.state.now q.called.sound o a.out.now (step_new none (places_of a.state.now) v) _ refl refl a.out.now refl
     ∙ ap (λ (x : Option ℕ). lent a.state.now a.out.now (step_new x (places_of a.state.now) v))
     (sym (no_place a.state.now a.f.time _ c.scan-free.ensures c.if-free-lt-SESSIONS.false _ c.scan-old.ensures c.if-old-lt-SESSIONS.false))

@@ -9,9 +9,8 @@ use Rattle.sender.proofs.frames.first.Goals.{After-word}
 
 fits_word : (w : After-word) → let sum = w.args.sum in (w.word.result * 256 + sum / 256) * 256 + sum % 256 < 2 ^ 64
 fits_word w =
-    let k = w in
-    let a = k.args in
-    first_fits a.payload.now a.sum a.tail w.word.result (octets-all a.payload.now (λ i. omega (arith, k.shared_slice_known-1.given i))) (omega arith) (omega arith) (omega arith) w.word.ensures
+    let a = w.args in
+    first_fits a.payload.now a.sum a.tail w.word.result (octets-all a.payload.now (λ i. omega (arith, w.shared_slice_known-1.given i))) (omega arith) (omega arith) (omega arith) w.word.ensures
 
 pub overflow_mul-word : goal.overflow_mul-word
 overflow_mul-word c = omega (arith, fits_word (goal.at.overflow_mul-word c).After-word)

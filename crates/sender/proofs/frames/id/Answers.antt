@@ -13,7 +13,7 @@ use Rattle.rules.specs.Sent.{flag, id_of}
 use Rattle.sender.specs.Send.{call_of}
 use borrow.Author.Rules.{rules}
 use Rattle.sender.proofs.frames.id.Goals as goal
-use Rattle.sender.proofs.frames.id.Goals.{Else-c-eq0-2, Start, Then-c-eq0, Then-c-eq0-2}
+use Rattle.sender.proofs.frames.id.Goals.{Else-c-eq0-2, Then-c-eq0, Then-c-eq0-2}
 
 byte_flag : (b : Bool) → bool_byte b ≡ flag b
 byte_flag true = refl
@@ -23,28 +23,25 @@ byte_le : (b : Bool) → bool_byte b ≤ 1
 byte_le true = omega arith
 byte_le false = omega arith
 
-ranged : (s : Start) → InRange (call_of s.args.c [])
-ranged s = s.requires
-
 unnamed : (t : Then-c-eq0) → let o = t.args.c in (o.priority < 32) × ((o.discriminator < 16384) × (o.type_id < 4))
 unnamed t =
-    let r = ranged t in
+    let r = t.requires in
     let a = r.anonymous t.if-c-eq0.true in
     (r.priority, (a.0, a.1.0))
 
 message : (t : Then-c-eq0-2) → let o = t.args.c in (o.priority < 32) × ((o.type_id < 65536) × (o.own < 128))
 message t =
-    let r = ranged t in
+    let r = t.requires in
     (r.priority, ((r.message t.if-c-eq0-2.true).0, r.own))
 
 service : (t : Else-c-eq0-2) → let o = t.args.c in (o.priority < 32) × ((o.type_id < 256) × ((o.destination < 128) × (o.own < 128)))
 service t =
-    let r = ranged t in
+    let r = t.requires in
     let k = r.service t.if-c-eq0-2.false in
     (r.priority, (k.0, (k.1.1, r.own)))
 
 pub overflow_mul-priority : goal.overflow_mul-priority
-overflow_mul-priority c = omega (arith, (ranged (goal.at.overflow_mul-priority c).Start).priority)
+overflow_mul-priority c = omega (arith, c.requires.priority)
 
 pub overflow_mul-result : goal.overflow_mul-result
 overflow_mul-result c = omega (arith, unnamed (goal.at.overflow_mul-result c).Then-c-eq0)

@@ -12,9 +12,8 @@ claim_session-requires c = c.requires.0
 
 pub returns-then-stream_fits : goal.returns-then-stream_fits
 returns-then-stream_fits c =
-    let s = c in
     c.claim_session.ensures
-    ∙ in-stream s.args.state.now s.args.i s.args.k s.args.seen s.requires.1 c.if-k-eq0.false (sym c.stream_fits.ensures ∙ c.if-stream_fits.true)
+    ∙ in-stream c.args.state.now c.args.i c.args.k c.args.seen c.requires.1 c.if-k-eq0.false (sym c.stream_fits.ensures ∙ c.if-stream_fits.true)
 
 pub returns : goal.returns
 returns c =
