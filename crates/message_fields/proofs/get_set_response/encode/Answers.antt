@@ -8,14 +8,8 @@ use Rattle.protocol_param.specs.GetSetResponse.{response, response_values}
 use Rattle.protocol_param.specs.declared.value.Value.{Value}
 use Rattle.row.proofs.Rows.{both, write-short, write-refused, write_as}
 use Rattle.row.proofs.Lengths.{word_fits}
-use Rattle.message_fields.proofs.Reals.{response-17, response-27, Small, none}
+use Rattle.message_fields.proofs.Reals.{response-17, response-27, none}
 use Rattle.message_fields.proofs.get_set_response.encode.Goals as goal
-
--- past the test for reals that are no floats there is none
-small : (c : goal.Else-is_too_large) → let ws = c.args.fields.now in Small ws
-small c =
-    let l = c in
-    none l.args.fields.now (sym l.is_too_large.ensures ∙ c.if-is_too_large.false)
 
 pub returns-then-fields-lt14 : goal.returns-then-fields-lt14
 returns-then-fields-lt14 c = let a = c.args in write-short 14 a.fields.now _ a.out.now (omega arith)
@@ -32,16 +26,16 @@ returns-then-is_too_large c =
     write-refused 14 a.fields.now _ a.out.now (omega arith) 27 (response-27 a.fields.now _ _ _ _ (sym c.known.ensures ∙ c.if-known.false))
 
 pub from-v-requires : goal.from-v-requires
-from-v-requires c = (omega arith, (small c).0.0)
+from-v-requires c = (omega arith, (none c.args.fields.now (sym c.is_too_large.ensures ∙ c.if-is_too_large.false)).0.0)
 
 pub from-d-requires : goal.from-d-requires
-from-d-requires c = (omega arith, (small c).0.1)
+from-d-requires c = (omega arith, (none c.args.fields.now (sym c.is_too_large.ensures ∙ c.if-is_too_large.false)).0.1)
 
 pub from-max-requires : goal.from-max-requires
-from-max-requires c = (omega arith, (small c).1.0)
+from-max-requires c = (omega arith, (none c.args.fields.now (sym c.is_too_large.ensures ∙ c.if-is_too_large.false)).1.0)
 
 pub from-min-requires : goal.from-min-requires
-from-min-requires c = (omega arith, (small c).1.1)
+from-min-requires c = (omega arith, (none c.args.fields.now (sym c.is_too_large.ensures ∙ c.if-is_too_large.false)).1.1)
 
 pub of_written-requires : goal.of_written-requires
 unfolding width_of width_in

@@ -19,9 +19,6 @@ turn cmd n w i v h k e g =
     ap (λ (l : List ℕ). set l (i + 1) v) e ∙ ap (λ (j : ℕ). set (n ∷ front cmd i) j v) (add-one i)
     ∙ ap (λ (l : List ℕ). n ∷ l) (mapped word cmd (pos 0) 0 (front cmd i) i v h k refl g)
 
-long : (c : goal.Start invariant-loop decreases-loop) → length c.args.x.cmd ≡ 20
-long c = search rules
-
 pub loop-i-init : goal.loop-i-init
 loop-i-init c = (omega arith, refl)
 
@@ -48,8 +45,8 @@ loop-i-smaller c = omega arith
 
 pub loop-i-preserved : goal.loop-i-preserved
 loop-i-preserved c =
-    (omega arith, turn c.args.x.cmd c.args.x.count c.loop-i.w c.loop-i.i c.word.result (omega (arith, long c)) (omega arith) c.loop-i.invariant.1 (word-of _ (record { sfits = c.v-1.given }) _ c.word.ensures))
+    (omega arith, turn c.args.x.cmd c.args.x.count c.loop-i.w c.loop-i.i c.word.result (omega arith) (omega arith) c.loop-i.invariant.1 (word-of _ (record { sfits = c.v-1.given }) _ c.word.ensures))
 
 pub returns : goal.returns
 returns c =
-    c.loop-i.invariant.1 ∙ ap (λ (m : List ℕ). c.args.x.count ∷ m) (all-mapped word c.args.x.cmd 0 (front c.args.x.cmd c.loop-i.i) c.loop-i.i (long c) (omega arith) refl)
+    c.loop-i.invariant.1 ∙ ap (λ (m : List ℕ). c.args.x.count ∷ m) (all-mapped word c.args.x.cmd 0 (front c.args.x.cmd c.loop-i.i) c.loop-i.i (search rules) (omega arith) refl)
