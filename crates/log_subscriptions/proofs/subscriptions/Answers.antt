@@ -11,12 +11,8 @@ use Rattle.bits.specs.Part.{splice}
 use Rattle.rules.specs.Setup.{subscribed}
 use Rattle.types.specs.Types.{signature_of}
 use Rattle.log_subscriptions.specs.Subscriptions.{record13, records, subscriptions}
+use Rattle.log_subscriptions.proofs.subscriptions.Invariants.{filled}
 use Rattle.log_subscriptions.proofs.subscriptions.Goals as goal
-
--- the first j records
-filled : List ℕ → ℕ → List ℕ
-filled ts zero = replicate 117 0
-filled ts (suc j) = splice (filled ts j) (j * 13) (record13 (get_or ts j 0 / 65536) (get_or ts j 0 % 65536))
 
 more : (ts m m' : List ℕ) (j : ℕ) → m ≡ filled ts j → m' ≡ splice m (j * 13) (record13 (get_or ts j 0 / 65536) (get_or ts j 0 % 65536)) → m' ≡ filled ts (j + 1)
 unfolding filled
@@ -33,7 +29,7 @@ loop-j-init c = (omega arith, (refl, refl))
 pub loop-j-preserved : goal.loop-j-preserved
 loop-j-preserved c =
     let l = c.loop-j in
-    (omega arith, (c.put.auto.0 ∙ l.invariant.1.0, more _ l.out c.put.new.out l.j l.invariant.1.1 c.put.ensures))
+    (omega arith, (c.put.auto.out ∙ l.invariant.1.0, more _ l.out c.put.new.out l.j l.invariant.1.1 c.put.ensures))
 
 pub returns : goal.returns
 returns c = let l = c.loop-j in all _ l.out l.j refl (omega arith) l.invariant.1.1

@@ -12,6 +12,11 @@ use Rattle.types.specs.Types.{signature_of}
 use Rattle.log_subscriptions.specs.Subscriptions.{record13, records, subscriptions}
 use Rattle.log_subscriptions.proofs.subscriptions.Given as goal
 
+-- the first j records
+unfoldable pub filled : List ℕ → ℕ → List ℕ
+filled ts zero = replicate 117 0
+filled ts (suc j) = splice (filled ts j) (j * 13) (record13 (get_or ts j 0 / 65536) (get_or ts j 0 % 65536))
+
 abbrev pub invariant-loop-j : goal.invariant-loop-j
 invariant-loop-j l = (l.j ≤ 9) × ((length l.out ≡ 117) × (l.out ≡ filled l.types l.j))
 
