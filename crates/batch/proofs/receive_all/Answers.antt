@@ -36,10 +36,10 @@ returns-then-is_full c =
     let a = c.args in
     let g = c.loop-i.invariant in
     stopped a.records.now a.n a.state.now a.results.now a.out.now c.loop-i.state c.loop-i.results c.loop-i.out c.loop-i.i c.loop-i.past g (omega arith)
-    c.receive_one-word.new.state (span c.loop-i.out c.loop-i.past (length c.loop-i.out - c.loop-i.past)) c.receive_one-word.new.out.1.1.0 c.put_u64.new.s
-    (put_mid c.loop-i.past (length c.loop-i.out - c.loop-i.past) c.loop-i.out c.receive_one-word.new.out.1.1.0) c.receive_one-word.result
+    c.receive_one-word.new.state (span c.loop-i.out c.loop-i.past (length c.loop-i.out - c.loop-i.past)) c.receive_one-word.new.out c.put_u64.new.s
+    (put_mid c.loop-i.past (length c.loop-i.out - c.loop-i.past) c.loop-i.out c.receive_one-word.new.out) c.receive_one-word.result
     (part-lent c.loop-i.out c.loop-i.past g.inside) c.receive_one-word.ensures c.put_u64.ensures
-    (part-back c.loop-i.out c.receive_one-word.new.out.1.1.0 c.loop-i.past g.inside) (omega (arith, c.requires.1.1)) c.receive_one-word.auto.out.1.1.0
+    (part-back c.loop-i.out c.receive_one-word.new.out c.loop-i.past g.inside) (omega (arith, c.requires.1.1)) c.receive_one-word.auto.out
     (sym c.is_full.ensures ∙ c.if-is_full.true)
 
 pub loop-i-smaller : goal.loop-i-smaller
@@ -50,10 +50,10 @@ loop-i-preserved c =
     let a = c.args in
     let g = c.loop-i.invariant in
     going a.records.now a.n a.state.now a.results.now a.out.now c.loop-i.state c.loop-i.results c.loop-i.out c.loop-i.i c.loop-i.past g (omega arith)
-    c.receive_one-word.new.state (span c.loop-i.out c.loop-i.past (length c.loop-i.out - c.loop-i.past)) c.receive_one-word.new.out.1.1.0 c.put_u64.new.s
-    (put_mid c.loop-i.past (length c.loop-i.out - c.loop-i.past) c.loop-i.out c.receive_one-word.new.out.1.1.0) c.receive_one-word.result
+    c.receive_one-word.new.state (span c.loop-i.out c.loop-i.past (length c.loop-i.out - c.loop-i.past)) c.receive_one-word.new.out c.put_u64.new.s
+    (put_mid c.loop-i.past (length c.loop-i.out - c.loop-i.past) c.loop-i.out c.receive_one-word.new.out) c.receive_one-word.result
     (part-lent c.loop-i.out c.loop-i.past g.inside) c.receive_one-word.ensures c.put_u64.ensures
-    (part-back c.loop-i.out c.receive_one-word.new.out.1.1.0 c.loop-i.past g.inside) (omega (arith, c.requires.1.1)) c.receive_one-word.auto.out.1.1.0
+    (part-back c.loop-i.out c.receive_one-word.new.out c.loop-i.past g.inside) (omega (arith, c.requires.1.1)) c.receive_one-word.auto.out
     (sym c.is_full.ensures ∙ c.if-is_full.false) c.receive_one-word.auto.state c.put_u64.auto.s
 
 pub returns : goal.returns

@@ -31,7 +31,7 @@ unfolding received_many received_many_if
 returns-then-is_sound c =
     let a = c.args in
     let m = a.state.now in
-    c.receive_all_lem.ensures
+    c.receive_all.ensures
     ∙ ap (λ (k : ℕ). told (batch m (tabulate (arrival_at a.records.now) 0 k) a.out.now) a.results.now)
     (c.least-n.ensures ∙ ap (λ (k : ℕ). min k records_max) c.least.ensures)
     ∙ ap (λ (b : Bool). received_many_if b m a.records.now a.results.now a.out.now) (sym (sym c.is_sound.ensures ∙ c.if-is_sound.true))

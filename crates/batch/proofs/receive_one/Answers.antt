@@ -17,8 +17,6 @@ use borrow.Author.Rules.{rules}
 use Rattle.batch.proofs.receive_one.Goals as goal
 use Rattle.batch.proofs.receive_one.Goals.{After-receive_sound}
 
-data-length-requires c κs = search rules
-
 -- what is received is the frame of the record
 gives : (c : After-receive_sound) → returned c.receive_sound.result c.receive_sound.new.state c.receive_sound.new.out ≡ received c.args.state.now (arrival_at c.args.records.now c.args.i) c.args.out.now
 gives c =
@@ -38,8 +36,6 @@ sound-after c =
     ∙ (c.state_lasts.ensures c.args.state.now (arrival_at r c.args.i) c.args.out.now c.requires.0
     (octets-all c.args.state.now (λ k. omega (arith, c.slice_known-1.given k)))
     (arrival-typed r c.args.i (octets-all r (λ k. omega (arith, c.shared_slice_known-1.given k))) c.requires.1)).0
-
-pub data_length-requires : goal.data_length-requires
 
 pub overflow_cast-records : goal.overflow_cast-records
 overflow_cast-records c = omega (arith, c.shared_slice_known-3-1.given (c.args.i * 24 + 12))
