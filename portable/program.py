@@ -22,6 +22,12 @@ MAKE = '''/* A value of a struct type: C's compound literal, C++'s braces. */
 typedef char int_has_at_most_32_bits[sizeof(int) <= 4 ? 1 : -1];'''
 
 
+def quoted(numbers):
+    """Numbers as the characters that they are, or nothing where one is none."""
+    text = ''.join(map(chr, numbers)) if max(numbers) < 127 and min(numbers) >= 32 else ''
+    return f'"{text}"' if text and '*/' not in text else ''
+
+
 class Program:
     def __init__(self, library, sources, names):
         """names are those of the library's functions that C calls."""
@@ -86,7 +92,7 @@ class Program:
         kept = apart(self, bodies)
         texts.update({symbol: body.text(symbol in kept) for symbol, body in bodies.items()})
         top = f'#include "{header}"\n\n' + '\n'.join(f'#include <{name}.h>' for name in ('stdbool', 'stddef', 'stdint', 'string'))
-        statics = [constants(type_, numbers, self.shapes, name) for (type_, numbers), name in self.statics.items()]
+        statics = [comment(quoted(numbers)) + constants(type_, numbers, self.shapes, name) for (type_, numbers), name in self.statics.items()]
         types = list(self.shapes.definitions.values()) + list(self.shapes.makers.values())
         code = [comment(self.sources.comments.get(symbol)) + text for symbol, text in texts.items() if symbol in self.entries or self.sites[symbol]]
         return '\n\n'.join([head, top, MAKE, APART] + types + statics + sorted(self.helpers) + code) + '\n'
