@@ -17,7 +17,7 @@ pub returns-in-Refused : goal.returns-in-Refused
 unfolding performs
 returns-in-Refused c =
     let a = c.args in
-    refused-reply a.state.now (with_time (with_count a.state.now 0) a.t) a.out.now c.encode-reply.new.1.1.1.0 c.in-Refused.n
+    refused-reply a.state.now (with_time (with_count a.state.now 0) a.t) a.out.now c.encode-reply.new.out c.in-Refused.n
     (encoded allocation (pos a.node, (pos 0, a.g.now)) (length a.out.now)) c.encode-reply.result c.in-Refused.is (c.encode-reply.ensures ∙ node-sent a.node a.g.now a.out.now c.requires.1)
 
 pub returns-in-Wrote : goal.returns-in-Wrote
@@ -25,7 +25,7 @@ unfolding performs
 returns-in-Wrote c =
     let a = c.args in
     let n = c.in-Wrote.n in
-    let o = c.encode-reply.new.1.1.1.0 in
+    let o = c.encode-reply.new.out in
     ap (λ (x : List ℕ). returned (Replied n) x o) (c.time.ensures ∙ ap (λ (x : List ℕ). with_time x a.t) c.gathered_count.ensures)
     ∙ wrote-reply a.state.now (with_time (with_count a.state.now 0) a.t) a.out.now o n
     (encoded allocation (pos a.node, (pos 0, a.g.now)) (length a.out.now)) c.encode-reply.result c.in-Wrote.is (c.encode-reply.ensures ∙ node-sent a.node a.g.now a.out.now c.requires.1)
