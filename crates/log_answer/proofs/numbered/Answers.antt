@@ -14,9 +14,9 @@ returns c =
     let m = a.out.now in
     let vs = a.n ∷ [] in
     let w = c.put_words-c in
-    let k = c.put-a.auto.0 in
-    let k2 = c.put-b.auto.0 in
-    let k3 = w.auto.0 in
+    let k = c.put-a.auto.out in
+    let k2 = c.put-b.auto.out in
+    let k3 = w.auto.out in
     let e = c.put-a.ensures.end in
     let e2 = c.put-b.ensures.end in
     let e3 = w.ensures.1 in (
@@ -24,7 +24,7 @@ returns c =
           (a.sign ∷ (words vs ++ (10 ∷ []))) c.put-a.ensures
           (puts-next c.put-a.new.out c.put-b.new.out c.put.new.out c.put-a.result c.put-b.result
           c.put.result (a.sign ∷ []) (words vs ++ (10 ∷ [])) c.put-b.ensures
-          (puts-next c.put-b.new.out w.new.0 c.put.new.out c.put-b.result w.result c.put.result
+          (puts-next c.put-b.new.out w.new.out c.put.new.out c.put-b.result w.result c.put.result
           (words vs) (10 ∷ []) w.ensures.0 c.put.ensures (omega (arith, c.requires, w.ensures.0.end)))
           (omega (arith, c.requires)))
           (omega (arith, c.requires)),

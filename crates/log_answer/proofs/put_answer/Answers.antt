@@ -48,28 +48,28 @@ pub returns-then-len-payload : goal.returns-then-len-payload
 returns-then-len-payload c =
     let g = c.args in
     let p = c.put_transfer in
-    handed g.a g.payload.now g.out.now p.new.0 g.at p.result c.number-n.result c.number-n.ensures.0
+    handed g.a g.payload.now g.out.now p.new.out g.at p.result c.number-n.result c.number-n.ensures.0
     c.transfer-t.result c.transfer-t.ensures c.if-n-eq1.true
-    (front c.transfer-t.result g.payload.now g.out.now p.new.0 g.at p.result c.if-len-payload.true p.ensures)
+    (front c.transfer-t.result g.payload.now g.out.now p.new.out g.at p.result c.if-len-payload.true p.ensures)
 
 pub returns-then-n-eq1 : goal.returns-then-n-eq1
 returns-then-n-eq1 c =
     let g = c.args in
     let p = c.put_transfer-then-n-eq1 in
-    handed g.a g.payload.now g.out.now p.new.0 g.at p.result c.number-n.result c.number-n.ensures.0
+    handed g.a g.payload.now g.out.now p.new.out g.at p.result c.number-n.result c.number-n.ensures.0
     c.transfer-t.result c.transfer-t.ensures c.if-n-eq1.true
-    (whole c.transfer-t.result g.payload.now g.out.now p.new.0 g.at p.result c.if-len-payload.false p.ensures)
+    (whole c.transfer-t.result g.payload.now g.out.now p.new.out g.at p.result c.if-len-payload.false p.ensures)
 
 pub returns-then-n-eq0 : goal.returns-then-n-eq0
 returns-then-n-eq0 c =
     let g = c.args in
     let p = c.numbered in
-    plain g.a g.payload.now g.out.now p.new.0 g.at p.result c.number-n.result c.number-n.ensures.0 43 c.if-n-eq1.false
+    plain g.a g.payload.now g.out.now p.new.out g.at p.result c.number-n.result c.number-n.ensures.0 43 c.if-n-eq1.false
     (rw (eq-eqb c.number-n.result 0 c.if-n-eq0.true)) p.ensures
 
 pub returns : goal.returns
 returns c =
     let g = c.args in
     let p = c.numbered-2 in
-    plain g.a g.payload.now g.out.now p.new.0 g.at p.result c.number-n.result c.number-n.ensures.0 45 c.if-n-eq1.false
+    plain g.a g.payload.now g.out.now p.new.out g.at p.result c.number-n.result c.number-n.ensures.0 45 c.if-n-eq1.false
     (rw (ne_eqb c.number-n.result 0 c.if-n-eq0.false)) p.ensures

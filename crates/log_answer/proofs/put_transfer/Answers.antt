@@ -37,11 +37,11 @@ put-requires c =
     omega (
       arith,
       c.requires,
-      c.put-a.auto.0,
-      c.put-b.auto.0,
-      c.put_words-c.auto.0,
-      c.put-d.auto.0,
-      c.put_payload-e.auto.0,
+      c.put-a.auto.out,
+      c.put-b.auto.out,
+      c.put_words-c.auto.out,
+      c.put-d.auto.out,
+      c.put_payload-e.auto.out,
       c.put-a.ensures.end,
       c.put-b.ensures.end,
       c.put_words-c.ensures.1,
@@ -56,12 +56,12 @@ returns c =
     let w = c.put_words-c in
     let y = c.put_payload-e in
     let n = length m in
-    let k₁ : length c.put-a.new.out ≡ n = c.put-a.auto.0 in
-    let k₂ : length c.put-b.new.out ≡ n = c.put-b.auto.0 ∙ k₁ in
-    let k₃ : length w.new.0 ≡ n = w.auto.0 ∙ k₂ in
-    let k₄ : length c.put-d.new.out ≡ n = c.put-d.auto.0 ∙ k₃ in
-    let k₅ : length y.new.0 ≡ n = y.auto.0 ∙ k₄ in
-    joined a.t a.payload.now m c.put-a.new.out c.put-b.new.out w.new.0 c.put-d.new.out y.new.0
+    let k₁ : length c.put-a.new.out ≡ n = c.put-a.auto.out in
+    let k₂ : length c.put-b.new.out ≡ n = c.put-b.auto.out ∙ k₁ in
+    let k₃ : length w.new.out ≡ n = w.auto.out ∙ k₂ in
+    let k₄ : length c.put-d.new.out ≡ n = c.put-d.auto.out ∙ k₃ in
+    let k₅ : length y.new.out ≡ n = y.auto.out ∙ k₄ in
+    joined a.t a.payload.now m c.put-a.new.out c.put-b.new.out w.new.out c.put-d.new.out y.new.out
     c.put.new.out n a.at c.put-a.result c.put-b.result w.result c.put-d.result y.result
     c.put.result c.letter.result c.requires refl k₁ k₂ k₃ k₄ k₅ c.letter.ensures c.put-a.ensures
     c.put-b.ensures w.ensures.0 w.ensures.1 c.put-d.ensures y.ensures.0 y.ensures.1 c.put.ensures
