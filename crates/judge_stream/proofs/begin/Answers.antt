@@ -1,5 +1,4 @@
 -- `begin` meets its contract.
-use borrow.Author.Rules.{rules}
 use Rattle.judge_stream.proofs.Rules.{begun, not-begun}
 use Rattle.judge_stream.proofs.begin.Goals as goal
 

@@ -1,5 +1,4 @@
 -- `continues` meets its contract: the tests are those of the definition, in its order.
-use borrow.Author.Rules.{rules}
 use Rattle.judge_stream.proofs.Rules.{other-id, other-transfer, by-toggle}
 use Rattle.judge_stream.proofs.continues.Goals as goal
 

@@ -1,6 +1,5 @@
 -- `follow` meets its contract: between transfers the frame may begin one, inside one it may go on.
 use mathlib.Core.Path.{sym, ◌∙◌}
-use borrow.Author.Rules.{rules}
 use Rattle.judge_stream.proofs.Rules.{restarted, not-next, grown, not-grown}
 use Rattle.judge_stream.proofs.follow.Goals as goal
 

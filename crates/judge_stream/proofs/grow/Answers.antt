@@ -1,5 +1,4 @@
 -- `grow` meets its contract: the tests are those of the definition, in its order.
-use borrow.Author.Rules.{rules}
 use Rattle.judge_stream.proofs.Rules.{too_long, too_short, ended, differs, goes-on}
 use Rattle.judge_stream.proofs.grow.Goals as goal
 

@@ -1,5 +1,4 @@
 -- `may_follow` meets its contract: the tests are those of the definition, in its order.
-use borrow.Author.Rules.{rules}
 use borrow.Author.Tests.{eq-eqb, ne_eqb}
 use Rattle.judge_stream.proofs.Rules.{any-id}
 use Rattle.judge_stream.proofs.may_follow.Goals as goal

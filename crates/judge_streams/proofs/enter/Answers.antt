@@ -1,14 +1,12 @@
 -- `enter` meets its contract: the stream goes on from its place, or gets one, if there is one.
 use native.Mathlib.Omega.{arith}
-use borrow.Author.Rules.{rules}
 use Rattle.judge_streams.proofs.Turning.{ranged, known, full, new}
 use Rattle.judge_streams.proofs.Words.{in-range}
 use Rattle.judge_streams.proofs.enter.Goals as goal
 
 pub follow-s-requires : goal.follow-s-requires
 follow-s-requires c =
-    let s = c in
-    (rw c.load.ensures (in-range s.args.table.now _), s.requires.1.passed)
+    (rw c.load.ensures (in-range c.args.table.now _), c.requires.1.passed)
 
 pub put-requires : goal.put-requires
 put-requires c =

@@ -1,10 +1,6 @@
 -- `find` meets its contract: no place passed has the key.
-use mathlib.Core.Path.{◌≡◌}
-use Prim.Native.Nat.{ℕ, ◌+◌, ◌-◌, ◌%◌, ◌≤◌, ◌<◌}
 use borrow.Author.Count.{below_more}
 use borrow.Author.Rules.{rules}
-use lib.ListN.{get_or}
-use Rattle.judge_streams.specs.inside.Table.{ids_at}
 use Rattle.judge_streams.proofs.find.Goals as goal
 
 pub loop-j-preserved : goal.loop-j-preserved

@@ -1,6 +1,5 @@
 -- `load` meets its contract.
 use mathlib.Core.Path.{refl}
-use borrow.Author.Rules.{rules}
 use Rattle.judge_streams.specs.inside.Table.{kept_of}
 use Rattle.judge_streams.proofs.load.Goals as goal
 

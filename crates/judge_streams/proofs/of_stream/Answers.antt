@@ -1,7 +1,6 @@
 -- `of_stream` meets its contract: the stream is at the place that was found, or at none.
 use mathlib.Core.Path.{sym, ap, ◌∙◌}
 use mathlib.Core.Option.{none}
-use borrow.Author.Rules.{rules}
 use Rattle.judge_rules.specs.inside.Brief.{rests}
 use Rattle.judge_stream.specs.inside.Kept.{brief_in}
 use Rattle.judge_streams.proofs.Places.{known-state, new-state}

@@ -1,6 +1,5 @@
 -- `progress` meets its contract: each field is read back.
 use native.Mathlib.Omega.{arith}
-use borrow.Author.Rules.{rules}
 use Rattle.judge_streams.proofs.Words.{byte_le, unpacked}
 use Rattle.judge_streams.proofs.progress.Goals as goal
 

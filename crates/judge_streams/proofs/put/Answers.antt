@@ -1,6 +1,5 @@
 -- `put` meets its contract.
 use mathlib.Core.Path.{refl}
-use borrow.Author.Rules.{rules}
 use Rattle.judge_streams.proofs.put.Goals as goal
 
 pub store-requires : goal.store-requires

@@ -1,5 +1,4 @@
 -- `store` meets its contract.
-use borrow.Author.Rules.{rules}
 use Rattle.judge_streams.proofs.Words.{stored}
 use Rattle.judge_streams.proofs.store.Goals as goal
 
