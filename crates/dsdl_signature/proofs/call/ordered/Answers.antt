@@ -4,43 +4,44 @@ use Rattle.dsdl_signature.proofs.Faults.{named}
 use Rattle.dsdl_signature.specs.declared.answer.Answer.TheVariants.{Done}
 use Rattle.dsdl_signature.specs.Call.{returned}
 use Rattle.dsdl_text.proofs.Choices.{by}
-use borrow.Author.Tests.{not-true, not-false}
 use native.Mathlib.Omega.{arith}
 use mathlib.Core.List.{List}
 use mathlib.Core.Path.{ap₂, ◌∙◌}
 use Prim.Native.Nat.{ℕ}
-use borrow.Author.Rules.{rules}
 use Rattle.dsdl_signature.proofs.call.ordered.Goals as goal
 
 pub returns-then-not-all_given : goal.returns-then-not-all_given
 returns-then-not-all_given c =
     let a = c.args in
-    missing a.source.now a.bounds a.n a.out.now a.records.now (by c.all_given.ensures (not-true _ c.if-not-all_given.true))
+    missing a.source.now a.bounds a.n a.out.now a.records.now (by c.all_given.ensures c.if-not-all_given.true)
 
 pub returns-then-not-all_within : goal.returns-then-not-all_within
 returns-then-not-all_within c =
     let a = c.args in
-    deep a.source.now a.bounds a.n a.out.now a.records.now (by c.all_given.ensures (not-false _ c.if-not-all_given.false)) (by c.all_within.ensures (not-true _ c.if-not-all_within.true))
+    deep a.source.now a.bounds a.n a.out.now a.records.now (by c.all_given.ensures c.if-not-all_given.false) (by c.all_within.ensures c.if-not-all_within.true)
 
 pub ends-ends-requires : goal.ends-ends-requires
-ends-ends-requires c = (c.requires.0.0, named c.args.source.now c.args.bounds c.args.n c.requires.1)
+ends-ends-requires c = (c.requires.inside.0, named c.args.source.now c.args.bounds c.args.n c.requires.n_value)
 
 pub returns-then-out-ends : goal.returns-then-out-ends
 returns-then-out-ends c =
     let a = c.args in
-    no_room a.source.now a.bounds a.n a.out.now a.records.now (by c.all_given.ensures (not-false _ c.if-not-all_given.false)) (by c.all_within.ensures (not-false _ c.if-not-all_within.false)) c.ends-ends.result c.ends-ends.ensures c.if-out-ends.true
+    no_room a.source.now a.bounds a.n a.out.now a.records.now (by c.all_given.ensures c.if-not-all_given.false) (by c.all_within.ensures c.if-not-all_within.false) c.ends-ends.result c.ends-ends.ensures c.if-out-ends.true
 
 pub returns-then-records-n : goal.returns-then-records-n
 returns-then-records-n c =
     let a = c.args in
-    no-places a.source.now a.bounds a.n a.out.now a.records.now (by c.all_given.ensures (not-false _ c.if-not-all_given.false)) (by c.all_within.ensures (not-false _ c.if-not-all_within.false)) c.ends-ends.result c.ends-ends.ensures c.if-out-ends.false c.if-records-n.true
+    no-places a.source.now a.bounds a.n a.out.now a.records.now (by c.all_given.ensures c.if-not-all_given.false) (by c.all_within.ensures c.if-not-all_within.false) c.ends-ends.result c.ends-ends.ensures c.if-out-ends.false c.if-records-n.true
 
 pub write-requires : goal.write-requires
 write-requires c =
-    ((c.requires.0.0, by c.all_given.ensures (not-false _ c.if-not-all_given.false)), (c.ends-ends.ensures, (c.if-out-ends.false, omega (arith, c.if-records-n.false))))
+    record {
+      inside = (c.requires.inside.0, by c.all_given.ensures c.if-not-all_given.false);
+      ends = (c.ends-ends.ensures, (c.if-out-ends.false, omega (arith, c.if-records-n.false)));
+    }
 
 pub returns : goal.returns
 returns c =
     let a = c.args in
     ap₂ (λ (x y : List ℕ). returned Done x y) c.write.ensures.0 c.write.ensures.1
-    ∙ done a.source.now a.bounds a.n a.out.now a.records.now (by c.all_given.ensures (not-false _ c.if-not-all_given.false)) (by c.all_within.ensures (not-false _ c.if-not-all_within.false)) c.ends-ends.result c.ends-ends.ensures c.if-out-ends.false c.if-records-n.false
+    ∙ done a.source.now a.bounds a.n a.out.now a.records.now (by c.all_given.ensures c.if-not-all_given.false) (by c.all_within.ensures c.if-not-all_within.false) c.ends-ends.result c.ends-ends.ensures c.if-out-ends.false c.if-records-n.false

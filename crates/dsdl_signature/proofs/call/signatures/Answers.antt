@@ -5,7 +5,6 @@ use Rattle.dsdl_given.proofs.Sizes.{at-most, no-twice, all-kept}
 use Rattle.dsdl_text.proofs.Choices.{by}
 use native.Mathlib.Omega.{arith}
 use mathlib.Core.Path.{sym, ap, ◌∙◌}
-use borrow.Author.Rules.{rules}
 use Rattle.dsdl_signature.proofs.call.signatures.Goals as goal
 
 pub returns-then-is_oversized : goal.returns-then-is_oversized
@@ -26,10 +25,11 @@ first-requires c =
 pub ordered-requires : goal.ordered-requires
 ordered-requires c =
     let a = c.args in
-    let fine = by c.is_oversized.ensures c.if-is_oversized.false in (
-      (all-kept a.source.now a.lengths.now fine c.bounds-bounds.result c.bounds-bounds.ensures, no-twice a.source.now a.lengths.now fine c.bounds-bounds.result c.bounds-bounds.ensures),
-      sym c.first.ensures ∙ ap placed c.in-Nowhere.is,
-    )
+    let fine = by c.is_oversized.ensures c.if-is_oversized.false in
+    record {
+      inside = (all-kept a.source.now a.lengths.now fine c.bounds-bounds.result c.bounds-bounds.ensures, no-twice a.source.now a.lengths.now fine c.bounds-bounds.result c.bounds-bounds.ensures);
+      n_value = sym c.first.ensures ∙ ap placed c.in-Nowhere.is;
+    }
 
 pub returns-in-At : goal.returns-in-At
 returns-in-At c =

@@ -4,18 +4,11 @@ use Rattle.dsdl_given.specs.Given.{fault_from}
 use Rattle.dsdl_given.specs.inside.Places.{definition_at, given}
 use Rattle.dsdl_signature.specs.inside.Fault.{told}
 use Rattle.dsdl.specs.Definition.{verdict}
-use Rattle.bits.specs.Tabulate.{tabulate}
 use native.Mathlib.Nat.{sub-zero}
 use native.Mathlib.Omega.{arith}
-use Prim.Native.Nat.{ℕ, ◌+◌, ◌-◌}
-use mathlib.Core.Path.{◌≡◌, sym, ap, ap₂, ◌∙◌}
-use borrow.Author.Rules.{rules}
+use Prim.Native.Nat.{ℕ}
+use mathlib.Core.Path.{sym, ap, ap₂, ◌∙◌}
 use Rattle.dsdl_signature.proofs.fault.first.Goals as goal
-
--- what the code judges is what the definition asks
-judged : (j : goal.After-judge invariant-loop decreases-loop) → let l = j in let a = l.args in
-    told j.judge.result ≡ verdict (definition_at a.source.now a.bounds l.loop.i).name (definition_at a.source.now a.bounds l.loop.i).text
-judged j = j.judge.ensures ∙ ap₂ verdict j.name.ensures j.text.ensures.0
 
 pub loop-i-init : goal.loop-i-init
 loop-i-init c = let a = c.args in ap (λ (k : ℕ). fault_from 1 (given a.source.now a.bounds k)) (sub-zero a.n)
@@ -38,7 +31,7 @@ loop-i-smaller c = omega arith
 pub loop-i-preserved : goal.loop-i-preserved
 loop-i-preserved c =
     let a = c.args in
-    sym (passes (definition_at a.source.now a.bounds) c.loop-i.i a.n (omega arith) (ap told (sym c.in-Good.is) ∙ judged c)) ∙ c.loop-i.invariant
+    sym (passes (definition_at a.source.now a.bounds) c.loop-i.i a.n (omega arith) (ap told (sym c.in-Good.is) ∙ (c.judge.ensures ∙ ap₂ verdict c.name.ensures c.text.ensures.0))) ∙ c.loop-i.invariant
 
 pub overflow_cast-result : goal.overflow_cast-result
 overflow_cast-result c = omega (arith, c.requires.few)
@@ -49,7 +42,7 @@ overflow_add-result c = omega (arith, c.requires.few)
 pub returns-in-Faulty : goal.returns-in-Faulty
 returns-in-Faulty c =
     let a = c.args in
-    stops (definition_at a.source.now a.bounds) c.loop-i.i a.n c.in-Faulty.line (omega arith) (ap told (sym c.in-Faulty.is) ∙ judged c) ∙ c.loop-i.invariant
+    stops (definition_at a.source.now a.bounds) c.loop-i.i a.n c.in-Faulty.line (omega arith) (ap told (sym c.in-Faulty.is) ∙ (c.judge.ensures ∙ ap₂ verdict c.name.ensures c.text.ensures.0)) ∙ c.loop-i.invariant
 
 pub returns : goal.returns
 returns c =

@@ -1,13 +1,12 @@
 -- `forms::ends` meets its contract.
 use Rattle.dsdl.specs.Form.{form_of}
 use Rattle.dsdl_given.proofs.Located.{one_more}
-use Rattle.dsdl_signature.specs.inside.Written.{form_at, Ends}
+use Rattle.dsdl_signature.specs.inside.Written.{form_at}
 use native.Mathlib.Omega.{arith}
 use lib.Seq.{get_or-set_same}
-use lib.ListN.{length, get_or, length-set}
-use Prim.Native.Nat.{ℕ, ◌+◌, ◌*◌, ◌-◌, ◌^◌, ◌≤◌, ◌<◌}
-use mathlib.Core.Path.{◌≡◌, refl, sym, ap, ap₂, ◌∙◌}
-use borrow.Author.Rules.{rules}
+use lib.ListN.{length, length-set}
+use Prim.Native.Nat.{ℕ, ◌+◌, ◌<◌}
+use mathlib.Core.Path.{refl, sym, ap, ap₂, ◌∙◌}
 use Rattle.dsdl_signature.proofs.forms.ends.Goals as goal
 
 pub loop-i-init : goal.loop-i-init

@@ -1,12 +1,7 @@
-use Rattle.dsdl.specs.Form.{form_of}
-use Rattle.dsdl_given.proofs.Located.{one_more}
-use Rattle.dsdl_signature.specs.inside.Written.{form_at, Ends}
-use native.Mathlib.Omega.{arith}
-use lib.Seq.{get_or-set_same}
-use lib.ListN.{length, get_or, length-set}
-use Prim.Native.Nat.{ℕ, ◌+◌, ◌*◌, ◌-◌, ◌^◌, ◌≤◌, ◌<◌}
-use mathlib.Core.Path.{◌≡◌, refl, sym, ap, ap₂, ◌∙◌}
-use borrow.Author.Rules.{rules}
+use Rattle.dsdl_signature.specs.inside.Written.{Ends}
+use lib.ListN.{length, get_or}
+use Prim.Native.Nat.{◌*◌, ◌-◌, ◌^◌, ◌≤◌}
+use mathlib.Core.Path.{◌≡◌}
 use Rattle.dsdl_signature.proofs.forms.ends.Given as goal
 
 abbrev pub invariant-loop-i : goal.invariant-loop-i

@@ -1,24 +1,20 @@
 -- `forms::write` meets its contract.
 use Rattle.dsdl_signature.proofs.Joined.{joined_length, one_written, room, one-stored}
-use Rattle.dsdl_nesting.specs.inside.Kept.{Hashes}
-use Rattle.dsdl_signature.specs.inside.Written.{joined, form_at}
+use Rattle.dsdl_signature.specs.inside.Written.{joined, form_at, Ends}
 use Rattle.checksum.specs.Signature.{hash_from}
 use Rattle.bits.specs.Part.{splice}
 use Rattle.bits.proofs.Splice.{length-splice}
 use native.Mathlib.Omega.{arith}
 use lib.ListN.{length, get_or, length-set}
-use Prim.Native.Nat.{ℕ, ◌+◌, ◌-◌, ◌≤◌, ◌<◌}
+use Prim.Native.Nat.{ℕ, ◌+◌, ◌≤◌, ◌<◌}
+use mathlib.Core.List.{List}
 use mathlib.Core.Path.{◌≡◌, refl, ap, ◌∙◌}
-use borrow.Author.Rules.{rules}
 use Rattle.dsdl_signature.proofs.forms.write.Goals as goal
 
 -- form i has room
-has_room : (l : goal.At-loop-i invariant-loop decreases-loop) → let a = l.args in
-    l.loop.i < a.n → get_or a.t4 l.loop.i 0 + length (form_at a.source.now a.bounds l.loop.i) ≤ length a.out.now
-has_room l h =
-    let s = l in
-    let a = s.args in
-    room (λ (j : ℕ). length (form_at a.source.now a.bounds j)) a.t4 a.n l.loop.i (length a.out.now) s.requires.1.0 h s.requires.1.1
+has_room : (source bounds ends out : List ℕ) (n i : ℕ) → Ends source bounds ends n × (get_or ends n 0 ≤ length out) → i < n
+    → get_or ends i 0 + length (form_at source bounds i) ≤ length out
+has_room source bounds ends out n i e h = room (λ (j : ℕ). length (form_at source bounds j)) ends n i (length out) e.0 h e.1
 
 pub loop-i-init : goal.loop-i-init
 unfolding joined
@@ -29,7 +25,7 @@ bounds-ends-i c = omega (arith, c.requires.0.few)
 
 pub put-h-requires : goal.put-h-requires
 put-h-requires c =
-    (c.requires.0.holds c.loop-i.i c.loop-i-test.true, omega (arith, has_room c c.loop-i-test.true))
+    (c.requires.0.holds c.loop-i.i c.loop-i-test.true, omega (arith, has_room c.args.source.now c.args.bounds c.args.ends c.args.out.now c.args.n c.loop-i.i c.requires.1 c.loop-i-test.true))
 
 pub bounds-hashes-i : goal.bounds-hashes-i
 bounds-hashes-i c = omega (arith, c.requires.0.few)
@@ -49,9 +45,9 @@ loop-i-preserved c =
     let g : i < length c.loop-i.hashes = omega (arith, c.requires.0.few) in (
       (omega arith, length-set c.loop-i.hashes i c.put-h.result ∙ v.0.1),
       (
-        ap length c.put-h.ensures.0 ∙ (length-splice c.loop-i.out (get_or a.t4 i 0) (f i) (omega (arith, has_room c c.loop-i-test.true)) ∙ v.1.0),
+        ap length c.put-h.ensures.0 ∙ (length-splice c.loop-i.out (get_or a.ends i 0) (f i) (omega (arith, has_room c.args.source.now c.args.bounds c.args.ends c.args.out.now c.args.n c.loop-i.i c.requires.1 c.loop-i-test.true)) ∙ v.1.0),
         (
-          one_written f a.out.now c.loop-i.out c.put-h.new.1.1.1.0 (get_or a.t4 i 0) i (joined_length f a.t4 a.n c.requires.1.0 i (omega arith)) (has_room c c.loop-i-test.true) v.1.1.0 c.put-h.ensures.0,
+          one_written f a.out.now c.loop-i.out c.put-h.new.out (get_or a.ends i 0) i (joined_length f a.ends a.n c.requires.1.0 i (omega arith)) (has_room c.args.source.now c.args.bounds c.args.ends c.args.out.now c.args.n c.loop-i.i c.requires.1 c.loop-i-test.true) v.1.1.0 c.put-h.ensures.0,
           one-stored (λ (j : ℕ). hash_from 0 (f j)) c.loop-i.hashes i c.put-h.result g v.1.1.1 c.put-h.ensures.1,
         ),
       ),

@@ -1,14 +1,9 @@
-use Rattle.dsdl_signature.proofs.Joined.{joined_length, one_written, room, one-stored}
 use Rattle.dsdl_nesting.specs.inside.Kept.{Hashes}
 use Rattle.dsdl_signature.specs.inside.Written.{joined, form_at}
-use Rattle.checksum.specs.Signature.{hash_from}
 use Rattle.bits.specs.Part.{splice}
-use Rattle.bits.proofs.Splice.{length-splice}
-use native.Mathlib.Omega.{arith}
-use lib.ListN.{length, get_or, length-set}
-use Prim.Native.Nat.{ℕ, ◌+◌, ◌-◌, ◌≤◌, ◌<◌}
-use mathlib.Core.Path.{◌≡◌, refl, ap, ◌∙◌}
-use borrow.Author.Rules.{rules}
+use lib.ListN.{length}
+use Prim.Native.Nat.{◌-◌, ◌≤◌}
+use mathlib.Core.Path.{◌≡◌}
 use Rattle.dsdl_signature.proofs.forms.write.Given as goal
 
 abbrev pub invariant-loop-i : goal.invariant-loop-i

@@ -3,7 +3,6 @@ use native.Mathlib.Omega.{arith}
 use Rattle.bits.specs.Little.{le_bytes}
 use Rattle.bits.proofs.Splice.{splice-next}
 use Rattle.bits.proofs.Little.{length-le_bytes}
-use borrow.Author.Rules.{rules}
 use Rattle.dsdl_signature.proofs.records.put.Goals as goal
 
 pub returns : goal.returns

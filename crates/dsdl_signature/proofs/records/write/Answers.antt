@@ -6,9 +6,8 @@ use Rattle.bits.specs.Part.{splice}
 use Rattle.bits.proofs.Splice.{length-splice}
 use native.Mathlib.Omega.{arith}
 use lib.ListN.{length, get_or}
-use Prim.Native.Nat.{ℕ, ◌+◌, ◌*◌, ◌-◌, ◌≤◌}
+use Prim.Native.Nat.{ℕ, ◌+◌, ◌*◌, ◌-◌}
 use mathlib.Core.Path.{◌≡◌, refl, ap, ◌∙◌}
-use borrow.Author.Rules.{rules}
 use Rattle.dsdl_signature.proofs.records.write.Goals as goal
 
 pub loop-i-init : goal.loop-i-init
@@ -46,8 +45,8 @@ pub loop-i-preserved : goal.loop-i-preserved
 loop-i-preserved c =
     let a = c.args in
     let i = c.loop-i.i in
-    let f = record_at a.t1 a.t2 in
-    let e : (j : ℕ) → length (f j) ≡ record_size = λ j. record-length (get_or a.t1 (j + 1) 0 - get_or a.t1 j 0) (get_or a.t2 j 0) in (
+    let f = record_at a.ends a.signatures in
+    let e : (j : ℕ) → length (f j) ≡ record_size = λ j. record-length (get_or a.ends (j + 1) 0 - get_or a.ends j 0) (get_or a.signatures j 0) in (
       omega arith,
       (
         ap length c.put.ensures ∙ (length-splice c.loop-i.records (i * record_size) (f i) (omega (arith, e i)) ∙ c.loop-i.invariant.1.0),
@@ -59,4 +58,4 @@ pub returns : goal.returns
 returns c =
     let a = c.args in
     let q : c.loop-i.i ≡ a.n = omega arith in
-    c.loop-i.invariant.1.1 ∙ ap (λ (k : ℕ). splice a.records.now 0 (joined (record_at a.t1 a.t2) 0 k)) q
+    c.loop-i.invariant.1.1 ∙ ap (λ (k : ℕ). splice a.records.now 0 (joined (record_at a.ends a.signatures) 0 k)) q

@@ -1,13 +1,8 @@
-use Rattle.dsdl_signature.proofs.Joined.{joined-fixed, one_written, record-length}
-use Rattle.dsdl_signature.specs.Call.{record_size}
 use Rattle.dsdl_signature.specs.inside.Written.{joined, record_at}
 use Rattle.bits.specs.Part.{splice}
-use Rattle.bits.proofs.Splice.{length-splice}
-use native.Mathlib.Omega.{arith}
-use lib.ListN.{length, get_or}
-use Prim.Native.Nat.{ℕ, ◌+◌, ◌*◌, ◌-◌, ◌≤◌}
-use mathlib.Core.Path.{◌≡◌, refl, ap, ◌∙◌}
-use borrow.Author.Rules.{rules}
+use lib.ListN.{length}
+use Prim.Native.Nat.{◌-◌, ◌≤◌}
+use mathlib.Core.Path.{◌≡◌}
 use Rattle.dsdl_signature.proofs.records.write.Given as goal
 
 abbrev pub invariant-loop-i : goal.invariant-loop-i
