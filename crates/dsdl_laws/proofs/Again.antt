@@ -18,7 +18,7 @@ use Rattle.dsdl_type.specs.Size.{size_fits, size_form}
 use Rattle.dsdl_line.specs.declared.shape.Cast.{Cast}
 use Rattle.dsdl_line.specs.declared.shape.Cast.TheVariants.{Unsaid, Saturated, Truncated}
 use Rattle.dsdl_line.specs.Line.{Shape, is_unsaid, field_type, attribute_with, attribute, cast_attribute, shape_with, judged, line_of}
-use Rattle.dsdl_line.specs.Line.Line.{union, padding, field}
+use Rattle.dsdl_line.specs.Line.Line.{padding, field}
 use Rattle.dsdl.specs.Form.{cast_form, type_form}
 use Rattle.dsdl_laws.proofs.Characters.{no, and_left, decided, Each, each_append, all_cons, taken, dropped, Solid, solid-append, solid-each, visible, bare-char, naming, naming-solid, naming-unbracketed, same-equal}
 use Rattle.dsdl_laws.proofs.Dots.{dotted-solid, dotted-unbracketed}
