@@ -1,6 +1,7 @@
 -- `read::fields` meets its contract.
 use Rattle.log_line.proofs.Steps.{is, not, shape, unread, no-seconds, needless-zero, no-milliseconds, no-id, no-data, told, read_all, field_lt, sec-lt}
 use native.Mathlib.Omega.{arith}
+use borrow.Author.Tests.{not-true, not-false}
 use mathlib.Core.Path.{sym, ◌∙◌}
 use Prim.Native.Nat.{◌+◌}
 use Rattle.log_line.proofs.read.fields.Goals as goal
@@ -74,7 +75,7 @@ returns-then-not-b c =
     let ms = is _ c.number-then-count-s.result _ c.number-then-count-s.ensures c.in-Is-number.is in
     let id = is _ c.number-then-count-s-2.result _ c.number-then-count-s-2.ensures c.in-Is-number-2.is in
     unread a.s _ c.ill_formed-then-not-b.result c.ill_formed-then-not-b.ensures
-    (no-data a.s a.line.now _ sec _ ms _ id c.pairs-b.result.ok _ (c.if-not-b.true) c.pairs-b.ensures.0)
+    (no-data a.s a.line.now _ sec _ ms _ id c.pairs-b.result.ok _ (not-true c.pairs-b.result.ok c.if-not-b.true) c.pairs-b.ensures.0)
 
 pub overflow_add-result : goal.overflow_add-result
 overflow_add-result c = omega (arith, (shape c.args.s c.args.line.now c.requires).few)
@@ -115,7 +116,7 @@ returns-then-count-s c =
     let h = shape a.s a.line.now c.requires in
     told a.s _ _ _ c.pairs-b.result.bytes _ c.pairs-b.ensures.1.0 (omega (arith, h.short, h.long)) c.pairs-b.ensures.1.1
     (read_all a.s a.line.now _ sec _ ms _ id (sym c.count.ensures.0 ∙ c.if-count-s.true)
-    c.pairs-b.result.ok _ (c.if-not-b.false) c.pairs-b.ensures.0)
+    c.pairs-b.result.ok _ (not-false c.pairs-b.result.ok c.if-not-b.false) c.pairs-b.ensures.0)
 
 pub returns : goal.returns
 returns c =
