@@ -46,14 +46,14 @@ put_words-p-requires c =
 
 pub bounds-out-p : goal.bounds-out-p
 bounds-out-p c =
-    let k = simp length-set at c.put_words-p.auto.0 in
+    let k = simp length-set at c.put_words-p.auto.out in
     omega (arith, k, c.requires, c.put_words-p.ensures.1)
 
 pub shape_of-out : goal.shape_of-out
 shape_of-out c =
-    length-set c.put_words-p.new.out c.put_words-p.result 10 ∙ simp length-set at c.put_words-p.auto.0
+    length-set c.put_words-p.new.out c.put_words-p.result 10 ∙ simp length-set at c.put_words-p.auto.out
 
 pub returns : goal.returns
 returns c =
     joined c.args.c c.args.out.now c.put_words-p.new.out c.args.at c.put_words-p.result c.requires
-    (simp length-set at c.put_words-p.auto.0) c.put_words-p.ensures.0 c.put_words-p.ensures.1
+    (simp length-set at c.put_words-p.auto.out) c.put_words-p.ensures.0 c.put_words-p.ensures.1

@@ -32,8 +32,9 @@ ill m l out out' at c s n e f =
 pub returns : goal.returns
 returns c =
     let a = c.args in
-    let l = a.line.now in (
-      ill a.state.now l a.out.now c.refuse.new.out a.at a.c c.refuse.result
-          (unsaid l c.read-l.result c.read-l.ensures c.if-l.false) c.refuse.ensures.0 c.refuse.ensures.1.0,
-      (c.requires.0, omega (arith, c.refuse.ensures.1.1, c.requires.1.0)),
-    )
+    let l = a.line.now in
+    record {
+      out_after = ill a.state.now l a.out.now c.refuse.new.out a.at a.c c.refuse.result
+          (unsaid l c.read-l.result c.read-l.ensures c.if-l.false) c.refuse.ensures.0 c.refuse.ensures.1.0;
+      fact = (c.requires.0, omega (arith, c.refuse.ensures.1.1, c.requires.1.0));
+    }

@@ -44,8 +44,8 @@ pub put_answer-past-requires : goal.put_answer-past-requires
 put_answer-past-requires c =
     omega (
       arith,
-      c.copy_at.auto.0,
-      c.receive_sound-a.auto.1.1.1.1.1.0,
+      c.copy_at.auto.dst,
+      c.receive_sound-a.auto.out,
       head_few c.args.line.now c.args.l c.requires.0 c.requires.1.0,
       c.requires.1.1.1,
     )
@@ -56,21 +56,22 @@ returns c =
     let p = c.requires in
     let l = a.line.now in
     let m = a.state.now in
-    let e : receive.returned c.receive_sound-a.result c.receive_sound-a.new.state c.receive_sound-a.new.out.1.1.1.1.0
+    let e : receive.returned c.receive_sound-a.result c.receive_sound-a.new.state c.receive_sound-a.new.out
     ≡ receive.received m (logged (frame_said a.l)) (replicate 512 0) =
     c.receive_sound-a.ensures
     ∙ ap (λ (n : ℕ). lent m (replicate 512 0) (step (setup_of m) (places_of m) (arriving (arrival_of a.l.id (take n a.l.bytes) 0 a.l.time) (replicate 512 0))))
     (sub-zero a.l.len)
-    ∙ sym (tested m (logged (frame_said a.l)) (replicate 512 0) p.1.1.0) in (
-      replied l a.l p.0 p.1.0 m c.receive_sound-a.new.state c.receive_sound-a.new.out.1.1.1.1.0 a.out.now
+    ∙ sym (tested m (logged (frame_said a.l)) (replicate 512 0) p.1.1.0) in
+    record {
+      out_after = replied l a.l p.0 p.1.0 m c.receive_sound-a.new.state c.receive_sound-a.new.out a.out.now
           c.copy_at.new.dst c.put_answer-past.new.out a.c c.counted.result c.receive_sound-a.result a.at
           c.put_answer-past.result
           (omega (arith, head_few l a.l p.0 p.1.0, p.1.1.1))
           e
           (c.copy_at.ensures ∙ ap (λ (n : ℕ). splice a.out.now a.at (take n l)) (sub-zero a.l.head))
           c.put_answer-past.ensures.0
-          (c.counted.ensures ∙ ap (counted a.c) c.is_handed.ensures),
-      (
+          (c.counted.ensures ∙ ap (counted a.c) c.is_handed.ensures);
+      fact = (
         ap (λ (x : receive.Result). sound_state x.state) e
             ∙ (c.state_lasts.ensures m (logged (frame_said a.l)) (replicate 512 0) p.1.1.0
             (octets-all m (λ i. omega (arith, c.slice_known-1.given i))) (in-range l a.l p.0 p.1.0)).0,
@@ -79,7 +80,7 @@ returns c =
           c.put_answer-past.ensures.1,
           head_few l a.l p.0 p.1.0,
           least l a.l p.0 p.1.0,
-          c.receive_sound-a.auto.1.1.1.1.1.0,
+          c.receive_sound-a.auto.out,
         ),
-      ),
-    )
+      );
+    }

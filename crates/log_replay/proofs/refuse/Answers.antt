@@ -32,7 +32,7 @@ numbered-past-requires c = simp length-set (omega (arith, c.requires))
 
 pub shape_of-out : goal.shape_of-out
 shape_of-out c =
-    c.numbered-past.auto.0 ∙ length-set c.args.out.now c.args.at 63
+    c.numbered-past.auto.out ∙ length-set c.args.out.now c.args.at 63
 
 pub returns : goal.returns
 returns c =
