@@ -41,7 +41,7 @@ pub bounds-s-i : goal.bounds-s-i
 bounds-s-i c = omega arith
 
 pub hex_digit-requires : goal.hex_digit-requires
-hex_digit-requires c = omega (arith, c.shared_slice_known-in-loop-i-1.given c.loop-i.i)
+hex_digit-requires c = omega (arith, c.type_inv.s c.loop-i.i)
 
 pub overflow_mul-out : goal.overflow_mul-out
 overflow_mul-out c = omega arith
@@ -81,7 +81,7 @@ loop-i-preserved c =
         simp length-set c.loop-i.invariant.1.0,
         rw (add-one c.loop-i.i) (turn a.out.now c.loop-i.out a.s.now a.at c.loop-i.i c.hex_digit.result
             c.hex_digit-in-loop-i.result (omega arith) c.requires c.loop-i.invariant.1.0
-            (omega (arith, c.shared_slice_known-in-loop-i-1.given c.loop-i.i)) c.hex_digit.ensures c.hex_digit-in-loop-i.ensures c.loop-i.invariant.1.1),
+            (omega (arith, c.type_inv.s c.loop-i.i)) c.hex_digit.ensures c.hex_digit-in-loop-i.ensures c.loop-i.invariant.1.1),
       ),
     )
 

@@ -15,10 +15,10 @@ pub bounds-x-i : goal.bounds-x-i
 bounds-x-i c = omega arith
 
 pub overflow_cast-mark : goal.overflow_cast-mark
-overflow_cast-mark c = omega (arith, c.shared_slice_known-1.given c.loop-i.i)
+overflow_cast-mark c = omega (arith, c.type_inv.x c.loop-i.i)
 
 pub overflow_add-mark : goal.overflow_add-mark
-overflow_add-mark c = omega (arith, c.shared_slice_known-1.given c.loop-i.i)
+overflow_add-mark c = omega (arith, c.type_inv.x c.loop-i.i)
 
 pub overflow_add-i : goal.overflow_add-i
 overflow_add-i c = omega arith
