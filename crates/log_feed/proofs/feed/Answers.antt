@@ -38,9 +38,10 @@ pub returns : goal.returns
 returns c =
     let a = c.args in
     let g = c.lines-l.ensures in
-    let h : Lined a.state.now a.counts (take a.n a.block.now) (length a.out.now) c.lines-l.result c.lines-l.new.state c.lines-l.new.out.1.0 =
-    rw (sub-zero a.n) at g in (
-      fed a.state.now a.counts a.block.now a.n (length a.out.now) c.lines-l.result c.lines-l.new.state c.lines-l.new.out.1.0
-          c.keep.new.block c.requires.1.0 h c.keep.result c.keep.ensures.0,
-      (h.sound, (c.keep.ensures.1, h.room)),
-    )
+    let h : Lined a.state.now a.counts (take a.n a.block.now) (length a.out.now) c.lines-l.result c.lines-l.new.state c.lines-l.new.out =
+    rw (sub-zero a.n) at g in
+    record {
+      out_after = fed a.state.now a.counts a.block.now a.n (length a.out.now) c.lines-l.result c.lines-l.new.state c.lines-l.new.out
+          c.keep.new.block c.requires.1.0 h c.keep.result c.keep.ensures.0;
+      state_after = (h.sound, (c.keep.ensures.1, h.room));
+    }

@@ -59,9 +59,9 @@ returns-then-kept-eq0 c =
 pub returns : goal.returns
 returns c =
     let a = c.args in
-    let k = c.line-s.ensures.1.1 in
+    let k = c.line-s.ensures.fact.1 in
     let n = c.end-2.ensures.1 in (
-      closed a.state.now a.kept.now a.out.now c.line-s.new.state c.line-s.new.out.1.1.0 c.end-2.new.out a.counts c.line-s.result
-          c.end-2.result c.line-s.ensures.0 c.end-2.ensures.0 (omega (arith, k, c.requires.1)) (omega (arith, k, n, c.requires.1)) c.if-kept-eq0.false,
+      closed a.state.now a.kept.now a.out.now c.line-s.new.state c.line-s.new.out c.end-2.new.out a.counts c.line-s.result
+          c.end-2.result c.line-s.ensures.out_after c.end-2.ensures.0 (omega (arith, k, c.requires.1)) (omega (arith, k, n, c.requires.1)) c.if-kept-eq0.false,
       omega (arith, k, n, c.requires.1),
     )

@@ -25,9 +25,9 @@ loop-end-preserved c =
     let a = c.args in
     let g = l.invariant.0 in (
       next a.state.now a.counts a.block.now (length a.out.now) l.state l.out l.c l.from l.at l.end g c.loop-end-test.true
-          _ refl c.line-s.result c.line-s.new.state c.line-s.new.out.1.1.0 c.line-s.ensures.0 c.line-s.ensures.1.1 c.line-s.ensures.1.0
-          (c.line-s.auto.1.1.1.0 ∙ g.long) c.find-end-in-loop-end.result c.find-end-in-loop-end.ensures.0 c.find-end-in-loop-end.ensures.1,
-      c.line-s.auto.0 ∙ l.invariant.1,
+          _ refl c.line-s.result c.line-s.new.state c.line-s.new.out c.line-s.ensures.out_after c.line-s.ensures.fact.1 c.line-s.ensures.fact.0
+          (c.line-s.auto.out ∙ g.long) c.find-end-in-loop-end.result c.find-end-in-loop-end.ensures.0 c.find-end-in-loop-end.ensures.1,
+      c.line-s.auto.state ∙ l.invariant.1,
     )
 
 pub returns : goal.returns

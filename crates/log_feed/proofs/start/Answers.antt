@@ -61,13 +61,14 @@ module _ (m m' r : List ℕ) (o : Outcome) (h : length m ≡ size) (t : r ≡ su
 
 pub returns : goal.returns
 returns c =
-    let a = c.args in (
-      (
+    let a = c.args in
+    record {
+      out_after = (
         ap (λ (x : List ℕ). take 43 x) c.copy_at.ensures ∙ take-splice a.out.now 0 heading c.requires.1 43 refl,
         is-begun a.state.now c.setup.new.state _ c.setup.result c.requires.0 c.subscriptions-types.ensures c.setup.ensures,
-      ),
-      (
+      );
+      state_after = (
         is-sound a.state.now c.setup.new.state _ c.setup.result c.requires.0 c.subscriptions-types.ensures c.setup.ensures,
         omega arith,
-      ),
-    )
+      );
+    }
