@@ -40,7 +40,6 @@ use Rattle.judge_capture.specs.Answer.{number_of}
 use Rattle.judge_capture.specs.Judge.{frames_in, told, captured, judges}
 use Rattle.judge_capture.specs.Laws.{Fit, VerdictLaws, Held, FrameLaws, SenderLaws}
 use Rattle.judge_capture.specs.Record.{frame_told, frames_told}
-use Rattle.judge_capture.specs.declared.verdict.Verdict.{Verdict}
 use Rattle.judge_capture.specs.declared.verdict.Verdict.TheVariants.{Pass, Fails, NoCapture, Unacceptable}
 use Rattle.judge_capture.proofs.Calls.{in-octets}
 

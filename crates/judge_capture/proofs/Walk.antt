@@ -1,6 +1,6 @@
 -- A block of records: the pass over them, record by record.
-use mathlib.Core.Path.{◌≡◌, refl, sym, ap, ◌∙◌}
-use mathlib.Core.List.{List, [], ◌∷◌, ◌++◌}
+use mathlib.Core.Path.{◌≡◌, sym, ap, ◌∙◌}
+use mathlib.Core.List.{List, ◌∷◌, ◌++◌}
 use Prim.Native.Nat.{ℕ, zero, suc, ◌+◌, ◌*◌, ◌-◌, ◌<◌}
 use native.Mathlib.Omega.{arith}
 use lib.ListN.{length, take, drop}
@@ -8,7 +8,7 @@ use lib.Seq.{drop-drop}
 use Rattle.bits.specs.Part.{span}
 use Rattle.bits.proofs.Splice.{length-span}
 use Rattle.capture_record.specs.Record.{record_size}
-use Rattle.judge_rules.specs.Verdict.{Judging, on, off, advance, run}
+use Rattle.judge_rules.specs.Verdict.{Judging, on, advance, run}
 use Rattle.judge_rules.specs.inside.Brief.{Brief, summing}
 use Rattle.judge_rules.proofs.Streams.{off-stays}
 use Rattle.judge_rules.proofs.Theorem.{run-append}

@@ -3,7 +3,6 @@ use mathlib.Core.Path.{◌≡◌, ap, ◌∙◌}
 use mathlib.Core.List.{List}
 use Prim.Native.Nat.{ℕ}
 use native.Mathlib.Omega.{arith}
-use borrow.Author.Rules.{rules}
 use lib.ListN.{length, replicate, length-replicate}
 use Rattle.bits.specs.Order.{Octets}
 use Rattle.bits.proofs.Octets.{octets-all}
@@ -24,24 +23,25 @@ pub returns-in-Done : goal.returns-in-Done
 returns-in-Done c =
     let a = c.args in
     let s = a.subscriptions.now in
-    let o : Octets s = octets-all s (λ i. omega (arith, c.shared_slice_known-1.given i)) in
-    let t = c.setup in (
-      c.of_capture.ensures.0
-          ∙ ap (λ (u : Setup). captured u a.capture.now) (subscribes before s t.new.0 t.result long t.ensures c.in-Done.is o)
-          ∙ judged s a.capture.now (taken before s t.new.0 t.result long t.ensures c.in-Done.is).0,
-      c.of_capture.ensures.1,
-    )
+    let o : Octets s = octets-all s (λ i. omega (arith, c.type_inv.subscriptions i)) in
+    let t = c.setup in
+    record {
+      value = c.of_capture.ensures.0
+          ∙ ap (λ (u : Setup). captured u a.capture.now) (subscribes before s t.new.state t.result long t.ensures c.in-Done.is o)
+          ∙ judged s a.capture.now (taken before s t.new.state t.result long t.ensures c.in-Done.is).0;
+      result_bound = c.of_capture.ensures.1;
+    }
 
 pub returns-in-Unacceptable : goal.returns-in-Unacceptable
 returns-in-Unacceptable c =
     let a = c.args in
     let t = c.setup in
     let e = c.in-Unacceptable.is in
-    (not-acceptable a.subscriptions.now a.capture.now (refused before a.subscriptions.now t.new.0 t.result long t.ensures (λ d. let z : ◌≡◌ {A = ℕ} 0 1 = cc in omega arith)), omega arith)
+    record { value = not-acceptable a.subscriptions.now a.capture.now (refused before a.subscriptions.now t.new.state t.result long t.ensures (λ d. let z : ◌≡◌ {A = ℕ} 0 1 = cc in omega arith)); result_bound = omega arith }
 
 pub returns-in-Short : goal.returns-in-Short
 returns-in-Short c =
     let a = c.args in
     let t = c.setup in
     let e = c.in-Short.is in
-    (not-acceptable a.subscriptions.now a.capture.now (refused before a.subscriptions.now t.new.0 t.result long t.ensures (λ d. let z : ◌≡◌ {A = ℕ} 0 1 = cc in omega arith)), omega arith)
+    record { value = not-acceptable a.subscriptions.now a.capture.now (refused before a.subscriptions.now t.new.state t.result long t.ensures (λ d. let z : ◌≡◌ {A = ℕ} 0 1 = cc in omega arith)); result_bound = omega arith }

@@ -3,7 +3,6 @@ use mathlib.Core.Path.{◌≡◌, refl, sym, ap, ◌∙◌}
 use mathlib.Core.Bool.{Bool, true, false}
 use Prim.Native.Nat.{ℕ, ◌<◌}
 use native.Mathlib.Omega.{arith}
-use borrow.Author.Rules.{rules}
 use lib.Dec.{eqb}
 use Rattle.judge_stream.specs.inside.Kept.{stream_of, seen_of}
 use Rattle.judge_streams.specs.inside.Table.{entries_of}
@@ -15,6 +14,7 @@ use Rattle.subscriptions.specs.inside.Subscription.{asked}
 use Rattle.subscriptions.proofs.Lookup.{under, not-asked}
 use Rattle.judge_capture.proofs.Checked.{not_found, anonymous, enters}
 use Rattle.judge_capture.proofs.records.admit.Goals as goal
+use Rattle.judge_capture.proofs.records.admit.Goals.{After-find}
 
 kind-small : (t k : ℕ) → k ≡ pick (eqb t 0) 0 1 → k < 2
 kind-small t k e = go (eqb t 0) e
@@ -24,7 +24,7 @@ kind-small t k e = go (eqb t 0) e
     go false q = omega arith
 
 -- the answer of the look-up
-found : (f : goal.After-find) → let a = f.args in
+found : (f : After-find) → let a = f.args in
     asked (subscribed (kind_of (stream_of a.v)) (stream_of a.v).type (setup_of a.state.now).subscriptions) ≡ f.find.result
 found f =
     let a = f.args in
@@ -41,7 +41,7 @@ returns-then-is_anonymous c =
     record {
       next =
           λ i.
-          anonymous (setup_of a.state.now) (stream_of a.v) (entries_of a.table.now) (seen_of a.v a.p.now) i _ (under _ _ (found c ∙ c.in-Under.is))
+          anonymous (setup_of a.state.now) (stream_of a.v) (entries_of a.table.now) (seen_of a.v a.p.now) i _ (under _ _ (found (goal.at.returns-then-is_anonymous c).After-find ∙ c.in-Under.is))
           (sym c.is_anonymous.ensures ∙ c.if-is_anonymous.true);
       table = c.requires.1.0;
       stays = tt;
@@ -64,7 +64,7 @@ returns-in-Not c =
     record {
       next =
           λ i.
-          not_found (setup_of a.state.now) (stream_of a.v) (entries_of a.table.now) (seen_of a.v a.p.now) i (not-asked _ (found c ∙ c.in-Not.is));
+          not_found (setup_of a.state.now) (stream_of a.v) (entries_of a.table.now) (seen_of a.v a.p.now) i (not-asked _ (found (goal.at.returns-in-Not c).After-find ∙ c.in-Not.is));
       table = c.requires.1.0;
       stays = refl;
     }
@@ -77,7 +77,7 @@ returns-else-is_anonymous c =
       next =
           λ i.
           w.next i
-          ∙ enters (setup_of a.state.now) (stream_of a.v) (entries_of a.table.now) (seen_of a.v a.p.now) i _ (under _ _ (found c ∙ c.in-Under.is))
+          ∙ enters (setup_of a.state.now) (stream_of a.v) (entries_of a.table.now) (seen_of a.v a.p.now) i _ (under _ _ (found (goal.at.returns-else-is_anonymous c).After-find ∙ c.in-Under.is))
           (sym c.is_anonymous.ensures ∙ c.if-is_anonymous.false);
       table = w.table;
       stays = w.stays;

@@ -1,10 +1,7 @@
 -- `feed` meets its contract: up to here the records have left the table as it is.
-use Prim.Native.Nat.{◌-◌, ◌≤◌}
 use native.Mathlib.Omega.{arith}
-use borrow.Author.Rules.{rules}
-use Rattle.judge_streams.specs.inside.Table.{Table}
 use Rattle.state.specs.Layout.{setup_of}
-use Rattle.judge_capture.proofs.Walk.{Walked, part-long, walk_none, walk-on, walk-off, walk-all}
+use Rattle.judge_capture.proofs.Walk.{part-long, walk_none, walk-on, walk-off, walk-all}
 use Rattle.judge_capture.proofs.records.feed.Goals as goal
 
 pub loop-i-init : goal.loop-i-init
@@ -19,12 +16,12 @@ pub loop-i-preserved : goal.loop-i-preserved
 loop-i-preserved c =
     let a = c.args in
     let h = rw c.in-On.is at c.turn.ensures in
-    (omega arith, (h.table, walk-on (setup_of a.state.now) a.table.now a.records.now c.loop-i.i c.loop-i.table c.loop-i.invariant.1.1 c.turn.new.1.0 h))
+    (omega arith, (h.table, walk-on (setup_of a.state.now) a.table.now a.records.now c.loop-i.i c.loop-i.table c.loop-i.invariant.1.1 c.turn.new.table h))
 
 pub returns-in-Off : goal.returns-in-Off
 returns-in-Off c =
     let a = c.args in
-    walk-off (setup_of a.state.now) a.table.now a.records.now c.loop-i.i c.loop-i.table c.loop-i.invariant.1.1 (omega arith) _ c.turn.new.1.0
+    walk-off (setup_of a.state.now) a.table.now a.records.now c.loop-i.i c.loop-i.table c.loop-i.invariant.1.1 (omega arith) _ c.turn.new.table
     (rw c.in-Off.is at c.turn.ensures)
 
 pub returns : goal.returns

@@ -1,9 +1,7 @@
 use Prim.Native.Nat.{◌-◌, ◌≤◌}
-use native.Mathlib.Omega.{arith}
-use borrow.Author.Rules.{rules}
 use Rattle.judge_streams.specs.inside.Table.{Table}
 use Rattle.state.specs.Layout.{setup_of}
-use Rattle.judge_capture.proofs.Walk.{Walked, part-long, walk_none, walk-on, walk-off, walk-all}
+use Rattle.judge_capture.proofs.Walk.{Walked}
 use Rattle.judge_capture.proofs.records.feed.Given as goal
 
 abbrev pub invariant-loop-i : goal.invariant-loop-i
