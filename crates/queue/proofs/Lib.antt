@@ -1,0 +1,9 @@
+pub mod Records
+pub mod Order
+pub mod Soundness
+pub mod Places
+pub mod Bytes
+pub mod Calls
+pub mod Sorted
+pub mod Lasting
+pub mod Turns

@@ -1,0 +1,67 @@
+-- RULES 20.3 to 20.5: the calls on a queue in lent bytes.
+use Rattle.std.specs.Prelude.{not, List, [], ◌∷◌, ◌++◌, ℕ, ◌+◌, ◌%◌, eqb, ltb, length, drop}
+use Rattle.answers.specs.declared.Outcome.{Outcome}
+use Rattle.answers.specs.declared.Outcome.TheVariants as outcome
+use Rattle.rules.specs.Limits.{frame_record}
+use Rattle.rules.specs.Tests.{pick}
+use Rattle.queue.specs.Layout.{records_at, capacity, queue_of, sound_queue, records_of, holding}
+use Rattle.queue.specs.Queue.{Record, first_fault, put_all}
+use Rattle.queue.specs.declared.answer.Answer.{Answer}
+use Rattle.queue.specs.declared.answer.Answer.TheVariants.{Done, Empty, Refused, Faulty}
+
+-- ── setup ──
+
+pub record SetUp : Type 0 where
+  pub answer : Outcome
+  pub queue : List ℕ
+
+abbrev pub set_up : Outcome → List ℕ → SetUp
+set_up a m = record { answer = a; queue = m }
+
+-- bytes that are too few stay as they were
+unfoldable pub after_setup : List ℕ → SetUp
+after_setup m = pick (ltb (length m) records_at) (set_up outcome.Short m) (set_up outcome.Done (holding m []))
+
+-- ── put and take: the answer, and the queue after it ──
+
+pub record Result : Type 0 where
+  pub answer : Answer
+  pub queue : List ℕ
+
+abbrev pub returned : Answer → List ℕ → Result
+returned a m = record { answer = a; queue = m }
+
+-- RULES 20.3: a list of records, all or none
+abbrev pub admitted : List ℕ → List Record → Result
+admitted m rs =
+    pick (eqb (first_fault rs) 0)
+    (pick (ltb (capacity (length m)) (length (queue_of m) + length rs)) (returned (Refused 9) m) (returned Done (holding m (put_all (queue_of m) rs))))
+    (returned (Refused (first_fault rs)) m)
+
+unfoldable pub after_put : List ℕ → List ℕ → Result
+after_put m p =
+    pick (not (sound_queue m)) (returned Faulty m)
+    (pick (eqb (length p % frame_record) 0) (admitted m (records_of p)) (returned (Refused 15) m))
+
+abbrev pub without_first : List ℕ → List Record → Result
+without_first m [] = returned Empty m
+without_first m (r ∷ q) = returned Done (holding m q)
+
+unfoldable pub after_take : List ℕ → Result
+after_take m = pick (not (sound_queue m)) (returned Faulty m) (without_first m (queue_of m))
+
+-- ── look: the answer, and the output buffer after it ──
+
+pub record Shown : Type 0 where
+  pub answer : Answer
+  pub out : List ℕ
+
+abbrev pub shown : Answer → List ℕ → Shown
+shown a out = record { answer = a; out = out }
+
+abbrev pub first : List Record → List ℕ → Shown
+first [] out = shown Empty out
+first (r ∷ q) out = pick (ltb (length out) frame_record) (shown (Refused 8) out) (shown Done (r ++ drop frame_record out))
+
+unfoldable pub looked : List ℕ → List ℕ → Shown
+looked m out = pick (not (sound_queue m)) (shown Faulty out) (first (queue_of m) out)

@@ -1,0 +1,25 @@
+// What a queue answers (RULES 13.1, 20.3).
+ghost use Rattle.std.specs.Prelude.{◌≡◌};
+ghost use Rattle.queue.specs.Answer.{number_of};
+
+// `Empty`: there was no record to look at or to take. `Refused` holds the number 2, 3, 8, 9 or 15.
+#[derive(Drop)]
+pub enum Answer {
+    Done,
+    Empty,
+    Refused(u32),
+    Faulty,
+}
+
+impl Answer {
+    pub fn number(self) -> u32
+        ensures { result ≡ number_of self }
+    {
+        match self {
+            Answer::Done => 0,
+            Answer::Empty => 0,
+            Answer::Refused(n) => n,
+            Answer::Faulty => 20,
+        }
+    }
+}
