@@ -6,8 +6,8 @@
 ghost use Rattle.std.specs.Prelude.{◌≡◌, ◌≤◌, length};
 
 use capture_convert::{records, trailer};
-use console::Progress;
-use std::io::{Read, Write};
+use console::{Console, Progress};
+use std::process::ExitCode;
 
 // A block, with what was kept in front of it, and room for as many records as it could have lines.
 const BLOCK: usize = 32768;
@@ -55,20 +55,20 @@ fn keep(block: &mut [u8], from: usize, to: usize) -> usize
 }
 
 // 18, with the line.
-fn ill_formed(rt: &impl Eprint, line: u64) {
-    let _ = eprintln!(rt; "18: not a well-formed log, line {line}");
+fn ill_formed(console: &Console, line: u64) {
+    console.say(format_args!("18: not a well-formed log, line {line}\n"));
 }
 
 // Writes records, unless there are too many lines already.
-fn stored(rt: &(impl Print + Eprint), records: &[u8], count: u64) -> bool {
+fn stored(console: &mut Console, records: &[u8], count: u64) -> bool {
     if LINES_OVER <= count {
         return true;
     }
-    console::written(rt, records)
+    console.written(records)
 }
 
 // The lines among the first n bytes of the block: their records are written, and what follows them is kept.
-fn feed(rt: &(impl Print + Eprint), block: &mut [u8], n: usize, out: &mut [u8], s: After) -> After
+fn feed(console: &mut Console, block: &mut [u8], n: usize, out: &mut [u8], s: After) -> After
     requires { (n ≤ 32768) × ((length block.old ≡ 32768) × (length out.old ≡ 688128)) }
     ensures { result.kept ≤ 32768 }
 {
@@ -77,10 +77,10 @@ fn feed(rt: &(impl Print + Eprint), block: &mut [u8], n: usize, out: &mut [u8], 
     let size = r.count * capture_record::SIZE;
     let count = s.count.wrapping_add(r.count as u64);
     if !r.ok {
-        ill_formed(rt, count.wrapping_add(1));
+        ill_formed(console, count.wrapping_add(1));
         return stop(true, 0, count, s.sum);
     }
-    let good = stored(rt, &out[0..size], count);
+    let good = stored(console, &out[0..size], count);
     let sum = checksum::crc16::over(s.sum, &out[0..size]);
     After {
         more: good,
@@ -92,53 +92,40 @@ fn feed(rt: &(impl Print + Eprint), block: &mut [u8], n: usize, out: &mut [u8], 
 }
 
 // One read.
-fn turn(
-    rt: &(impl Print + Eprint),
-    input: &mut impl Read,
-    block: &mut [u8],
-    out: &mut [u8],
-    s: After,
-) -> After
+fn turn(console: &mut Console, block: &mut [u8], out: &mut [u8], s: After) -> After
     requires { (s.kept ≤ 32768) × ((length block.old ≡ 32768) × (length out.old ≡ 688128)) }
     ensures { result.kept ≤ 32768 }
 {
     let kept = s.kept;
-    let Ok(got) = input.read(&mut block[kept..]) else {
-        console::cannot_read(rt);
+    let Some(got) = console.read(&mut block[kept..]) else {
         return stop(true, kept, s.count, s.sum);
     };
     let n = kept + got;
     if n == kept {
         return stop(false, kept, s.count, s.sum);
     }
-    feed(rt, block, n, out, s)
+    feed(console, block, n, out, s)
 }
 
 // After the last block: an unfinished line, too many lines, or the trailer.
-fn end(rt: &(impl Print + Eprint), out: &mut [u8], s: After)
+fn end(console: &mut Console, out: &mut [u8], s: After)
     requires { length out.old ≡ 688128 }
 {
     if 0 < s.kept {
-        return ill_formed(rt, s.count.wrapping_add(1));
+        return ill_formed(console, s.count.wrapping_add(1));
     }
     let count = s.count;
     if LINES_OVER <= count {
-        return console::say(rt, "9: more lines than a capture can count\n");
+        return console.say("9: more lines than a capture can count\n");
     }
     trailer::put(out, 0, count as usize, s.sum);
-    if console::written(rt, &out[0..trailer::SIZE]) {
-        console::done(rt);
+    if console.written(&out[0..trailer::SIZE]) {
+        console.done();
     }
 }
 
 // All blocks, and the end, which does not come after a refusal or a failure. From time to time a line on descriptor 3 says how far it is.
-fn run(
-    rt: &(impl Print + Eprint),
-    input: &mut impl Read,
-    progress: &mut Progress<impl Write>,
-    block: &mut [u8],
-    out: &mut [u8],
-)
+fn run(console: &mut Console, progress: &mut Progress, block: &mut [u8], out: &mut [u8])
     requires { (length block.old ≡ 32768) × (length out.old ≡ 688128) }
 {
     let mut s = After {
@@ -150,7 +137,7 @@ fn run(
     };
     let mut turns = u64::MAX;
     while turns > 0 && s.more {
-        s = turn(rt, input, block, out, s);
+        s = turn(console, block, out, s);
         turns -= 1;
         if turns % 2048 == 0 {
             progress.tell(u64::MAX.wrapping_sub(turns) / 32);
@@ -159,12 +146,14 @@ fn run(
     if s.told {
         return;
     }
-    end(rt, out, s);
+    end(console, out, s);
 }
 
-fn main(rt: HostRuntime) {
+fn main(rt: HostRuntime) -> ExitCode {
     let mut block = [0u8; BLOCK];
     let mut out = [0u8; OUT];
     let mut progress = console::open_progress(&rt);
-    run(&rt, &mut rt.stdin(), &mut progress, &mut block, &mut out);
+    let mut console = Console::new(rt.stdin(), rt.stdout(), rt.stderr());
+    run(&mut console, &mut progress, &mut block, &mut out);
+    console.status()
 }

@@ -10,7 +10,8 @@ use capture_convert::trailer::Trailer;
 use console::Progress;
 use std::env::FillError;
 use std::fs;
-use std::io::{Read, Seek, SeekFrom, Write};
+use std::fs::File;
+use std::io::{Read, Seek, SeekFrom};
 use std::os::unix::fs::FileTypeExt;
 use std::rt::{Env, Files};
 
@@ -21,8 +22,8 @@ pub const BLOCK: usize = RECORDS * capture_record::SIZE;
 
 // What the file is: a capture, by its trailer and length; none; or it cannot be read.
 #[derive(Drop)]
-pub enum Opened<F> {
-    Capture(F, Trailer),
+pub enum Opened {
+    Capture(File, Trailer),
     NoCapture,
     Unreadable,
 }
@@ -51,7 +52,7 @@ fn begin(t: Trailer, end: u64) -> i64
 }
 
 // Reads the trailer, which is at `end`, and goes to the first record.
-fn at_trailer<F: Read + Seek + Drop>(mut file: F, end: u64) -> Opened<F> {
+fn at_trailer(mut file: File, end: u64) -> Opened {
     let mut bytes = [0u8; trailer::SIZE];
     if file.read_exact(&mut bytes).is_err() {
         return Opened::Unreadable;
@@ -64,14 +65,17 @@ fn at_trailer<F: Read + Seek + Drop>(mut file: F, end: u64) -> Opened<F> {
     if from < 0 {
         return Opened::NoCapture;
     }
-    if file.seek(SeekFrom::Start(shape::signed::size(from))).is_err() {
+    if file
+        .seek(SeekFrom::Start(shape::signed::size(from)))
+        .is_err()
+    {
         return Opened::Unreadable;
     }
     Opened::Capture(file, t)
 }
 
 // Internal. Reads the trailer, and goes to the first record. The checksum is not looked at.
-pub fn open<R: Files + Env>(rt: &R) -> Opened<R::File> {
+pub fn open(rt: &(impl Files<File = File> + Env)) -> Opened {
     let Some(mut file) = input(rt) else {
         return Opened::Unreadable;
     };
@@ -85,7 +89,7 @@ pub fn open<R: Files + Env>(rt: &R) -> Opened<R::File> {
 }
 
 // The file that the first argument names, or standard input.
-fn input<R: Files + Env>(rt: &R) -> Option<R::File> {
+fn input(rt: &(impl Files<File = File> + Env)) -> Option<File> {
     let mut name = [0u8; 4096];
     match rt.arg(1, &mut name) {
         Ok(n) => named(rt, &name[..n]),
@@ -94,7 +98,7 @@ fn input<R: Files + Env>(rt: &R) -> Option<R::File> {
     }
 }
 
-fn named<R: Files>(rt: &R, name: &[u8]) -> Option<R::File> {
+fn named(rt: &impl Files<File = File>, name: &[u8]) -> Option<File> {
     match std::str::from_utf8(name) {
         Ok(name) => fs::open(rt, name).ok(),
         Err(_) => None,
@@ -102,7 +106,7 @@ fn named<R: Files>(rt: &R, name: &[u8]) -> Option<R::File> {
 }
 
 // Standard input with a position of its own, from its first byte on.
-fn standard_input<R: Files>(rt: &R) -> Option<R::File> {
+fn standard_input(rt: &impl Files<File = File>) -> Option<File> {
     let name = "/dev/fd/0";
     if !console::is_open(rt, name, 0o400) || is_pipe(rt, name) {
         return None;
@@ -119,7 +123,7 @@ fn is_pipe(rt: &impl Files, name: &str) -> bool {
 }
 
 // Internal. Reads the next records into a block, as many as are left and it has room for; how many, 0 if reading fails.
-pub fn next(file: &mut impl Read, block: &mut [u8], left: usize) -> usize
+pub fn next(file: &mut File, block: &mut [u8], left: usize) -> usize
     ensures { (result ≤ left) × (result * record_size ≤ length block.old) }
 {
     let k = least(left, block.len() / capture_record::SIZE);
@@ -131,7 +135,7 @@ pub fn next(file: &mut impl Read, block: &mut [u8], left: usize) -> usize
 }
 
 // Internal. Says after every 63 MiB how many records are done.
-pub fn tell(progress: &mut Progress<impl Write>, done: u64) {
+pub fn tell(progress: &mut Progress, done: u64) {
     if done % 3_145_728 == 0 {
         progress.tell(done / 3_145_728 * 63);
     }

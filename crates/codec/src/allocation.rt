@@ -3,19 +3,20 @@ ghost use Rattle.std.specs.Prelude.{◌≤◌, length};
 
 use codec_text::answer::Encoded;
 use codec_text::{answer, fields, names};
+use console::Console;
 use protocol_dynamic_node_id::allocation;
 use protocol_dynamic_node_id::allocation::Read;
 
 const NAMES: [u8; 41] = *b"node_id first_part_of_unique_id unique_id";
 
-pub fn decode(rt: &(impl Print + Eprint), payload: &[u8], out: &mut [u8], at: usize) -> usize {
+pub fn decode(console: &mut Console, payload: &[u8], out: &mut [u8], at: usize) -> usize {
     match allocation::decode(payload) {
-        Read::Refused(n) => answer::refused(rt, out, at, n),
+        Read::Refused(n) => answer::refused(console, out, at, n),
         Read::Got(x) => {
             let v = [x.node_id, x.first_part_of_unique_id];
-            let o = answer::numbers(rt, out, at, &NAMES, &v);
+            let o = answer::numbers(console, out, at, &NAMES, &v);
             answer::list(
-                rt,
+                console,
                 out,
                 o,
                 names::nth(&NAMES, 2),

@@ -4,6 +4,7 @@ ghost use Rattle.std.specs.Prelude.{◌≤◌, length};
 use binary16::pattern;
 use codec_text::answer::Encoded;
 use codec_text::{answer, fields, float, names};
+use console::Console;
 use equipment_power::battery_info;
 use equipment_power::battery_info::{Raw, ReadRaw};
 use shape::answer::Written;
@@ -31,14 +32,14 @@ fn values(m: Raw) -> [i64; 13] {
     ]
 }
 
-pub fn decode(rt: &(impl Print + Eprint), payload: &[u8], out: &mut [u8], at: usize) -> usize {
+pub fn decode(console: &mut Console, payload: &[u8], out: &mut [u8], at: usize) -> usize {
     match battery_info::decode_raw(payload) {
-        ReadRaw::Refused(n) => answer::refused(rt, out, at, n),
+        ReadRaw::Refused(n) => answer::refused(console, out, at, n),
         ReadRaw::Got(m, _) => {
             let v = values(m);
-            let a = answer::numbers(rt, out, at, &NAMES, &v);
+            let a = answer::numbers(console, out, at, &NAMES, &v);
             answer::list(
-                rt,
+                console,
                 out,
                 a,
                 names::nth(&NAMES, 13),

@@ -8,68 +8,57 @@ use super::{
 };
 use codec_text::hex::Length;
 use codec_text::{hex, put};
+use console::Console;
 
 // A service by its name, and which half of it.
-fn service(
-    rt: &(impl Print + Eprint),
-    name: &[u8],
-    payload: &[u8],
-    out: &mut [u8],
-    at: usize,
-) -> usize {
+fn service(console: &mut Console, name: &[u8], payload: &[u8], out: &mut [u8], at: usize) -> usize {
     if name == b"GetNodeInfo.Request".as_slice() {
-        return get_node_info_request::decode(rt, payload, out, at);
+        return get_node_info_request::decode(console, payload, out, at);
     }
     if name == b"GetNodeInfo.Response".as_slice() {
-        return get_node_info_response::decode(rt, payload, out, at);
+        return get_node_info_response::decode(console, payload, out, at);
     }
     if name == b"GetSet.Request".as_slice() {
-        return get_set_request::decode(rt, payload, out, at);
+        return get_set_request::decode(console, payload, out, at);
     }
     if name == b"GetSet.Response".as_slice() {
-        return get_set_response::decode(rt, payload, out, at);
+        return get_set_response::decode(console, payload, out, at);
     }
     if name == b"ExecuteOpcode.Request".as_slice() {
-        return execute_opcode_request::decode(rt, payload, out, at);
+        return execute_opcode_request::decode(console, payload, out, at);
     }
     if name == b"ExecuteOpcode.Response".as_slice() {
-        return execute_opcode_response::decode(rt, payload, out, at);
+        return execute_opcode_response::decode(console, payload, out, at);
     }
-    put::ill_formed(rt, out, at)
+    put::ill_formed(console, out, at)
 }
 
 // The type by its name.
-fn typed(
-    rt: &(impl Print + Eprint),
-    name: &[u8],
-    payload: &[u8],
-    out: &mut [u8],
-    at: usize,
-) -> usize {
+fn typed(console: &mut Console, name: &[u8], payload: &[u8], out: &mut [u8], at: usize) -> usize {
     if name == b"NodeStatus".as_slice() {
-        return node_status::decode(rt, payload, out, at);
+        return node_status::decode(console, payload, out, at);
     }
     if name == b"Allocation".as_slice() {
-        return allocation::decode(rt, payload, out, at);
+        return allocation::decode(console, payload, out, at);
     }
     if name == b"KeyValue".as_slice() {
-        return key_value::decode(rt, payload, out, at);
+        return key_value::decode(console, payload, out, at);
     }
     if name == b"LogMessage".as_slice() {
-        return log_message::decode(rt, payload, out, at);
+        return log_message::decode(console, payload, out, at);
     }
     if name == b"BatteryInfo".as_slice() {
-        return battery_info::decode(rt, payload, out, at);
+        return battery_info::decode(console, payload, out, at);
     }
     if name == b"RawCommand".as_slice() {
-        return raw_command::decode(rt, payload, out, at);
+        return raw_command::decode(console, payload, out, at);
     }
-    service(rt, name, payload, out, at)
+    service(console, name, payload, out, at)
 }
 
 // By way of a buffer for the payload.
 fn through(
-    rt: &(impl Print + Eprint),
+    console: &mut Console,
     name: &[u8],
     rest: &[u8],
     bytes: &mut [u8],
@@ -79,21 +68,15 @@ fn through(
     requires { length rest.now ≤ length bytes.old }
 {
     match hex::read(rest, bytes, 0) {
-        Length::Is(n) => typed(rt, name, shape::part::within(bytes, 0, n), out, at),
-        Length::Not => put::ill_formed(rt, out, at),
+        Length::Is(n) => typed(console, name, shape::part::within(bytes, 0, n), out, at),
+        Length::Not => put::ill_formed(console, out, at),
     }
 }
 
 // Internal. The answer to `decode`, a type's name and the rest.
-pub fn answer(
-    rt: &(impl Print + Eprint),
-    name: &[u8],
-    rest: &[u8],
-    out: &mut [u8],
-    at: usize,
-) -> usize
+pub fn answer(console: &mut Console, name: &[u8], rest: &[u8], out: &mut [u8], at: usize) -> usize
     requires { length rest.now ≤ 8192 }
 {
     let mut bytes = [0u8; 8192];
-    through(rt, name, rest, &mut bytes, out, at)
+    through(console, name, rest, &mut bytes, out, at)
 }

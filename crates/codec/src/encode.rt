@@ -8,6 +8,7 @@ use super::{
 };
 use codec_text::answer::Encoded;
 use codec_text::{answer, number, put};
+use console::Console;
 
 // A service by its name, and which half of it.
 fn service(name: &[u8], words: &[u8], bytes: &mut [u8], message: &mut [u8]) -> Encoded
@@ -61,7 +62,7 @@ fn typed(name: &[u8], words: &[u8], bytes: &mut [u8], message: &mut [u8]) -> Enc
 
 // By way of the buffers for the lists and for the message.
 fn through(
-    rt: &(impl Print + Eprint),
+    console: &mut Console,
     name: &[u8],
     words: &[u8],
     bytes: &mut [u8],
@@ -72,12 +73,12 @@ fn through(
     requires { length words.now ≤ length bytes.old }
 {
     let e = typed(name, words, bytes, message);
-    answer::written(rt, out, at, e, message)
+    answer::written(console, out, at, e, message)
 }
 
 // The answer for a message buffer of that room.
 fn into(
-    rt: &(impl Print + Eprint),
+    console: &mut Console,
     name: &[u8],
     words: &[u8],
     room: usize,
@@ -88,23 +89,25 @@ fn into(
 {
     let mut bytes = [0u8; 8192];
     let mut message = [0u8; 512];
-    through(rt, name, words, &mut bytes, &mut message[0..room], out, at)
+    through(
+        console,
+        name,
+        words,
+        &mut bytes,
+        &mut message[0..room],
+        out,
+        at,
+    )
 }
 
 // Internal. The answer to `encode`, a type's name and the rest: the room, then the fields.
-pub fn answer(
-    rt: &(impl Print + Eprint),
-    name: &[u8],
-    rest: &[u8],
-    out: &mut [u8],
-    at: usize,
-) -> usize
+pub fn answer(console: &mut Console, name: &[u8], rest: &[u8], out: &mut [u8], at: usize) -> usize
     requires { length rest.now ≤ 8192 }
 {
     let e = digits::find(rest, 0, 32);
     let n = number::digits(&rest[0..e]);
     if answer::is_none(n) {
-        return put::ill_formed(rt, out, at);
+        return put::ill_formed(console, out, at);
     }
-    into(rt, name, &rest[e..], answer::room(n), out, at)
+    into(console, name, &rest[e..], answer::room(n), out, at)
 }

@@ -3,17 +3,18 @@ ghost use Rattle.std.specs.Prelude.{◌≤◌, length};
 
 use codec_text::answer::Encoded;
 use codec_text::{answer, fields};
+use console::Console;
 use protocol_param::execute_opcode_request;
 use protocol_param::execute_opcode_request::{Read, Request};
 
 const NAMES: [u8; 15] = *b"opcode argument";
 
-pub fn decode(rt: &(impl Print + Eprint), payload: &[u8], out: &mut [u8], at: usize) -> usize {
+pub fn decode(console: &mut Console, payload: &[u8], out: &mut [u8], at: usize) -> usize {
     match execute_opcode_request::decode(payload) {
-        Read::Refused(n) => answer::refused(rt, out, at, n),
+        Read::Refused(n) => answer::refused(console, out, at, n),
         Read::Got(x) => {
             let v = [x.opcode, x.argument];
-            answer::numbers(rt, out, at, &NAMES, &v)
+            answer::numbers(console, out, at, &NAMES, &v)
         }
     }
 }

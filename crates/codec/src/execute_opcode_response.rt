@@ -3,17 +3,18 @@ ghost use Rattle.std.specs.Prelude.{◌≤◌, length};
 
 use codec_text::answer::Encoded;
 use codec_text::{answer, fields};
+use console::Console;
 use protocol_param::execute_opcode_response;
 use protocol_param::execute_opcode_response::{Read, Response};
 
 const NAMES: [u8; 11] = *b"argument ok";
 
-pub fn decode(rt: &(impl Print + Eprint), payload: &[u8], out: &mut [u8], at: usize) -> usize {
+pub fn decode(console: &mut Console, payload: &[u8], out: &mut [u8], at: usize) -> usize {
     match execute_opcode_response::decode(payload) {
-        Read::Refused(n) => answer::refused(rt, out, at, n),
+        Read::Refused(n) => answer::refused(console, out, at, n),
         Read::Got(x) => {
             let v = [x.argument, x.ok];
-            answer::numbers(rt, out, at, &NAMES, &v)
+            answer::numbers(console, out, at, &NAMES, &v)
         }
     }
 }

@@ -1,13 +1,14 @@
 // GetNodeInfo's request by hand: it has no fields.
 use codec_text::answer;
 use codec_text::answer::Encoded;
+use console::Console;
 use protocol::get_node_info_request;
 use protocol::get_node_info_request::Read;
 
-pub fn decode(rt: &(impl Print + Eprint), payload: &[u8], out: &mut [u8], at: usize) -> usize {
+pub fn decode(console: &mut Console, payload: &[u8], out: &mut [u8], at: usize) -> usize {
     match get_node_info_request::decode(payload) {
-        Read::Refused(n) => answer::refused(rt, out, at, n),
-        Read::Got => answer::numbers(rt, out, at, b"", &[0i64; 0]),
+        Read::Refused(n) => answer::refused(console, out, at, n),
+        Read::Got => answer::numbers(console, out, at, b"", &[0i64; 0]),
     }
 }
 

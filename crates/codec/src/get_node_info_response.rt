@@ -3,6 +3,7 @@ ghost use Rattle.std.specs.Prelude.{◌≤◌, length};
 
 use codec_text::answer::Encoded;
 use codec_text::{answer, fields, names};
+use console::Console;
 use protocol::get_node_info_response;
 use protocol::get_node_info_response::{HardwareVersion, Numbers, Read, SoftwareVersion};
 use protocol::node_status::NodeStatus;
@@ -14,7 +15,7 @@ software_version.major software_version.minor software_version.optional_field_fl
 software_version.image_crc hardware_version.major hardware_version.minor hardware_version.unique_id hardware_version.certificate_of_authenticity name";
 
 fn put_software(
-    rt: &(impl Print + Eprint),
+    console: &mut Console,
     s: NodeStatus,
     w: SoftwareVersion,
     out: &mut [u8],
@@ -31,27 +32,22 @@ fn put_software(
         w.optional_field_flags,
         w.vcs_commit,
     ];
-    let a = answer::numbers(rt, out, at, &NAMES, &v);
-    answer::unsigned(rt, out, a, names::nth(&NAMES, 9), w.image_crc)
+    let a = answer::numbers(console, out, at, &NAMES, &v);
+    answer::unsigned(console, out, a, names::nth(&NAMES, 9), w.image_crc)
 }
 
-fn put_hardware(
-    rt: &(impl Print + Eprint),
-    h: HardwareVersion,
-    out: &mut [u8],
-    at: usize,
-) -> usize {
-    let a = answer::number(rt, out, at, names::nth(&NAMES, 10), h.major);
-    answer::number(rt, out, a, names::nth(&NAMES, 11), h.minor)
+fn put_hardware(console: &mut Console, h: HardwareVersion, out: &mut [u8], at: usize) -> usize {
+    let a = answer::number(console, out, at, names::nth(&NAMES, 10), h.major);
+    answer::number(console, out, a, names::nth(&NAMES, 11), h.minor)
 }
 
-fn put_lists(rt: &(impl Print + Eprint), payload: &[u8], out: &mut [u8], at: usize) -> usize {
+fn put_lists(console: &mut Console, payload: &[u8], out: &mut [u8], at: usize) -> usize {
     let unique_id = get_node_info_response::unique_id(payload);
     let certificate = get_node_info_response::certificate_of_authenticity(payload);
-    let a = answer::list(rt, out, at, names::nth(&NAMES, 12), unique_id);
-    let b = answer::list(rt, out, a, names::nth(&NAMES, 13), certificate);
+    let a = answer::list(console, out, at, names::nth(&NAMES, 12), unique_id);
+    let b = answer::list(console, out, a, names::nth(&NAMES, 13), certificate);
     answer::list(
-        rt,
+        console,
         out,
         b,
         names::nth(&NAMES, 14),
@@ -59,16 +55,16 @@ fn put_lists(rt: &(impl Print + Eprint), payload: &[u8], out: &mut [u8], at: usi
     )
 }
 
-pub fn decode(rt: &(impl Print + Eprint), payload: &[u8], out: &mut [u8], at: usize) -> usize {
+pub fn decode(console: &mut Console, payload: &[u8], out: &mut [u8], at: usize) -> usize {
     match get_node_info_response::decode(payload) {
-        Read::Refused(n) => answer::refused(rt, out, at, n),
+        Read::Refused(n) => answer::refused(console, out, at, n),
         Read::Got(x) => {
             let s = x.status;
             let w = x.software_version;
             let h = x.hardware_version;
-            let a = put_software(rt, s, w, out, at);
-            let b = put_hardware(rt, h, out, a);
-            put_lists(rt, payload, out, b)
+            let a = put_software(console, s, w, out, at);
+            let b = put_hardware(console, h, out, a);
+            put_lists(console, payload, out, b)
         }
     }
 }

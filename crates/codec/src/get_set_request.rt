@@ -4,6 +4,7 @@ ghost use Rattle.std.specs.Prelude.{◌≤◌, length};
 use super::param_value;
 use codec_text::answer::Encoded;
 use codec_text::{answer, fields, names, put};
+use console::Console;
 use protocol_param::get_set_request;
 use protocol_param::get_set_request::{Read, Request};
 use shape::answer::Written;
@@ -12,7 +13,7 @@ const NAMES: [u8; 96] =
     *b"index value.tag value.integer_value value.real_value value.boolean_value value.string_value name";
 
 fn put_fields(
-    rt: &(impl Print + Eprint),
+    console: &mut Console,
     x: Request,
     payload: &[u8],
     out: &mut [u8],
@@ -20,10 +21,10 @@ fn put_fields(
 ) -> usize {
     let v = x.value;
     let text = get_set_request::string_value(payload);
-    let a = answer::number(rt, out, at, names::nth(&NAMES, 0), x.index);
-    let b = param_value::put(rt, out, a, &NAMES, 1, v, names::nth(&NAMES, 5), text);
+    let a = answer::number(console, out, at, names::nth(&NAMES, 0), x.index);
+    let b = param_value::put(console, out, a, &NAMES, 1, v, names::nth(&NAMES, 5), text);
     answer::list(
-        rt,
+        console,
         out,
         b,
         names::nth(&NAMES, 6),
@@ -31,12 +32,12 @@ fn put_fields(
     )
 }
 
-pub fn decode(rt: &(impl Print + Eprint), payload: &[u8], out: &mut [u8], at: usize) -> usize {
+pub fn decode(console: &mut Console, payload: &[u8], out: &mut [u8], at: usize) -> usize {
     match get_set_request::decode(payload) {
-        Read::Refused(n) => answer::refused(rt, out, at, n),
+        Read::Refused(n) => answer::refused(console, out, at, n),
         Read::Got(x) => {
-            let o = put::byte(rt, out, at, 48);
-            put_fields(rt, x, payload, out, o)
+            let o = put::byte(console, out, at, 48);
+            put_fields(console, x, payload, out, o)
         }
     }
 }

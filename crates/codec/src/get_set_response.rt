@@ -4,6 +4,7 @@ ghost use Rattle.std.specs.Prelude.{◌≤◌, length};
 use super::param_value;
 use codec_text::answer::Encoded;
 use codec_text::{answer, fields, names, put};
+use console::Console;
 use protocol_param::get_set_response;
 use protocol_param::get_set_response::{Read, Response};
 use shape::answer::Written;
@@ -14,7 +15,7 @@ max_value.tag max_value.integer_value max_value.real_value min_value.tag min_val
 value.string_value default_value.string_value name";
 
 fn put_values(
-    rt: &(impl Print + Eprint),
+    console: &mut Console,
     x: Response,
     payload: &[u8],
     out: &mut [u8],
@@ -24,9 +25,18 @@ fn put_values(
     let default_value = x.default_value;
     let text = get_set_response::string_value(payload);
     let other = get_set_response::default_string_value(payload);
-    let a = param_value::put(rt, out, at, &NAMES, 0, value, names::nth(&NAMES, 14), text);
+    let a = param_value::put(
+        console,
+        out,
+        at,
+        &NAMES,
+        0,
+        value,
+        names::nth(&NAMES, 14),
+        text,
+    );
     param_value::put(
-        rt,
+        console,
         out,
         a,
         &NAMES,
@@ -38,30 +48,24 @@ fn put_values(
 }
 
 // NumericValue has no text.
-fn put_limits(
-    rt: &(impl Print + Eprint),
-    x: Response,
-    none: &[u8],
-    out: &mut [u8],
-    at: usize,
-) -> usize {
+fn put_limits(console: &mut Console, x: Response, none: &[u8], out: &mut [u8], at: usize) -> usize {
     let max_value = x.max_value;
     let min_value = x.min_value;
-    let a = param_value::put(rt, out, at, &NAMES, 8, max_value, none, none);
-    param_value::put(rt, out, a, &NAMES, 11, min_value, none, none)
+    let a = param_value::put(console, out, at, &NAMES, 8, max_value, none, none);
+    param_value::put(console, out, a, &NAMES, 11, min_value, none, none)
 }
 
 fn put_fields(
-    rt: &(impl Print + Eprint),
+    console: &mut Console,
     x: Response,
     payload: &[u8],
     out: &mut [u8],
     at: usize,
 ) -> usize {
-    let a = put_values(rt, x, payload, out, at);
-    let b = put_limits(rt, x, &payload[0..0], out, a);
+    let a = put_values(console, x, payload, out, at);
+    let b = put_limits(console, x, &payload[0..0], out, a);
     answer::list(
-        rt,
+        console,
         out,
         b,
         names::nth(&NAMES, 16),
@@ -69,12 +73,12 @@ fn put_fields(
     )
 }
 
-pub fn decode(rt: &(impl Print + Eprint), payload: &[u8], out: &mut [u8], at: usize) -> usize {
+pub fn decode(console: &mut Console, payload: &[u8], out: &mut [u8], at: usize) -> usize {
     match get_set_response::decode(payload) {
-        Read::Refused(n) => answer::refused(rt, out, at, n),
+        Read::Refused(n) => answer::refused(console, out, at, n),
         Read::Got(x) => {
-            let o = put::byte(rt, out, at, 48);
-            put_fields(rt, x, payload, out, o)
+            let o = put::byte(console, out, at, 48);
+            put_fields(console, x, payload, out, o)
         }
     }
 }

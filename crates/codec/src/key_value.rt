@@ -3,19 +3,26 @@ ghost use Rattle.std.specs.Prelude.{◌≤◌, length};
 
 use codec_text::answer::Encoded;
 use codec_text::{answer, fields, float, names};
+use console::Console;
 use protocol_debug::key_value;
 use protocol_debug::key_value::Read;
 use shape::answer::Written;
 
 const NAMES: [u8; 9] = *b"value key";
 
-pub fn decode(rt: &(impl Print + Eprint), payload: &[u8], out: &mut [u8], at: usize) -> usize {
+pub fn decode(console: &mut Console, payload: &[u8], out: &mut [u8], at: usize) -> usize {
     match key_value::decode(payload) {
-        Read::Refused(n) => answer::refused(rt, out, at, n),
+        Read::Refused(n) => answer::refused(console, out, at, n),
         Read::Got(x) => {
             let v = [x.value as i64];
-            let o = answer::numbers(rt, out, at, &NAMES, &v);
-            answer::list(rt, out, o, names::nth(&NAMES, 1), key_value::key(payload))
+            let o = answer::numbers(console, out, at, &NAMES, &v);
+            answer::list(
+                console,
+                out,
+                o,
+                names::nth(&NAMES, 1),
+                key_value::key(payload),
+            )
         }
     }
 }

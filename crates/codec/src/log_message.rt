@@ -3,26 +3,27 @@ ghost use Rattle.std.specs.Prelude.{◌≤◌, length};
 
 use codec_text::answer::Encoded;
 use codec_text::{answer, fields, names};
+use console::Console;
 use protocol_debug::log_message;
 use protocol_debug::log_message::Read;
 
 const NAMES: [u8; 23] = *b"level.value source text";
 
-pub fn decode(rt: &(impl Print + Eprint), payload: &[u8], out: &mut [u8], at: usize) -> usize {
+pub fn decode(console: &mut Console, payload: &[u8], out: &mut [u8], at: usize) -> usize {
     match log_message::decode(payload) {
-        Read::Refused(n) => answer::refused(rt, out, at, n),
+        Read::Refused(n) => answer::refused(console, out, at, n),
         Read::Got(x) => {
             let v = [x.level];
-            let a = answer::numbers(rt, out, at, &NAMES, &v);
+            let a = answer::numbers(console, out, at, &NAMES, &v);
             let b = answer::list(
-                rt,
+                console,
                 out,
                 a,
                 names::nth(&NAMES, 1),
                 log_message::source(payload),
             );
             answer::list(
-                rt,
+                console,
                 out,
                 b,
                 names::nth(&NAMES, 2),

@@ -22,7 +22,8 @@ mod request;
 ghost use Rattle.std.specs.Prelude.{◌≤◌, length};
 
 use codec_text::put;
-use std::io::Read;
+use console::Console;
+use std::process::ExitCode;
 
 // A line may have 8,192 bytes.
 const LONGEST: usize = 8192;
@@ -35,18 +36,18 @@ struct At {
 }
 
 // Answers the line that is in hand.
-fn end_line(rt: &(impl Print + Eprint), line: &[u8], n: usize, out: &mut [u8], at: usize) -> usize
+fn end_line(console: &mut Console, line: &[u8], n: usize, out: &mut [u8], at: usize) -> usize
     requires { 8192 ≤ length line.now }
 {
     if LONGEST < n {
-        return put::bytes(rt, out, at, b"?\n");
+        return put::bytes(console, out, at, b"?\n");
     }
-    let o = request::answer(rt, &line[0..n], out, at);
-    put::byte(rt, out, o, 10)
+    let o = request::answer(console, &line[0..n], out, at);
+    put::byte(console, out, o, 10)
 }
 
 // One more byte of the input.
-fn step(rt: &(impl Print + Eprint), line: &mut [u8], out: &mut [u8], a: At, b: u8) -> At
+fn step(console: &mut Console, line: &mut [u8], out: &mut [u8], a: At, b: u8) -> At
     requires { 8192 ≤ length line.old }
 {
     let n = a.line;
@@ -54,7 +55,7 @@ fn step(rt: &(impl Print + Eprint), line: &mut [u8], out: &mut [u8], a: At, b: u
     if b == 10 {
         return At {
             line: 0,
-            out: end_line(rt, line, n, out, at),
+            out: end_line(console, line, n, out, at),
         };
     }
     if n < LONGEST {
@@ -70,13 +71,13 @@ fn step(rt: &(impl Print + Eprint), line: &mut [u8], out: &mut [u8], a: At, b: u
     }
 }
 
-fn chunk(rt: &(impl Print + Eprint), src: &[u8], line: &mut [u8], out: &mut [u8], a: At) -> At
+fn chunk(console: &mut Console, src: &[u8], line: &mut [u8], out: &mut [u8], a: At) -> At
     requires { 8192 ≤ length line.old }
 {
     let mut st = a;
     let mut i = 0;
     while i < src.len() {
-        st = step(rt, line, out, st, src[i]);
+        st = step(console, line, out, st, src[i]);
         i += 1;
     }
     st
@@ -99,26 +100,19 @@ fn stop(failed: bool, a: At) -> Go {
 }
 
 // One read, and the answers to its lines: who types a request sees the answer before the next one.
-fn some(
-    rt: &(impl Print + Eprint),
-    input: &mut impl Read,
-    line: &mut [u8],
-    out: &mut [u8],
-    a: At,
-) -> Go
+fn some(console: &mut Console, line: &mut [u8], out: &mut [u8], a: At) -> Go
     requires { 8192 ≤ length line.old }
 {
     let mut buf = [0u8; 65536];
-    let Ok(n) = input.read(&mut buf) else {
-        console::cannot_read(rt);
+    let Some(n) = console.read(&mut buf) else {
         return stop(true, a);
     };
     if n == 0 {
         return stop(false, a);
     }
-    let after = chunk(rt, &buf[..n], line, out, a);
+    let after = chunk(console, &buf[..n], line, out, a);
     let at = after.out;
-    let good = put::flush(rt, out, at);
+    let good = put::flush(console, out, at);
     Go {
         more: good,
         failed: !good,
@@ -130,7 +124,7 @@ fn some(
 }
 
 // Every line; one without line feed at the end of the input too.
-fn all(rt: &(impl Print + Eprint), input: &mut impl Read, line: &mut [u8], out: &mut [u8])
+fn all(console: &mut Console, line: &mut [u8], out: &mut [u8])
     requires { 8192 ≤ length line.old }
 {
     let mut turns = u64::MAX;
@@ -138,31 +132,33 @@ fn all(rt: &(impl Print + Eprint), input: &mut impl Read, line: &mut [u8], out: 
     let mut more = true;
     let mut failed = false;
     while turns > 0 && more {
-        let g = some(rt, input, line, out, st);
+        let g = some(console, line, out, st);
         st = g.at;
         more = g.more;
         failed = g.failed;
         turns -= 1;
     }
     if !failed {
-        last(rt, line, out, st);
+        last(console, line, out, st);
     }
 }
 
 // The line without line feed, if there is one. All others are answered and written.
-fn last(rt: &(impl Print + Eprint), line: &[u8], out: &mut [u8], a: At)
+fn last(console: &mut Console, line: &[u8], out: &mut [u8], a: At)
     requires { 8192 ≤ length line.now }
 {
     let n = a.line;
     if n == 0 {
         return;
     }
-    let o = end_line(rt, line, n, out, 0);
-    put::flush(rt, out, o);
+    let o = end_line(console, line, n, out, 0);
+    put::flush(console, out, o);
 }
 
-fn main(rt: HostRuntime) {
+fn main(rt: HostRuntime) -> ExitCode {
     let mut line = [0u8; 8192];
     let mut out = [0u8; 65536];
-    all(&rt, &mut rt.stdin(), &mut line, &mut out);
+    let mut console = Console::new(rt.stdin(), rt.stdout(), rt.stderr());
+    all(&mut console, &mut line, &mut out);
+    console.status()
 }

@@ -3,14 +3,15 @@ ghost use Rattle.std.specs.Prelude.{◌≤◌, length};
 
 use codec_text::answer::Encoded;
 use codec_text::{answer, fields};
+use console::Console;
 use protocol::node_status;
 use protocol::node_status::{NodeStatus, Read};
 
 const NAMES: [u8; 59] = *b"uptime_sec health mode sub_mode vendor_specific_status_code";
 
-pub fn decode(rt: &(impl Print + Eprint), payload: &[u8], out: &mut [u8], at: usize) -> usize {
+pub fn decode(console: &mut Console, payload: &[u8], out: &mut [u8], at: usize) -> usize {
     match node_status::decode(payload) {
-        Read::Refused(n) => answer::refused(rt, out, at, n),
+        Read::Refused(n) => answer::refused(console, out, at, n),
         Read::Got(x) => {
             let v = [
                 x.uptime_sec,
@@ -19,7 +20,7 @@ pub fn decode(rt: &(impl Print + Eprint), payload: &[u8], out: &mut [u8], at: us
                 x.sub_mode,
                 x.vendor_specific_status_code,
             ];
-            answer::numbers(rt, out, at, &NAMES, &v)
+            answer::numbers(console, out, at, &NAMES, &v)
         }
     }
 }

@@ -2,12 +2,13 @@
 ghost use Rattle.std.specs.Prelude.{◌≤◌};
 
 use codec_text::{answer, float, names};
+use console::Console;
 use protocol_param::value;
 use protocol_param::value::Value;
 
 // Internal. The tag, under the i-th name, and the field of the case: a number under one of the names after it, or the text under its own.
 pub fn put(
-    rt: &(impl Print + Eprint),
+    console: &mut Console,
     out: &mut [u8],
     at: usize,
     names: &[u8],
@@ -19,22 +20,22 @@ pub fn put(
     requires { i ≤ 100 }
 {
     match v {
-        Value::Empty => answer::number(rt, out, at, names::nth(names, i), 0),
+        Value::Empty => answer::number(console, out, at, names::nth(names, i), 0),
         Value::Integer(z) => {
-            let a = answer::number(rt, out, at, names::nth(names, i), 1);
-            answer::number(rt, out, a, names::nth(names, i + 1), z)
+            let a = answer::number(console, out, at, names::nth(names, i), 1);
+            answer::number(console, out, a, names::nth(names, i + 1), z)
         }
         Value::Real(x) => {
-            let a = answer::number(rt, out, at, names::nth(names, i), 2);
-            answer::number(rt, out, a, names::nth(names, i + 2), x as i64)
+            let a = answer::number(console, out, at, names::nth(names, i), 2);
+            answer::number(console, out, a, names::nth(names, i + 2), x as i64)
         }
         Value::Boolean(z) => {
-            let a = answer::number(rt, out, at, names::nth(names, i), 3);
-            answer::number(rt, out, a, names::nth(names, i + 3), z)
+            let a = answer::number(console, out, at, names::nth(names, i), 3);
+            answer::number(console, out, a, names::nth(names, i + 3), z)
         }
         Value::Text => {
-            let a = answer::number(rt, out, at, names::nth(names, i), 4);
-            answer::list(rt, out, a, text_name, text)
+            let a = answer::number(console, out, at, names::nth(names, i), 4);
+            answer::list(console, out, a, text_name, text)
         }
         Value::Unknown => at,
     }

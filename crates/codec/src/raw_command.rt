@@ -2,27 +2,28 @@
 use codec_text::answer::Encoded;
 use codec_text::signed::Count;
 use codec_text::{answer, signed};
+use console::Console;
 use equipment_esc::raw_command;
 use equipment_esc::raw_command::RawCommand;
 
 const NAME: [u8; 3] = *b"cmd";
 
 // The first n of the commands.
-fn shown(rt: &(impl Print + Eprint), cmd: [i64; 20], n: usize, out: &mut [u8], at: usize) -> usize {
-    let a = answer::numbers(rt, out, at, &NAME, &[]);
-    answer::signed_list(rt, out, a, &NAME, signed::first(&cmd, n))
+fn shown(console: &mut Console, cmd: [i64; 20], n: usize, out: &mut [u8], at: usize) -> usize {
+    let a = answer::numbers(console, out, at, &NAME, &[]);
+    answer::signed_list(console, out, a, &NAME, signed::first(&cmd, n))
 }
 
-pub fn decode(rt: &(impl Print + Eprint), payload: &[u8], out: &mut [u8], at: usize) -> usize {
+pub fn decode(console: &mut Console, payload: &[u8], out: &mut [u8], at: usize) -> usize {
     let r = raw_command::decode(payload);
     let number = r.number;
     if number != 0 {
-        return answer::refused(rt, out, at, number);
+        return answer::refused(console, out, at, number);
     }
     let x = r.message;
     let n = x.count;
     let cmd = x.cmd;
-    shown(rt, cmd, n, out, at)
+    shown(console, cmd, n, out, at)
 }
 
 // Internal.

@@ -1,9 +1,10 @@
 // Answers' text, gathered in a buffer that is written out when it is full.
+use console::Console;
 
 // Internal. Writes out what is gathered; false if that fails.
-pub fn flush(rt: &(impl Print + Eprint), out: &[u8], at: usize) -> bool {
+pub fn flush(console: &mut Console, out: &[u8], at: usize) -> bool {
     if at <= out.len() {
-        return console::written(rt, &out[0..at]);
+        return console.written(&out[0..at]);
     }
     true
 }
@@ -17,55 +18,55 @@ fn first(out: &mut [u8], b: u8) -> usize {
 }
 
 // Internal.
-pub fn byte(rt: &(impl Print + Eprint), out: &mut [u8], at: usize, b: u8) -> usize {
+pub fn byte(console: &mut Console, out: &mut [u8], at: usize, b: u8) -> usize {
     if at < out.len() {
         out[at] = b;
         return at + 1;
     }
-    flush(rt, out, at);
+    flush(console, out, at);
     first(out, b)
 }
 
 // Internal.
-pub fn bytes(rt: &(impl Print + Eprint), out: &mut [u8], at: usize, s: &[u8]) -> usize {
+pub fn bytes(console: &mut Console, out: &mut [u8], at: usize, s: &[u8]) -> usize {
     let mut o = at;
     let mut i = 0;
     while i < s.len() {
-        o = byte(rt, out, o, s[i]);
+        o = byte(console, out, o, s[i]);
         i += 1;
     }
     o
 }
 
 // Internal.
-pub fn decimal(rt: &(impl Print + Eprint), out: &mut [u8], at: usize, v: u64) -> usize {
+pub fn decimal(console: &mut Console, out: &mut [u8], at: usize, v: u64) -> usize {
     let mut d = [0u8; 20];
     let n = digits::count(v);
     digits::put_digits(&mut d, 0, n, v);
-    bytes(rt, out, at, &d[0..n])
+    bytes(console, out, at, &d[0..n])
 }
 
-fn pair(rt: &(impl Print + Eprint), out: &mut [u8], at: usize, s: &[u8; 1]) -> usize {
+fn pair(console: &mut Console, out: &mut [u8], at: usize, s: &[u8; 1]) -> usize {
     let mut d = [0u8; 2];
     digits::put_hexes(&mut d, 0, s);
-    bytes(rt, out, at, &d)
+    bytes(console, out, at, &d)
 }
 
 // Internal. A list: a dash if it is empty.
-pub fn list(rt: &(impl Print + Eprint), out: &mut [u8], at: usize, s: &[u8]) -> usize {
+pub fn list(console: &mut Console, out: &mut [u8], at: usize, s: &[u8]) -> usize {
     if s.len() == 0 {
-        return byte(rt, out, at, 45);
+        return byte(console, out, at, 45);
     }
     let mut o = at;
     let mut i = 0;
     while i < s.len() {
-        o = pair(rt, out, o, &[s[i]]);
+        o = pair(console, out, o, &[s[i]]);
         i += 1;
     }
     o
 }
 
 // Internal. The answer to a line that is not well formed.
-pub fn ill_formed(rt: &(impl Print + Eprint), out: &mut [u8], at: usize) -> usize {
-    byte(rt, out, at, 63)
+pub fn ill_formed(console: &mut Console, out: &mut [u8], at: usize) -> usize {
+    byte(console, out, at, 63)
 }

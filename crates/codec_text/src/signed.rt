@@ -3,6 +3,7 @@ ghost use Rattle.std.specs.Prelude.{◌+◌};
 
 use super::number::Signed;
 use super::{number, put};
+use console::Console;
 use shape::signed;
 
 // How many numbers a list has, or that it is none.
@@ -71,33 +72,33 @@ pub fn first(s: &[i64], n: usize) -> &[i64] {
 }
 
 // Internal.
-pub fn number(rt: &(impl Print + Eprint), out: &mut [u8], at: usize, v: i64) -> usize {
+pub fn number(console: &mut Console, out: &mut [u8], at: usize, v: i64) -> usize {
     if v < 0 {
-        let a = put::byte(rt, out, at, 45);
-        return put::decimal(rt, out, a, signed::size(v) + 1);
+        let a = put::byte(console, out, at, 45);
+        return put::decimal(console, out, a, signed::size(v) + 1);
     }
-    put::decimal(rt, out, at, signed::size(v))
+    put::decimal(console, out, at, signed::size(v))
 }
 
 // The comma before all but the first.
-fn comma(rt: &(impl Print + Eprint), out: &mut [u8], at: usize, i: usize) -> usize {
+fn comma(console: &mut Console, out: &mut [u8], at: usize, i: usize) -> usize {
     if 0 < i {
-        return put::byte(rt, out, at, 44);
+        return put::byte(console, out, at, 44);
     }
     at
 }
 
 // Internal.
-pub fn list(rt: &(impl Print + Eprint), out: &mut [u8], at: usize, s: &[i64]) -> usize {
+pub fn list(console: &mut Console, out: &mut [u8], at: usize, s: &[i64]) -> usize {
     if s.len() == 0 {
-        return put::byte(rt, out, at, 45);
+        return put::byte(console, out, at, 45);
     }
     let mut o = at;
     let mut i = 0;
     while i < s.len() {
-        let a = comma(rt, out, o, i);
+        let a = comma(console, out, o, i);
         let v = s[i];
-        o = number(rt, out, a, v);
+        o = number(console, out, a, v);
         i += 1;
     }
     o

@@ -4,6 +4,7 @@ ghost use Rattle.capture_record.specs.Record.{record_size};
 
 use super::text;
 use capture_convert::lines;
+use console::Console;
 use frame::head::Head;
 
 // What its record says. The head is that of the ID's lower 29 bits.
@@ -39,98 +40,98 @@ pub fn read(r: &[u8]) -> Fault
     }
 }
 
-fn show_fields(rt: &(impl Print + Eprint), r: &[u8])
+fn show_fields(console: &mut Console, r: &[u8])
     requires { length r.now ≡ record_size }
 {
     let s = capture_record::read(r);
-    text::say(rt, b"time ");
-    text::seconds(rt, s.time);
-    text::say(rt, b" ID ");
-    text::hex(rt, s.id as u64, 8);
-    text::say(rt, b" length ");
-    text::number(rt, s.len as u64);
-    text::say(rt, b" data");
-    text::bytes(rt, &r[13..21]);
-    text::say(rt, b" (no log line can carry it, RULES 18.4)\n");
+    text::say(console, b"time ");
+    text::seconds(console, s.time);
+    text::say(console, b" ID ");
+    text::hex(console, s.id as u64, 8);
+    text::say(console, b" length ");
+    text::number(console, s.len as u64);
+    text::say(console, b" data");
+    text::bytes(console, &r[13..21]);
+    text::say(console, b" (no log line can carry it, RULES 18.4)\n");
 }
 
 // Its line, or its fields where no line can carry it.
-fn show_frame(rt: &(impl Print + Eprint), r: &[u8])
+fn show_frame(console: &mut Console, r: &[u8])
     requires { length r.now ≡ record_size }
 {
     let mut out = [0u8; 47];
-    text::say(rt, b"frame:     ");
+    text::say(console, b"frame:     ");
     if lines::measure(r).ok {
         let n = lines::lines(r, &mut out);
-        return text::say(rt, &out[0..n]);
+        return text::say(console, &out[0..n]);
     }
-    show_fields(rt, r);
+    show_fields(console, r);
 }
 
 // Message, request or response, and its type.
-fn show_type(rt: &(impl Print + Eprint), h: Head) {
+fn show_type(console: &mut Console, h: Head) {
     let transfer_type = h.transfer_type;
     match transfer_type {
-        0 => text::say(rt, b"message"),
-        1 => text::say(rt, b"request"),
-        _ => text::say(rt, b"response"),
+        0 => text::say(console, b"message"),
+        1 => text::say(console, b"request"),
+        _ => text::say(console, b"response"),
     }
-    text::say(rt, b" of type ");
-    text::number(rt, h.type_id as u64);
+    text::say(console, b" of type ");
+    text::number(console, h.type_id as u64);
 }
 
-fn show_nodes(rt: &(impl Print + Eprint), h: Head) {
+fn show_nodes(console: &mut Console, h: Head) {
     if frame::check::is_anonymous(h) {
         return;
     }
-    text::say(rt, b" from node ");
-    text::number(rt, h.source as u64);
+    text::say(console, b" from node ");
+    text::number(console, h.source as u64);
     if 0 < h.transfer_type {
-        text::say(rt, b" to node ");
-        text::number(rt, h.destination as u64);
+        text::say(console, b" to node ");
+        text::number(console, h.destination as u64);
     }
 }
 
-fn show_stream(rt: &(impl Print + Eprint), f: Fault) {
+fn show_stream(console: &mut Console, f: Fault) {
     let h = f.head;
-    text::say(rt, b"stream:    ");
+    text::say(console, b"stream:    ");
     if 0x2000_0000 <= f.id {
-        return text::say(rt, b"none: the ID has more than 29 bits\n");
+        return text::say(console, b"none: the ID has more than 29 bits\n");
     }
     if frame::check::is_anonymous(h) {
-        text::say(rt, b"none: anonymous ");
+        text::say(console, b"none: anonymous ");
     }
-    show_type(rt, h);
-    show_nodes(rt, h);
-    text::say(rt, b"; priority ");
-    text::number(rt, h.priority as u64);
-    text::say(rt, b"\n");
+    show_type(console, h);
+    show_nodes(console, h);
+    text::say(console, b"; priority ");
+    text::number(console, h.priority as u64);
+    text::say(console, b"\n");
 }
 
-fn show_tail(rt: &(impl Print + Eprint), f: Fault) {
+fn show_tail(console: &mut Console, f: Fault) {
     let h = f.head;
-    text::say(rt, b"tail byte: ");
+    text::say(console, b"tail byte: ");
     if f.len == 0 || 8 < f.len {
-        return text::say(rt, b"none\n");
+        return text::say(console, b"none\n");
     }
     if h.start {
-        text::say(rt, b"start, ");
+        text::say(console, b"start, ");
     }
     if h.end {
-        text::say(rt, b"end, ");
+        text::say(console, b"end, ");
     }
-    text::say(rt, b"toggle ");
-    text::number(rt, h.toggle as u64);
-    text::say(rt, b", transfer ID ");
-    text::number(rt, h.transfer as u64);
-    text::say(rt, b"\n");
+    text::say(console, b"toggle ");
+    text::number(console, h.toggle as u64);
+    text::say(console, b", transfer ID ");
+    text::number(console, h.transfer as u64);
+    text::say(console, b"\n");
 }
 
 // Internal. The lines of the frame, its stream and its tail byte.
-pub fn show(rt: &(impl Print + Eprint), r: &[u8], f: Fault)
+pub fn show(console: &mut Console, r: &[u8], f: Fault)
     requires { length r.now ≡ record_size }
 {
-    show_frame(rt, r);
-    show_stream(rt, f);
-    show_tail(rt, f);
+    show_frame(console, r);
+    show_stream(console, f);
+    show_tail(console, f);
 }

@@ -17,11 +17,12 @@ ghost use Rattle.state.specs.Layout.{size};
 
 use capture_convert::trailer::Trailer;
 use capture_file::Opened;
-use console::Progress;
+use console::{Console, Progress};
 use judge_capture::records;
 use judge_capture::records::Fed;
 use judge_streams::SIZE;
-use std::io::{Read, Write};
+use std::fs::File;
+use std::process::ExitCode;
 use std::rt::{Env, Files};
 
 // Records: how many are left and how many were read; the checksum of these; the number of the frame at fault and which one it is, 0 and 0 if there is
@@ -64,8 +65,8 @@ fn feed(state: &[u8], table: &mut [u64; SIZE], block: &[u8], kept: &mut [u8], s:
 
 // One block: read, judged, summed. Where reading fails, none is left.
 fn turn(
-    rt: &impl Eprint,
-    file: &mut impl Read,
+    console: &Console,
+    file: &mut File,
     state: &[u8],
     table: &mut [u64; SIZE],
     block: &mut [u8],
@@ -79,7 +80,7 @@ fn turn(
     let n = k * capture_record::SIZE;
     let mut r = s;
     if k == 0 {
-        console::cannot_read(rt);
+        console.cannot_read();
         r.left = 0;
         r.failed = true;
         return r;
@@ -93,8 +94,8 @@ fn turn(
 
 // All records are read: a wrong checksum comes before any frame at fault.
 fn finish(
-    rt: &(impl Print + Eprint),
-    progress: &mut Progress<impl Write>,
+    console: &mut Console,
+    progress: &mut Progress,
     state: &[u8],
     table: &[u64; SIZE],
     kept: &[u8],
@@ -108,21 +109,21 @@ fn finish(
     }
     progress.ends();
     if s.sum as u64 != t.sum {
-        return verdict::no_capture(rt);
+        return verdict::no_capture(console);
     }
     if s.number == 0 {
-        return verdict::passes(rt, s.done);
+        return verdict::passes(console, s.done);
     }
-    verdict::fails(rt, s.number, s.frame, s.done);
-    explain::explain(rt, state, table, kept, s.number);
-    verdict::told(rt, s.number);
+    verdict::fails(console, s.number, s.frame, s.done);
+    explain::explain(console, state, table, kept, s.number);
+    verdict::told(console, s.number);
 }
 
 // All records, from where the file stands. From time to time a line on descriptor 3 says how far it is.
 fn run(
-    rt: &(impl Print + Eprint),
-    file: &mut impl Read,
-    progress: &mut Progress<impl Write>,
+    console: &mut Console,
+    file: &mut File,
+    progress: &mut Progress,
     state: &[u8],
     table: &mut [u64; SIZE],
     block: &mut [u8],
@@ -140,14 +141,15 @@ fn run(
         failed: false,
     };
     while 0 < s.left {
-        s = turn(rt, file, state, table, block, kept, s);
+        s = turn(console, file, state, table, block, kept, s);
         capture_file::tell(progress, s.done);
     }
-    finish(rt, progress, state, table, kept, t, s);
+    finish(console, progress, state, table, kept, t, s);
 }
 
 fn whole(
-    rt: &(impl Files + Env + Print + Eprint),
+    rt: &(impl Files<File = File> + Env),
+    console: &mut Console,
     state: &mut [u8],
     table: &mut [u64; SIZE],
     block: &mut [u8],
@@ -155,11 +157,11 @@ fn whole(
 )
     requires { (size ≤ length state.old) × (Table table.old × (length kept.old ≡ record_size)) }
 {
-    if list::accepted(rt, state) {
+    if list::accepted(rt, console, state) {
         let mut progress = console::open_progress(rt);
         match capture_file::open(rt) {
             Opened::Capture(mut file, t) => run(
-                rt,
+                console,
                 &mut file,
                 &mut progress,
                 state,
@@ -168,16 +170,25 @@ fn whole(
                 kept,
                 t,
             ),
-            Opened::NoCapture => verdict::no_capture(rt),
-            Opened::Unreadable => console::cannot_read(rt),
+            Opened::NoCapture => verdict::no_capture(console),
+            Opened::Unreadable => console.cannot_read(),
         }
     }
 }
 
-fn main(rt: HostRuntime) {
+fn main(rt: HostRuntime) -> ExitCode {
     let mut state = [0u8; state::layout::SIZE];
     let mut table = [0u64; SIZE];
     let mut block = [0u8; capture_file::BLOCK];
     let mut kept = [0u8; capture_record::SIZE];
-    whole(&rt, &mut state, &mut table, &mut block, &mut kept);
+    let mut console = Console::new(rt.stdin(), rt.stdout(), rt.stderr());
+    whole(
+        &rt,
+        &mut console,
+        &mut state,
+        &mut table,
+        &mut block,
+        &mut kept,
+    );
+    console.status()
 }

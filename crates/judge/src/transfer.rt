@@ -6,6 +6,7 @@ ghost use Rattle.state.specs.Layout.{size};
 
 use super::fault::Fault;
 use super::text;
+use console::Console;
 use judge_stream::Kept;
 use judge_streams::{Expected, SIZE};
 use rules::limits::GATHERED;
@@ -13,130 +14,136 @@ use subscriptions::Subscribed;
 
 // ---- what was expected ----
 
-fn expect_any_start(rt: &(impl Print + Eprint)) {
-    text::expected(rt, b"a start, with any transfer ID\n");
+fn expect_any_start(console: &mut Console) {
+    text::expected(console, b"a start, with any transfer ID\n");
 }
 
 // A start after the last transfer.
-fn expect_next_start(rt: &(impl Print + Eprint), k: Kept, f: Fault) {
+fn expect_next_start(console: &mut Console, k: Kept, f: Fault) {
     let next = (k.transfer as u64 + 1) % 32;
     if f.head.transfer_type == 2 {
-        return expect_any_start(rt);
+        return expect_any_start(console);
     }
-    text::expected(rt, b"a start with transfer ID ");
-    text::number(rt, next);
+    text::expected(console, b"a start with transfer ID ");
+    text::number(console, next);
     if 0 < next {
         text::say(
-            rt,
+            console,
             b", or with 0 if 2 s or more after the start before it, at ",
         );
-        text::seconds(rt, k.since);
-        text::say(rt, b" s");
+        text::seconds(console, k.since);
+        text::say(console, b" s");
     }
-    text::say(rt, b"\n");
+    text::say(console, b"\n");
 }
 
 // A frame that continues the transfer in hand.
-fn expect_continuation(rt: &(impl Print + Eprint), k: Kept) {
-    text::expected(rt, b"ID ");
-    text::hex(rt, k.id as u64, 8);
-    text::say(rt, b", no start, toggle ");
-    text::number(rt, k.toggle as u64);
-    text::say(rt, b", transfer ID ");
-    text::number(rt, k.transfer as u64);
-    text::say(rt, b"; the transfer in hand began at ");
-    text::seconds(rt, k.since);
-    text::say(rt, b" s\n");
+fn expect_continuation(console: &mut Console, k: Kept) {
+    text::expected(console, b"ID ");
+    text::hex(console, k.id as u64, 8);
+    text::say(console, b", no start, toggle ");
+    text::number(console, k.toggle as u64);
+    text::say(console, b", transfer ID ");
+    text::number(console, k.transfer as u64);
+    text::say(console, b"; the transfer in hand began at ");
+    text::seconds(console, k.since);
+    text::say(console, b" s\n");
 }
 
 // ---- 24 ----
 
-fn no_start(rt: &(impl Print + Eprint)) {
+fn no_start(console: &mut Console) {
     text::rule(
-        rt,
+        console,
         b"19.5: a frame that is no start continues a transfer, and none is in hand",
     );
 }
 
-fn wrong_transfer(rt: &(impl Print + Eprint), k: Kept, f: Fault) {
+fn wrong_transfer(console: &mut Console, k: Kept, f: Fault) {
     text::rule(
-        rt,
+        console,
         b"19.5: a transfer ID is that of the transfer before raised by one, or 0 if that one started 2 s or more before",
     );
-    expect_next_start(rt, k, f);
+    expect_next_start(console, k, f);
 }
 
-fn start_inside(rt: &(impl Print + Eprint), k: Kept) {
+fn start_inside(console: &mut Console, k: Kept) {
     text::rule(
-        rt,
+        console,
         b"19.5: a transfer has all its frames before the next one of its stream starts, and one is in hand",
     );
-    expect_continuation(rt, k);
+    expect_continuation(console, k);
 }
 
 // Payload bytes: those of the frames, without tail byte and checksum.
-fn short_payload(rt: &(impl Print + Eprint), k: Kept, f: Fault) {
+fn short_payload(console: &mut Console, k: Kept, f: Fault) {
     let carried = (k.count as u64).wrapping_add(f.len as u64);
-    text::rule(rt, b"7.4: a payload of up to 7 bytes goes in one frame");
-    text::expected(rt, b"a start that is an end, for all ");
-    text::number(rt, carried.wrapping_sub(3));
-    text::say(rt, b" payload bytes\n");
+    text::rule(
+        console,
+        b"7.4: a payload of up to 7 bytes goes in one frame",
+    );
+    text::expected(console, b"a start that is an end, for all ");
+    text::number(console, carried.wrapping_sub(3));
+    text::say(console, b" payload bytes\n");
 }
 
 // No start, at a transfer in hand: the first thing that differs from a continuation, or else the payload is short.
-fn inside(rt: &(impl Print + Eprint), k: Kept, f: Fault) {
+fn inside(console: &mut Console, k: Kept, f: Fault) {
     if k.id != f.id {
-        text::rule(rt, b"19.5: the frames of a transfer have one priority");
-        return expect_continuation(rt, k);
+        text::rule(console, b"19.5: the frames of a transfer have one priority");
+        return expect_continuation(console, k);
     }
     if k.transfer != f.head.transfer {
-        text::rule(rt, b"7.4: the frames of a transfer have one transfer ID");
-        return expect_continuation(rt, k);
+        text::rule(
+            console,
+            b"7.4: the frames of a transfer have one transfer ID",
+        );
+        return expect_continuation(console, k);
     }
     if k.toggle != f.head.toggle {
         text::rule(
-            rt,
+            console,
             b"7.4: the frames of a transfer have toggles 0, 1, 0 and so on",
         );
-        return expect_continuation(rt, k);
+        return expect_continuation(console, k);
     }
-    short_payload(rt, k, f);
+    short_payload(console, k, f);
 }
 
 // 24, of a stream that was there before.
-fn out_of_order(rt: &(impl Print + Eprint), k: Kept, f: Fault) {
+fn out_of_order(console: &mut Console, k: Kept, f: Fault) {
     if 0 < k.count {
         if f.head.start {
-            return start_inside(rt, k);
+            return start_inside(console, k);
         }
-        return inside(rt, k, f);
+        return inside(console, k, f);
     }
     if f.head.start {
-        return wrong_transfer(rt, k, f);
+        return wrong_transfer(console, k, f);
     }
-    no_start(rt);
-    expect_next_start(rt, k, f);
+    no_start(console);
+    expect_next_start(console, k, f);
 }
 
 // ---- 11 and 12 ----
 
-fn too_long(rt: &(impl Print + Eprint), k: Kept) {
+fn too_long(console: &mut Console, k: Kept) {
     text::rule(
-        rt,
+        console,
         b"19.5: a payload has at most 512 bytes, 514 with its checksum",
     );
-    text::expected(rt, b"an end with at most ");
-    text::number(rt, (GATHERED as u64).wrapping_sub(k.count as u64));
-    text::say(rt, b" payload bytes: the frames before it carry ");
-    text::number(rt, k.count as u64);
-    text::say(rt, b" of 514\n");
+    text::expected(console, b"an end with at most ");
+    text::number(console, (GATHERED as u64).wrapping_sub(k.count as u64));
+    text::say(console, b" payload bytes: the frames before it carry ");
+    text::number(console, k.count as u64);
+    text::say(console, b" of 514\n");
 }
 
-fn show_sum(rt: &(impl Print + Eprint), sum: u16) {
-    text::hex(rt, sum as u64, 4);
-    text::say(rt, b" (bytes");
-    text::bytes(rt, &[(sum % 256) as u8, (sum / 256) as u8]);
-    text::say(rt, b")");
+fn show_sum(console: &mut Console, sum: u16) {
+    text::hex(console, sum as u64, 4);
+    text::say(console, b" (bytes");
+    text::bytes(console, &[(sum % 256) as u8, (sum / 256) as u8]);
+    text::say(console, b")");
 }
 
 fn subscribed(state: &[u8], f: Fault) -> Subscribed
@@ -148,32 +155,32 @@ fn subscribed(state: &[u8], f: Fault) -> Subscribed
     subscriptions::find(state, 1, f.head.type_id as u32)
 }
 
-fn show_signature(rt: &(impl Print + Eprint), state: &[u8], f: Fault)
+fn show_signature(console: &mut Console, state: &[u8], f: Fault)
     requires { size ≤ length state.now }
 {
     match subscribed(state, f) {
-        Subscribed::Not => text::say(rt, b"no signature"),
+        Subscribed::Not => text::say(console, b"no signature"),
         Subscribed::Under(signature) => {
-            text::say(rt, b"signature ");
-            text::hex(rt, signature, 16);
+            text::say(console, b"signature ");
+            text::hex(console, signature, 16);
         }
     }
 }
 
-fn wrong_sum(rt: &(impl Print + Eprint), state: &[u8], k: Kept, f: Fault, sum: u16)
+fn wrong_sum(console: &mut Console, state: &[u8], k: Kept, f: Fault, sum: u16)
     requires { size ≤ length state.now }
 {
     text::rule(
-        rt,
+        console,
         b"7.4: a payload of several frames has its checksum in front",
     );
-    text::expected(rt, b"checksum ");
-    show_sum(rt, sum);
-    text::say(rt, b" in front, as worked out under ");
-    show_signature(rt, state, f);
-    text::say(rt, b"; there is ");
-    show_sum(rt, k.sum);
-    text::say(rt, b"\n");
+    text::expected(console, b"checksum ");
+    show_sum(console, sum);
+    text::say(console, b" in front, as worked out under ");
+    show_signature(console, state, f);
+    text::say(console, b"; there is ");
+    show_sum(console, k.sum);
+    text::say(console, b"\n");
 }
 
 // ---- all ----
@@ -190,19 +197,19 @@ fn sum_after(k: Kept, r: &[u8], len: usize) -> u16
     k.register
 }
 
-fn of_known(rt: &(impl Print + Eprint), state: &[u8], k: Kept, r: &[u8], f: Fault, number: u8)
+fn of_known(console: &mut Console, state: &[u8], k: Kept, r: &[u8], f: Fault, number: u8)
     requires { (size ≤ length state.now) × (length r.now ≡ record_size) }
 {
     match number {
-        11 => too_long(rt, k),
-        12 => wrong_sum(rt, state, k, f, sum_after(k, r, f.len)),
-        _ => out_of_order(rt, k, f),
+        11 => too_long(console, k),
+        12 => wrong_sum(console, state, k, f, sum_after(k, r, f.len)),
+        _ => out_of_order(console, k, f),
     }
 }
 
 // Internal.
 pub fn explain(
-    rt: &(impl Print + Eprint),
+    console: &mut Console,
     state: &[u8],
     table: &[u64; SIZE],
     r: &[u8],
@@ -213,9 +220,9 @@ pub fn explain(
 {
     match judge_streams::of_stream(table, f.id) {
         Expected::New => {
-            no_start(rt);
-            expect_any_start(rt);
+            no_start(console);
+            expect_any_start(console);
         }
-        Expected::Known(k) => of_known(rt, state, k, r, f, number),
+        Expected::Known(k) => of_known(console, state, k, r, f, number),
     }
 }

@@ -1,40 +1,41 @@
 // The verdict (RULES 19.11): its line for programs and its sentence.
 use super::text;
-
 // Internal. Says on standard error that all is written, by the number.
-pub fn told(rt: &impl Eprint, number: u8) {
-    let _ = eprintln!(rt; "{number}");
+pub fn told(console: &Console, number: u8) {
+    console.say(format_args!("{number}\n"));
 }
 
+use console::Console;
+
 // Internal.
-pub fn passes(rt: &(impl Print + Eprint), frames: u64) {
-    text::say(rt, b"0\npasses: ");
-    text::number(rt, frames);
+pub fn passes(console: &mut Console, frames: u64) {
+    text::say(console, b"0\npasses: ");
+    text::number(console, frames);
     if frames == 1 {
-        text::say(rt, b" frame\n");
+        text::say(console, b" frame\n");
     } else {
-        text::say(rt, b" frames\n");
+        text::say(console, b" frames\n");
     }
-    told(rt, 0);
+    told(console, 0);
 }
 
 // Internal.
-pub fn no_capture(rt: &(impl Print + Eprint)) {
+pub fn no_capture(console: &mut Console) {
     text::say(
-        rt,
+        console,
         b"22\nnot a capture, or damaged: its trailer is wrong (RULES 18.2)\n",
     );
-    told(rt, 22);
+    told(console, 22);
 }
 
 // Internal. Of so many frames one is at fault; more lines follow.
-pub fn fails(rt: &(impl Print + Eprint), number: u8, frame: u64, frames: u64) {
-    text::number(rt, number as u64);
-    text::say(rt, b" ");
-    text::number(rt, frame);
-    text::say(rt, b"\ndoes not pass: frame ");
-    text::number(rt, frame);
-    text::say(rt, b" (counted from 0) of ");
-    text::number(rt, frames);
-    text::say(rt, b" is the first at fault\n");
+pub fn fails(console: &mut Console, number: u8, frame: u64, frames: u64) {
+    text::number(console, number as u64);
+    text::say(console, b" ");
+    text::number(console, frame);
+    text::say(console, b"\ndoes not pass: frame ");
+    text::number(console, frame);
+    text::say(console, b" (counted from 0) of ");
+    text::number(console, frames);
+    text::say(console, b" is the first at fault\n");
 }

@@ -5,9 +5,10 @@ ghost use Rattle.std.specs.Prelude.{◌≡◌, true, ◌≤◌, length};
 ghost use Rattle.state.specs.Layout.{size};
 ghost use Rattle.state.specs.Sound.{sound_state};
 
+use console::Console;
 use log_replay::Counts;
 use state::layout::SIZE;
-use std::io::Read;
+use std::process::ExitCode;
 
 // A block, with what was kept in front of it. A byte of input gives 80 of text at most.
 const BLOCK: usize = 8192;
@@ -37,8 +38,7 @@ fn stop(failed: bool, kept: usize, counts: Counts) -> After
 
 // One read: its lines, and what they gave is written.
 fn turn(
-    rt: &(impl Print + Eprint),
-    input: &mut impl Read,
+    console: &mut Console,
     state: &mut [u8],
     block: &mut [u8],
     kept: usize,
@@ -48,8 +48,7 @@ fn turn(
     requires { (sound_state state.old ≡ true) × ((kept ≤ 48) × ((length block.old ≡ 8192) × (length out.old ≡ 656560))) }
     ensures { (sound_state state.new ≡ true) × (result.kept ≤ 48) }
 {
-    let Ok(got) = input.read(&mut block[kept..]) else {
-        console::cannot_read(rt);
+    let Some(got) = console.read(&mut block[kept..]) else {
         return stop(true, kept, counts);
     };
     let n = kept + got;
@@ -59,7 +58,7 @@ fn turn(
     let f = log_feed::feed(state, block, n, out, counts);
     let len = f.len;
     let after = f.counts;
-    let good = console::written(rt, &out[0..len]);
+    let good = console.written(&out[0..len]);
     After {
         more: good,
         failed: !good,
@@ -69,13 +68,7 @@ fn turn(
 }
 
 // All blocks, and the end, which is not told after a failure.
-fn run(
-    rt: &(impl Print + Eprint),
-    input: &mut impl Read,
-    state: &mut [u8],
-    block: &mut [u8],
-    out: &mut [u8],
-)
+fn run(console: &mut Console, state: &mut [u8], block: &mut [u8], out: &mut [u8])
     requires { (sound_state state.old ≡ true) × ((length block.old ≡ 8192) × (length out.old ≡ 656560)) }
 {
     let mut counts = Counts {
@@ -87,7 +80,7 @@ fn run(
     let mut failed = false;
     let mut turns = u64::MAX;
     while turns > 0 && more {
-        let t = turn(rt, input, state, block, kept, out, counts);
+        let t = turn(console, state, block, kept, out, counts);
         counts = t.counts;
         kept = t.kept;
         more = t.more;
@@ -98,28 +91,24 @@ fn run(
         return;
     }
     let n = log_feed::finish(state, &block[0..kept], out, counts);
-    console::written(rt, &out[0..n]);
+    console.written(&out[0..n]);
 }
 
 // The heading, and all that follows.
-fn whole(
-    rt: &(impl Print + Eprint),
-    input: &mut impl Read,
-    state: &mut [u8],
-    block: &mut [u8],
-    out: &mut [u8],
-)
+fn whole(console: &mut Console, state: &mut [u8], block: &mut [u8], out: &mut [u8])
     requires { (length state.old ≡ size) × ((length block.old ≡ 8192) × (length out.old ≡ 656560)) }
 {
     let n = log_feed::start(state, out);
-    if console::written(rt, &out[0..n]) {
-        run(rt, input, state, block, out);
+    if console.written(&out[0..n]) {
+        run(console, state, block, out);
     }
 }
 
-fn main(rt: HostRuntime) {
+fn main(rt: HostRuntime) -> ExitCode {
     let mut state = [0u8; SIZE];
     let mut block = [0u8; BLOCK];
     let mut out = [0u8; OUT];
-    whole(&rt, &mut rt.stdin(), &mut state, &mut block, &mut out);
+    let mut console = Console::new(rt.stdin(), rt.stdout(), rt.stderr());
+    whole(&mut console, &mut state, &mut block, &mut out);
+    console.status()
 }

@@ -4,8 +4,9 @@
 #![tactic(auto)]
 
 use bits::le;
+use console::Console;
 use dsdl_signature::answer::Answer;
-use std::io::Read;
+use std::process::ExitCode;
 
 // Nine definitions, one more than there may be, with names of 4,096 bytes and texts of 4,097.
 const INPUT: usize = 74000;
@@ -15,7 +16,7 @@ const INPUT: usize = 74000;
 const OUT: usize = 564000;
 
 // The signature as 16 digits, and the line's end.
-fn show_signature(rt: &(impl Print + Eprint), signature: u64) -> bool {
+fn show_signature(console: &mut Console, signature: u64) -> bool {
     let bytes = [
         (signature / 72057594037927936 % 256) as u8,
         (signature / 281474976710656 % 256) as u8,
@@ -28,26 +29,26 @@ fn show_signature(rt: &(impl Print + Eprint), signature: u64) -> bool {
     ];
     let mut text = [0u8; 16];
     digits::put_hexes(&mut text, 0, &bytes);
-    console::written(rt, b" 0x") && console::written(rt, &text) && console::written(rt, b"\n")
+    console.written(b" 0x") && console.written(&text) && console.written(b"\n")
 }
 
 // A form begins with the name.
-fn show(rt: &(impl Print + Eprint), form: &[u8], name: usize, signature: u64, forms: bool) -> bool {
+fn show(console: &mut Console, form: &[u8], name: usize, signature: u64, forms: bool) -> bool {
     if form.len() < name {
         return false;
     }
-    if !console::written(rt, &form[0..name]) || !show_signature(rt, signature) {
+    if !console.written(&form[0..name]) || !show_signature(console, signature) {
         return false;
     }
     if forms {
-        return console::written(rt, form) && console::written(rt, b"\n");
+        return console.written(form) && console.written(b"\n");
     }
     true
 }
 
 // One definition, whose form begins at `at`. Where the next one begins; the end of `out` if this one cannot be written.
 fn show_next(
-    rt: &(impl Print + Eprint),
+    console: &mut Console,
     out: &[u8],
     at: usize,
     name: u64,
@@ -63,7 +64,7 @@ fn show_next(
     if rest.len() < n {
         return out.len();
     }
-    if show(rt, &rest[0..n], name as usize, signature, forms) {
+    if show(console, &rest[0..n], name as usize, signature, forms) {
         return at + n;
     }
     out.len()
@@ -84,57 +85,57 @@ fn number_at(bytes: &[u8], at: usize, n: usize) -> u64 {
 }
 
 // The definitions in their order, up to the first that cannot be written.
-fn show_all(rt: &(impl Print + Eprint), out: &[u8], lengths: &[u8], records: &[u8], forms: bool) {
+fn show_all(console: &mut Console, out: &[u8], lengths: &[u8], records: &[u8], forms: bool) {
     let mut at = 0;
     let mut i = 0;
     while i < 8 && i * 8 < lengths.len() {
         let name = number_at(lengths, i * 8, 4);
         let length = number_at(records, i * 12, 4);
         let signature = number_at(records, i * 12 + 4, 8);
-        at = show_next(rt, out, at, name, length, signature, forms);
+        at = show_next(console, out, at, name, length, signature, forms);
         i += 1;
     }
 }
 
-fn space_and(rt: &impl Eprint, number: u32) {
-    let _ = eprint!(rt; " {number}");
+fn space_and(console: &Console, number: u32) {
+    console.say(format_args!(" {number}"));
 }
 
 // A refusal is its number; with 40 also definition and line.
-fn refuse(rt: &impl Eprint, answer: Answer) {
+fn refuse(console: &Console, answer: Answer) {
     let number = answer.number();
-    let _ = eprint!(rt; "{number}");
+    console.say(format_args!("{number}"));
     if number == 40 {
-        space_and(rt, answer.definition());
-        space_and(rt, answer.line());
+        space_and(console, answer.definition());
+        space_and(console, answer.line());
     }
-    console::say(rt, "\n");
+    console.say("\n");
 }
 
 // The whole input: its definitions, and what they answer. What has another form counts as a failed read.
-fn run(rt: &(impl Print + Eprint), input: &[u8], out: &mut [u8]) {
+fn run(console: &mut Console, input: &[u8], out: &mut [u8]) {
     if input.len() < 2 {
-        console::cannot_read(rt);
+        console.cannot_read();
         return;
     }
     let given = le::wide(input[1]);
     if 9 < given {
-        console::cannot_read(rt);
+        console.cannot_read();
         return;
     }
     let count = given as usize;
     let start = 2 + count * 8;
     if input.len() < start {
-        console::cannot_read(rt);
+        console.cannot_read();
         return;
     }
     let lengths = &input[2..start];
     let mut records = [0u8; 96];
     let answer = dsdl_signature::call::signatures(&input[start..], lengths, out, &mut records);
     if answer.number() == 0 {
-        show_all(rt, out, lengths, &records, input[0] == 1);
+        show_all(console, out, lengths, &records, input[0] == 1);
     } else {
-        refuse(rt, answer);
+        refuse(console, answer);
     }
 }
 
@@ -146,7 +147,7 @@ struct Gathered {
     failed: bool,
 }
 
-fn some(rt: &impl Eprint, reader: &mut impl Read, input: &mut [u8], n: usize) -> Gathered {
+fn some(console: &mut Console, input: &mut [u8], n: usize) -> Gathered {
     let done = Gathered {
         length: n,
         more: false,
@@ -155,8 +156,7 @@ fn some(rt: &impl Eprint, reader: &mut impl Read, input: &mut [u8], n: usize) ->
     if input.len() <= n {
         return done;
     }
-    let Ok(more) = reader.read(&mut input[n..]) else {
-        console::cannot_read(rt);
+    let Some(more) = console.read(&mut input[n..]) else {
         return Gathered {
             length: n,
             more: false,
@@ -170,7 +170,7 @@ fn some(rt: &impl Eprint, reader: &mut impl Read, input: &mut [u8], n: usize) ->
     }
 }
 
-fn gather(rt: &impl Eprint, reader: &mut impl Read, input: &mut [u8]) -> Gathered {
+fn gather(console: &mut Console, input: &mut [u8]) -> Gathered {
     let mut g = Gathered {
         length: 0,
         more: true,
@@ -178,25 +178,27 @@ fn gather(rt: &impl Eprint, reader: &mut impl Read, input: &mut [u8]) -> Gathere
     };
     let mut turns = INPUT;
     while turns > 0 && g.more {
-        g = some(rt, reader, input, g.length);
+        g = some(console, input, g.length);
         turns -= 1;
     }
     g
 }
 
-fn whole(rt: &(impl Print + Eprint), reader: &mut impl Read, input: &mut [u8], out: &mut [u8]) {
-    let g = gather(rt, reader, input);
+fn whole(console: &mut Console, input: &mut [u8], out: &mut [u8]) {
+    let g = gather(console, input);
     let n = g.length;
     if g.failed {
         return;
     }
     if n <= input.len() {
-        run(rt, &input[0..n], out);
+        run(console, &input[0..n], out);
     }
 }
 
-fn main(rt: HostRuntime) {
+fn main(rt: HostRuntime) -> ExitCode {
     let mut input = [0u8; INPUT];
     let mut out = [0u8; OUT];
-    whole(&rt, &mut rt.stdin(), &mut input, &mut out);
+    let mut console = Console::new(rt.stdin(), rt.stdout(), rt.stderr());
+    whole(&mut console, &mut input, &mut out);
+    console.status()
 }

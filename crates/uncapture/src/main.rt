@@ -8,8 +8,9 @@ ghost use Rattle.std.specs.Prelude.{◌≡◌, ◌<◌, ◌≤◌, length};
 use capture_convert::lines;
 use capture_convert::trailer::Trailer;
 use capture_file::Opened;
-use console::Progress;
-use std::io::{Read, Write};
+use console::{Console, Progress};
+use std::fs::File;
+use std::process::ExitCode;
 use std::rt::{Env, Files};
 
 // Room for the lines of a block, each as long as any.
@@ -26,20 +27,20 @@ struct Rest {
     failed: bool,
 }
 
-fn no_capture(rt: &impl Eprint) {
-    console::say(rt, "22: not a capture, or damaged\n");
+fn no_capture(console: &Console) {
+    console.say("22: not a capture, or damaged\n");
 }
 
 // 23, with the record; 0 if there is none.
-fn judged(rt: &impl Eprint, record: u64) {
+fn judged(console: &Console, record: u64) {
     if record == 0 {
-        return console::done(rt);
+        return console.done();
     }
-    let _ = eprintln!(rt; "23: no log line can carry record {record}");
+    console.say(format_args!("23: no log line can carry record {record}\n"));
 }
 
 // The lines of a block's records are written; whether that failed.
-fn print(rt: &(impl Print + Eprint), records: &[u8], out: &mut [u8], s: Rest) -> Rest
+fn print(console: &mut Console, records: &[u8], out: &mut [u8], s: Rest) -> Rest
     requires { (length records.now ≤ 21504) × (length out.old ≡ 48128) }
     ensures { result.left ≡ s.left }
 {
@@ -53,18 +54,12 @@ fn print(rt: &(impl Print + Eprint), records: &[u8], out: &mut [u8], s: Rest) ->
         return r;
     }
     let len = lines::lines(records, out);
-    r.failed = !console::written(rt, &out[0..len]);
+    r.failed = !console.written(&out[0..len]);
     r
 }
 
 // One block: read, printed, summed. Where reading fails, none is left.
-fn turn(
-    rt: &(impl Print + Eprint),
-    file: &mut impl Read,
-    block: &mut [u8],
-    out: &mut [u8],
-    s: Rest,
-) -> Rest
+fn turn(console: &mut Console, file: &mut File, block: &mut [u8], out: &mut [u8], s: Rest) -> Rest
     requires { (0 < s.left) × ((length block.old ≡ 21504) × (length out.old ≡ 48128)) }
     ensures { result.left < s.left }
 {
@@ -72,12 +67,12 @@ fn turn(
     let n = k * capture_record::SIZE;
     let mut r = s;
     if k == 0 {
-        console::cannot_read(rt);
+        console.cannot_read();
         r.left = 0;
         r.failed = true;
         return r;
     }
-    r = print(rt, &block[0..n], out, s);
+    r = print(console, &block[0..n], out, s);
     r.sum = checksum::crc16::over(s.sum, &block[0..n]);
     r.left = s.left - k;
     r.done = s.done.wrapping_add(k as u64);
@@ -86,9 +81,9 @@ fn turn(
 
 // All records, from where the file stands. From time to time a line on descriptor 3 says how far it is.
 fn run(
-    rt: &(impl Print + Eprint),
-    file: &mut impl Read,
-    progress: &mut Progress<impl Write>,
+    console: &mut Console,
+    file: &mut File,
+    progress: &mut Progress,
     block: &mut [u8],
     out: &mut [u8],
     t: Trailer,
@@ -103,31 +98,38 @@ fn run(
         failed: false,
     };
     while 0 < s.left && !s.failed {
-        s = turn(rt, file, block, out, s);
+        s = turn(console, file, block, out, s);
         capture_file::tell(progress, s.done);
     }
     if s.failed {
         return;
     }
     if s.sum as u64 == t.sum {
-        return judged(rt, s.bad);
+        return judged(console, s.bad);
     }
-    no_capture(rt);
+    no_capture(console);
 }
 
-fn whole(rt: &(impl Files + Env + Print + Eprint), block: &mut [u8], out: &mut [u8])
+fn whole(
+    rt: &(impl Files<File = File> + Env),
+    console: &mut Console,
+    block: &mut [u8],
+    out: &mut [u8],
+)
     requires { (length block.old ≡ 21504) × (length out.old ≡ 48128) }
 {
     let mut progress = console::open_progress(rt);
     match capture_file::open(rt) {
-        Opened::Capture(mut file, t) => run(rt, &mut file, &mut progress, block, out, t),
-        Opened::NoCapture => no_capture(rt),
-        Opened::Unreadable => console::cannot_read(rt),
+        Opened::Capture(mut file, t) => run(console, &mut file, &mut progress, block, out, t),
+        Opened::NoCapture => no_capture(console),
+        Opened::Unreadable => console.cannot_read(),
     }
 }
 
-fn main(rt: HostRuntime) {
+fn main(rt: HostRuntime) -> ExitCode {
     let mut block = [0u8; capture_file::BLOCK];
     let mut out = [0u8; OUT];
-    whole(&rt, &mut block, &mut out);
+    let mut console = Console::new(rt.stdin(), rt.stdout(), rt.stderr());
+    whole(&rt, &mut console, &mut block, &mut out);
+    console.status()
 }

@@ -4,7 +4,7 @@ use mathlib.Core.Path.{◌≡◌}
 use Rattle.codec_text.proofs.answer.numbers.Given as goal
 
 abbrev pub invariant-loop-i : goal.invariant-loop-i
-invariant-loop-i g l = (l.i ≤ length l.values) × (length l.out ≡ length l.initial.out)
+invariant-loop-i l = (l.i ≤ length l.values) × (length l.out ≡ length l.initial.out)
 
 abbrev pub decreases-loop-i : goal.decreases-loop-i
-decreases-loop-i g l = length l.values - l.i
+decreases-loop-i l = length l.values - l.i

@@ -4,5 +4,5 @@ use Rattle.capture_convert.proofs.Calls.{prints}
 use Rattle.judge.proofs.fault.show_frame.Goals as goal
 
 pub lines-n-requires : goal.lines-n-requires
-lines-n-requires g c =
+lines-n-requires c =
     prints c.args.r.now c.measure.result 47 c.measure.ensures c.if-measure.true (omega (arith, c.requires))
