@@ -1,11 +1,11 @@
 // The verdict (RULES 19.11): its line for programs and its sentence.
 use super::text;
+use console::Console;
+
 // Internal. Says on standard error that all is written, by the number.
 pub fn told(console: &Console, number: u8) {
     console.say(format_args!("{number}\n"));
 }
-
-use console::Console;
 
 // Internal.
 pub fn passes(console: &mut Console, frames: u64) {
