@@ -1,5 +1,5 @@
 -- RULES 13.3: the result words of the calls, and what C reads in each. That of a reception is defined in `answers`.
-use Rattle.std.specs.Prelude.{◌≡◌, true, ◌||◌, List, ℕ, ◌+◌, ◌*◌, ◌/◌, ◌%◌, ◌^◌, ◌≤◌, ◌<◌, eqb}
+use Rattle.std.specs.Prelude.{◌≡◌, true, ◌||◌, List, ℕ, ◌+◌, ◌*◌, ◌/◌, ◌%◌, ◌^◌, ◌<◌, eqb}
 use Rattle.bits.specs.Order.{Octets}
 use Rattle.rules.specs.Frame.{Arrival}
 use Rattle.receiver.specs.Receive.{received}
