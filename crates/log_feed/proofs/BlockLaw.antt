@@ -2,23 +2,21 @@
 use mathlib.Core.Path.{◌≡◌, refl, sym, ap, ◌∙◌}
 use mathlib.Core.Bool.{Bool, true, false}
 use mathlib.Core.List.{List, [], ◌∷◌, ◌++◌, append_assoc, append-nil}
-use mathlib.Core.Option.{Option}
-use Prim.Native.Nat.{ℕ, zero, suc, ◌≤◌, ◌<◌}
+use Prim.Native.Nat.{ℕ, zero, suc, ◌<◌}
 use native.Mathlib.Omega.{arith}
 use borrow.Author.Tests.{leb-true, leb-false}
 use lib.Dec.{leb}
 use lib.ListN.{length, take, length-append}
 use lib.Seq.{take_all, length-take-le}
-use Rattle.rules.specs.Frame.{Frame}
 use Rattle.log_line.specs.Reading.{said}
 use Rattle.log_line.proofs.Lines.{too_long}
-use Rattle.log_replay.specs.Replay.{counted, end_text, reply}
+use Rattle.log_replay.specs.Replay.{end_text}
 use Rattle.log_replay.specs.declared.Counts.{Counts}
-use Rattle.log_line.specs.Lines.{Cut, cut, last_line, lines_of}
+use Rattle.log_line.specs.Lines.{cut, last_line, lines_of}
 use Rattle.log_feed.specs.Log.{Replay, behind, replay, closed, begun}
 use Rattle.log_feed.specs.Log as log
-use Rattle.log_feed.specs.Feed.{Feed, feed, finish, feed_all, concat, BlockLaw}
-use Rattle.log_line.proofs.Cutting.{cut_of, after, cut-append, Plain, plain-rest, plain-take, onto, cut-onto, cut-plain}
+use Rattle.log_feed.specs.Feed.{Feed, feed_all, concat, BlockLaw}
+use Rattle.log_line.proofs.Cutting.{cut-append, Plain, plain-rest, plain-take, onto, cut-onto, cut-plain}
 use Rattle.log_feed.proofs.Replays.{replay-append}
 
 -- ── 48 bytes of an unfinished line are enough ──

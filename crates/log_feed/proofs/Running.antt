@@ -6,7 +6,7 @@ use Prim.Native.Nat.{ℕ, ◌+◌, ◌*◌, ◌-◌, ◌≤◌, ◌<◌}
 use native.Mathlib.Omega.{arith}
 use lib.ListN.{length, take, drop, length-drop}
 use lib.Seq.{drop-drop, length-take-le}
-use Rattle.bits.specs.Part.{span, splice}
+use Rattle.bits.specs.Part.{span}
 use Rattle.bits.proofs.Splice.{take-splice}
 use Rattle.digits.specs.Find.{before}
 use Rattle.state.specs.Sound.{sound_state}
@@ -18,7 +18,7 @@ use Rattle.log_replay.specs.declared.Counts.{Counts}
 use Rattle.log_replay.specs.declared.Said.{Said}
 use Rattle.log_line.specs.Lines.{cut}
 use Rattle.log_line.proofs.Cutting.{cut_of, cut-none, cut_line}
-use Rattle.log_feed.specs.Log.{Replay, behind, replay}
+use Rattle.log_feed.specs.Log.{behind, replay}
 use Rattle.log_feed.proofs.Replays.{behind-behind}
 
 -- m₀ and c₀ are the state and the counts at the start, p the block, n the length of the output buffer

@@ -4,7 +4,6 @@ use Rattle.digits.proofs.Puts.{puts-next}
 use Rattle.digits.specs.Digits.{words}
 use native.Mathlib.Omega.{arith}
 use mathlib.Core.List.{[], ◌∷◌, ◌++◌}
-use borrow.Author.Rules.{rules}
 use Rattle.log_answer.proofs.numbered.Goals as goal
 
 pub returns : goal.returns

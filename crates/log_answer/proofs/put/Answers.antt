@@ -1,7 +1,6 @@
 -- `put` meets its contract.
 use Rattle.digits.proofs.Puts.{set-splice}
 use mathlib.Core.Path.{refl}
-use borrow.Author.Rules.{rules}
 use Rattle.log_answer.proofs.put.Goals as goal
 
 pub returns : goal.returns

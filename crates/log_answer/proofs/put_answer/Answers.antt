@@ -1,5 +1,5 @@
 -- `put_answer` meets its contract: a transfer that is handed out, or a sign and a number.
-use mathlib.Core.Path.{◌≡◌, refl, sym, subst, ◌∙◌}
+use mathlib.Core.Path.{◌≡◌, sym, subst, ◌∙◌}
 use mathlib.Core.List.{List}
 use Prim.Native.Nat.{ℕ, ◌+◌, ◌*◌, ◌-◌, ◌≤◌, ◌<◌}
 use native.Mathlib.Nat.{sub-zero}
@@ -14,7 +14,6 @@ use Rattle.answers.specs.declared.Transfer.{Transfer}
 use Rattle.digits.specs.inside.Text.{Puts}
 use Rattle.log_answer.specs.Answer.{numbered, transfer_text, answer_text}
 use Rattle.rules.specs.Tests.{pick}
-use borrow.Author.Rules.{rules}
 use Rattle.log_answer.proofs.put_answer.Goals as goal
 
 module _ (a : Answer) (pay m m' : List ℕ) (at r : ℕ) where

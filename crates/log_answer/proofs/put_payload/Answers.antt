@@ -7,7 +7,6 @@ use native.Mathlib.Omega.{arith}
 use Prim.Native.Nat.{ℕ}
 use mathlib.Core.List.{List, [], ◌∷◌}
 use mathlib.Core.Path.{◌≡◌, refl}
-use borrow.Author.Rules.{rules}
 use Rattle.log_answer.proofs.put_payload.Goals as goal
 
 empty : (p : List ℕ) → length p ≡ 0 → payload_text p ≡ 45 ∷ []

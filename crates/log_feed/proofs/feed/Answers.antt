@@ -1,21 +1,17 @@
 -- `feed` meets its contract.
-use borrow.Author.Rules.{rules}
 use mathlib.Core.Path.{◌≡◌, sym, ap, ap₂, ◌∙◌}
-use mathlib.Core.Bool.{true}
 use mathlib.Core.List.{List}
 use Prim.Native.Nat.{ℕ, ◌+◌, ◌-◌, ◌≤◌}
 use native.Mathlib.Nat.{sub-zero}
 use native.Mathlib.Omega.{arith}
-use lib.ListN.{length, take, drop, length-take}
+use lib.ListN.{length, take, drop}
 use lib.Seq.{take-add, drop_at, length-take-le}
 use Rattle.bits.specs.Part.{span}
 use Rattle.log_replay.specs.declared.Counts.{Counts}
-use Rattle.log_line.specs.Lines.{cut}
 use Rattle.log_feed.specs.Log.{Replay}
-use Rattle.log_feed.specs.Feed.{Feed, feed}
+use Rattle.log_feed.specs.Feed.{feed}
 use Rattle.log_feed.specs.inside.Seen.{seen}
 use Rattle.log_feed.specs.inside.Lines.{Lined}
-use Rattle.log_feed.specs.declared.Fed.{Fed}
 use Rattle.log_feed.specs.declared.Ran.{Ran}
 use Rattle.log_feed.proofs.feed.Goals as goal
 

@@ -1,10 +1,8 @@
 -- `keep` meets its contract.
-use borrow.Author.Rules.{rules}
-use mathlib.Core.Path.{sym, ap, ◌∙◌}
-use mathlib.Core.List.{List}
-use Prim.Native.Nat.{ℕ, ◌-◌}
+use mathlib.Core.Path.{sym, ◌∙◌}
+use Prim.Native.Nat.{◌-◌}
 use native.Mathlib.Omega.{arith}
-use lib.ListN.{length, drop, length-take, length-drop}
+use lib.ListN.{drop, length-drop}
 use lib.Seq.{take_all, take-take, length-take-le}
 use Rattle.bits.specs.Part.{span}
 use Rattle.log_feed.proofs.keep.Goals as goal

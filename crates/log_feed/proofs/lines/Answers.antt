@@ -1,10 +1,8 @@
 -- `lines` meets its contract: each turn replays one line.
-use borrow.Author.Rules.{rules}
-use mathlib.Core.Path.{◌≡◌, refl, ◌∙◌}
-use Prim.Native.Nat.{◌-◌}
+use mathlib.Core.Path.{refl, ◌∙◌}
 use native.Mathlib.Omega.{arith}
-use lib.ListN.{length, length-take, length-drop}
-use Rattle.log_feed.proofs.Running.{Going, begin, line-len, next, ran, left}
+use lib.ListN.{length}
+use Rattle.log_feed.proofs.Running.{begin, line-len, next, ran, left}
 use Rattle.log_feed.proofs.lines.Goals as goal
 
 pub loop-end-init : goal.loop-end-init

@@ -1,9 +1,7 @@
-use borrow.Author.Rules.{rules}
-use mathlib.Core.Path.{◌≡◌, refl, ◌∙◌}
+use mathlib.Core.Path.{◌≡◌}
 use Prim.Native.Nat.{◌-◌}
-use native.Mathlib.Omega.{arith}
-use lib.ListN.{length, length-take, length-drop}
-use Rattle.log_feed.proofs.Running.{Going, begin, line-len, next, ran, left}
+use lib.ListN.{length}
+use Rattle.log_feed.proofs.Running.{Going}
 use Rattle.log_feed.proofs.lines.Given as goal
 
 abbrev pub invariant-loop-end : goal.invariant-loop-end

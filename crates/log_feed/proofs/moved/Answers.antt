@@ -1,11 +1,9 @@
 -- `moved` meets its contract.
-use borrow.Author.Rules.{rules}
-use mathlib.Core.Path.{◌≡◌, refl, sym, ap, ◌∙◌}
+use mathlib.Core.Path.{◌≡◌, refl, ap, ◌∙◌}
 use mathlib.Core.List.{List}
 use Prim.Native.Nat.{ℕ, ◌+◌, ◌≤◌}
 use native.Mathlib.Omega.{arith}
 use lib.ListN.{length, take, replicate}
-use lib.Seq.{length-take-le}
 use Rattle.bits.specs.Part.{span, splice}
 use Rattle.bits.proofs.Splice.{length-span, take-splice}
 use Rattle.log_feed.proofs.moved.Goals as goal

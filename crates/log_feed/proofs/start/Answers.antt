@@ -1,16 +1,14 @@
 -- `start` meets its contract.
-use borrow.Author.Rules.{rules}
 use mathlib.Core.Path.{◌≡◌, refl, sym, ap, ◌∙◌}
 use mathlib.Core.Bool.{true}
 use mathlib.Core.List.{List, [], ◌∷◌, ◌++◌, append-nil}
-use Prim.Native.Nat.{ℕ, ◌≤◌}
+use Prim.Native.Nat.{ℕ}
 use native.Mathlib.Omega.{arith}
 use borrow.Author.Tests.{le-ltb}
-use lib.ListN.{length, take, drop, get_or}
+use lib.ListN.{length, take, drop}
 use lib.Seq.{drop-length}
 use Rattle.bits.specs.Little.{le, le_bytes}
 use Rattle.bits.specs.Order.{Octets}
-use Rattle.bits.specs.Part.{splice}
 use Rattle.bits.specs.Tabulate.{tabulate}
 use Rattle.bits.proofs.Octets.{octets-append, octets-le_bytes}
 use Rattle.bits.proofs.Splice.{take-splice}

@@ -1,6 +1,5 @@
 -- `counted` meets its contract.
 use Rattle.log_replay.specs.Replay.{counted}
-use borrow.Author.Rules.{rules}
 use Rattle.log_replay.proofs.counted.Goals as goal
 
 pub returns-then-handed : goal.returns-then-handed

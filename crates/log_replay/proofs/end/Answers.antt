@@ -1,5 +1,4 @@
 -- `end` meets its contract.
-use borrow.Author.Rules.{rules}
 use mathlib.Core.Path.{◌≡◌, refl, ◌∙◌}
 use mathlib.Core.List.{List, [], ◌∷◌}
 use Prim.Native.Nat.{ℕ, ◌+◌, ◌*◌, ◌≤◌}
@@ -11,7 +10,6 @@ use Rattle.digits.proofs.Puts.{set-splice}
 use Rattle.log_answer.proofs.Texts.{char-next, text-next}
 use Rattle.log_replay.specs.Replay.{end_text}
 use Rattle.log_replay.specs.declared.Counts.{Counts}
-use borrow.Author.Rules.{rules}
 use Rattle.log_replay.proofs.end.Goals as goal
 
 put : (m : List ℕ) (at q c : ℕ) → at + 1 ≤ length m → q ≡ at + 1 → Puts m (set m at c) at q (c ∷ [])

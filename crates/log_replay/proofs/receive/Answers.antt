@@ -1,5 +1,4 @@
 -- `receive` meets its contract.
-use borrow.Author.Rules.{rules}
 use mathlib.Core.Path.{◌≡◌, sym, ap, ◌∙◌}
 use Prim.Native.Nat.{ℕ, ◌-◌}
 use native.Mathlib.Nat.{sub-zero}
@@ -15,7 +14,6 @@ use Rattle.state.specs.Layout.{setup_of, places_of}
 use Rattle.state.specs.Sound.{sound_state}
 use Rattle.log_replay.proofs.Replies.{frame_said, len-in, head_in, head_few, least, in-range, tested, replied}
 use Rattle.log_replay.specs.Replay.{counted, logged}
-use borrow.Author.Rules.{rules}
 use Rattle.log_replay.proofs.receive.Goals as goal
 
 pub slice_bounds-receive_sound-end : goal.slice_bounds-receive_sound-end

@@ -1,5 +1,4 @@
 -- `refuse` meets its contract.
-use borrow.Author.Rules.{rules}
 use mathlib.Core.Path.{◌≡◌, refl, ap₂, ◌∙◌}
 use mathlib.Core.Bool.{false}
 use mathlib.Core.List.{List, [], ◌∷◌}
@@ -15,7 +14,6 @@ use Rattle.log_replay.specs.Replay.{counted, reply}
 use Rattle.log_replay.specs.inside.Call.{given}
 use Rattle.log_replay.specs.declared.Counts.{Counts}
 use Rattle.log_replay.specs.declared.Said.{Said}
-use borrow.Author.Rules.{rules}
 use Rattle.log_replay.proofs.refuse.Goals as goal
 
 refused : (m m' : List ℕ) (at : ℕ) (c c' : Counts) (p : ℕ) → at + 1200 ≤ length m → Puts (set m at 63) m' (at + 1) p (numbered 45 18) → p ≤ at + 1 + 24

@@ -1,7 +1,6 @@
 -- `up` meets its contract.
 use Rattle.log_replay.specs.Replay.{up}
 use borrow.Author.Tests.{lt-ltb, le-ltb}
-use borrow.Author.Rules.{rules}
 use Rattle.log_replay.proofs.up.Goals as goal
 
 pub returns-then-n-lt18446744073709551615 : goal.returns-then-n-lt18446744073709551615

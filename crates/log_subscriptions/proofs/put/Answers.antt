@@ -11,7 +11,6 @@ use native.Mathlib.Nat.{add_assoc}
 use Prim.Native.Nat.{ℕ, ◌+◌, ◌*◌, ◌≤◌}
 use mathlib.Core.List.{List, ◌++◌}
 use mathlib.Core.Path.{◌≡◌, ap, ◌∙◌}
-use borrow.Author.Rules.{rules}
 use Rattle.log_subscriptions.proofs.put.Goals as goal
 
 -- three stores side by side

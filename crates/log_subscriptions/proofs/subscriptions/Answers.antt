@@ -1,11 +1,10 @@
 -- `subscriptions` meets its contract: each turn puts a record after those that are there; what is there after the last is computed.
-use borrow.Author.Rules.{rules}
 use mathlib.Core.Path.{◌≡◌, refl, ap, ◌∙◌}
 use mathlib.Core.List.{List, [], ◌∷◌}
-use Prim.Native.Nat.{ℕ, zero, suc, ◌+◌, ◌*◌, ◌-◌, ◌/◌, ◌%◌, ◌≤◌}
+use Prim.Native.Nat.{ℕ, ◌+◌, ◌*◌, ◌/◌, ◌%◌}
 use native.Mathlib.Numerals.{add-one}
 use native.Mathlib.Omega.{arith}
-use lib.ListN.{length, get_or, replicate}
+use lib.ListN.{get_or}
 use Rattle.bits.specs.Little.{le_bytes}
 use Rattle.bits.specs.Part.{splice}
 use Rattle.rules.specs.Setup.{subscribed}

@@ -1,15 +1,9 @@
-use borrow.Author.Rules.{rules}
-use mathlib.Core.Path.{◌≡◌, refl, ap, ◌∙◌}
-use mathlib.Core.List.{List, [], ◌∷◌}
-use Prim.Native.Nat.{ℕ, zero, suc, ◌+◌, ◌*◌, ◌-◌, ◌/◌, ◌%◌, ◌≤◌}
-use native.Mathlib.Numerals.{add-one}
-use native.Mathlib.Omega.{arith}
+use mathlib.Core.Path.{◌≡◌}
+use mathlib.Core.List.{List}
+use Prim.Native.Nat.{ℕ, zero, suc, ◌*◌, ◌-◌, ◌/◌, ◌%◌, ◌≤◌}
 use lib.ListN.{length, get_or, replicate}
-use Rattle.bits.specs.Little.{le_bytes}
 use Rattle.bits.specs.Part.{splice}
-use Rattle.rules.specs.Setup.{subscribed}
-use Rattle.types.specs.Types.{signature_of}
-use Rattle.log_subscriptions.specs.Subscriptions.{record13, records, subscriptions}
+use Rattle.log_subscriptions.specs.Subscriptions.{record13}
 use Rattle.log_subscriptions.proofs.subscriptions.Given as goal
 
 -- the first j records
