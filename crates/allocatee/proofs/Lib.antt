@@ -1,0 +1,9 @@
+pub mod Views
+pub mod Beginnings
+pub mod Sending
+pub mod Reading
+pub mod Hearing
+pub mod Polling
+pub mod Fields
+pub mod Meeting
+pub mod Steps

@@ -1,0 +1,92 @@
+-- What the writer of a message answers, as the call's result.
+use mathlib.Core.Path.{◌≡◌, sym, ap, ap₂, ◌∙◌}
+use mathlib.Core.List.{List, ◌++◌}
+use mathlib.Core.Logic.{◌⊎◌, inl, inr}
+use Prim.Native.Nat.{ℕ, ◌+◌, ◌-◌, ◌≤◌, ◌<◌}
+use native.Mathlib.Omega.{arith}
+use borrow.Author.Tests.{lt-ltb, le-ltb}
+use lib.IntN.{ℤ, pos}
+use lib.ListN.{length, take, drop, length-drop}
+use lib.Seq.{take-add, take_all, take-take, drop_at, length-take-le}
+use mir.Syntax.{w64}
+use mir.Val.{to_z}
+use mir.ValLaws.{to_z_pos}
+use Rattle.bits.specs.Part.{span}
+use Rattle.shape.specs.Answer.{Answer, refused, got, Numbered, numbered, answer_of, wrote}
+use Rattle.shape.specs.declared.answer.Written.{Written}
+use Rattle.shape.specs.declared.answer.Written.TheVariants as variants
+use Rattle.shape.specs.Shape.{encoded, written}
+use Rattle.protocol_dynamic_node_id.specs.Allocation.{allocation}
+use Rattle.allocatee.specs.Calls.{returned, sent_as, sent}
+use Rattle.allocatee.specs.Layout.{unique_of, preferred_of, wait_of}
+use Rattle.allocatee.specs.Limits.{unique_id_max, stage_max, request_max}
+use Rattle.allocatee.specs.declared.answer.Answer.TheVariants.{Sends, Refused}
+
+module _ (m m' out out' : List ℕ) (t n : ℕ) where
+  refused-by : (e : Answer (List ℕ)) → ◌≡◌ {A = Numbered ℕ × List ℕ} (numbered (refused n), out') (wrote e out) → returned (Refused n) m out' ≡ sent_as e m m' t out
+  refused-by (refused k) p = let a : n ≡ k = ap (λ (x : Numbered ℕ × List ℕ). x.0.number) p in let b : out' ≡ out = ap (λ (x : Numbered ℕ × List ℕ). x.1) p in cc
+  refused-by (got bs) p = absurd (let v = ap (λ (x : Numbered ℕ × List ℕ). x.0.value) p in let z : ◌≡◌ {A = ℕ} 0 1 = cc in omega arith)
+
+  wrote_by : (e : Answer (List ℕ)) → ◌≡◌ {A = Numbered ℕ × List ℕ} (numbered (got n), out') (wrote e out)
+      → returned (Sends (record { len = n; wait = wait_of m' t })) m' out' ≡ sent_as e m m' t out
+  wrote_by (refused k) p = absurd (let v = ap (λ (x : Numbered ℕ × List ℕ). x.0.value) p in let z : ◌≡◌ {A = ℕ} 0 1 = cc in omega arith)
+  wrote_by (got bs) p =
+      let v = ap (λ (x : Numbered ℕ × List ℕ). x.0.value) p in
+      let a : n ≡ length bs = cc in
+      let b : out' ≡ bs ++ drop (length bs) out = ap (λ (x : Numbered ℕ × List ℕ). x.1) p in
+      cc
+
+  -- the writer's answer is an enum
+  pub refused-sent : (e : Answer (List ℕ)) (w : Written) → w ≡ variants.Refused n → ◌≡◌ {A = Numbered ℕ × List ℕ} (answer_of w, out') (wrote e out) → returned (Refused n) m out' ≡ sent_as e m m' t out
+  refused-sent e w q p = refused-by e (ap (λ (x : Written). (answer_of x, out')) (sym q) ∙ p)
+
+  pub wrote-sent : (e : Answer (List ℕ)) (w : Written) → w ≡ variants.Wrote n → ◌≡◌ {A = Numbered ℕ × List ℕ} (answer_of w, out') (wrote e out)
+      → returned (Sends (record { len = n; wait = wait_of m' t })) m' out' ≡ sent_as e m m' t out
+  wrote-sent e w q p = wrote_by e (ap (λ (x : Written). (answer_of x, out')) (sym q) ∙ p)
+
+-- the preferred node ID, as a number of 64 bits
+pub node-sent : (n first : ℕ) (g out : List ℕ) → n < 256 → written allocation (to_z w64 n, (pos first, g)) out ≡ written allocation (pos n, (pos first, g)) out
+node-sent n first g out h = ap (λ (z : ℤ). written allocation (z, (pos first, g)) out) (to_z_pos w64 n (omega arith))
+
+module _ (first : ℕ) (part m m' : List ℕ) (t : ℕ) (out : List ℕ) where
+  pub sent-small : length out < request_max → returned (Refused 8) m out ≡ sent first part m m' t out
+  sent-small h = rw (lt-ltb (length out) request_max h)
+
+  pub sent-room : request_max ≤ length out → sent_as (encoded allocation (pos (preferred_of m), (pos first, part)) (length out)) m m' t out ≡ sent first part m m' t out
+  sent-room h = rw (le-ltb (length out) request_max h)
+
+-- the writer's answer for a payload that has room
+module _ (first : ℕ) (g part m m' out out' : List ℕ) (p t n : ℕ) (is : p ≡ preferred_of m) (small : p < 256) (bytes : g ≡ part) (room : request_max ≤ length out) (w : Written)
+    (e : ◌≡◌ {A = Numbered ℕ × List ℕ} (answer_of w, out') (written allocation (to_z w64 p, (pos first, g)) out)) where
+  told : ◌≡◌ {A = Numbered ℕ × List ℕ} (answer_of w, out') (wrote (encoded allocation (pos (preferred_of m), (pos first, part)) (length out)) out)
+  told = e ∙ node-sent p first g out small ∙ ap₂ (λ (x : ℕ) y. written allocation (pos x, (pos first, y)) out) is bytes
+
+  pub not-sent : w ≡ variants.Refused n → returned (Refused n) m out' ≡ sent first part m m' t out
+  not-sent q = refused-sent m m' out out' t n (encoded allocation (pos (preferred_of m), (pos first, part)) (length out)) w q told ∙ sent-room first part m m' t out room
+
+  pub is-sent : w ≡ variants.Wrote n → (m₁ : List ℕ) → m₁ ≡ m' → (k : ℕ) → k ≡ wait_of m₁ t → returned (Sends (record { len = n; wait = k })) m₁ out' ≡ sent first part m m' t out
+  is-sent q m₁ e₁ k ek =
+      ap₂ (λ (x : ℕ) y. returned (Sends (record { len = n; wait = x })) y out') (ek ∙ ap (λ y. wait_of y t) e₁) e₁
+      ∙ wrote-sent m m' out out' t n (encoded allocation (pos (preferred_of m), (pos first, part)) (length out)) w q told ∙ sent-room first part m m' t out room
+
+-- ── the parts of the unique ID ──
+
+rest_of : (m : List ℕ) (at : ℕ) → at ≤ unique_id_max → unique_id_max ≤ length m → drop at (unique_of m) ≡ take (unique_id_max - at) (drop at m)
+unfolding unique_of
+rest_of m at h l =
+    let e : at + (unique_id_max - at) ≡ unique_id_max = omega arith in
+    ap (λ (k : ℕ). drop at (take k m)) (sym e) ∙ ap (drop at) (take-add at (unique_id_max - at) m) ∙ drop_at (take at m) (take (unique_id_max - at) (drop at m)) at (length-take-le at m (omega arith))
+
+pub part-is : (m : List ℕ) (at end : ℕ) → at < unique_id_max → unique_id_max ≤ length m
+    → ((end ≡ unique_id_max) × (unique_id_max < at + stage_max)) ⊎ ((end ≡ at + stage_max) × (end ≤ unique_id_max)) → span m at (end - at) ≡ span (unique_of m) at stage_max
+part-is m at end h l (inl x) =
+    let e : end - at ≡ unique_id_max - at = omega (arith, x.0) in
+    let k : length (take (unique_id_max - at) (drop at m)) ≤ stage_max = omega (arith, length-take-le (unique_id_max - at) (drop at m) (omega (arith, length-drop at m)), x.1) in
+    ap (λ (n : ℕ). take n (drop at m)) e ∙ sym (ap (take stage_max) (rest_of m at (omega arith) l) ∙ take_all stage_max (take (unique_id_max - at) (drop at m)) k)
+part-is m at end h l (inr x) =
+    let e : end - at ≡ stage_max = omega (arith, x.0) in
+    ap (λ (n : ℕ). take n (drop at m)) e ∙ sym (ap (take stage_max) (rest_of m at (omega arith) l) ∙ take-take stage_max (unique_id_max - at) (drop at m) (omega (arith, x.0, x.1)))
+
+pub first_part : (m : List ℕ) → span m 0 stage_max ≡ span (unique_of m) 0 stage_max
+unfolding unique_of
+first_part m = sym (take-take stage_max unique_id_max m (omega arith))

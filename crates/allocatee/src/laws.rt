@@ -1,0 +1,19 @@
+// The laws of specs/Laws.antt and specs/Meeting.antt (RULES 21.7): a function with no body for each, whose contract it is.
+ghost use Rattle.allocatee.specs.Laws.{TakesItsOwn, FollowsItsOwn, AsksAgain};
+ghost use Rattle.allocatee.specs.Meeting.{Meeting};
+
+pub fn takes_its_own()
+    ensures { TakesItsOwn }
+{}
+
+pub fn follows_its_own()
+    ensures { FollowsItsOwn }
+{}
+
+pub fn asks_again()
+    ensures { AsksAgain }
+{}
+
+pub fn meeting()
+    ensures { Meeting }
+{}
