@@ -105,7 +105,7 @@ pub fn tecelume_send_word(
     discriminator: u32,
     out: &mut [u8],
 ) -> u64
-    ensures { entry result map.new out.new ≡ packed_send (sends map.old (record { own_val = own; transfer_type = transfer_type; type = type_id; destination = destination; priority = priority; payload = payload.now; signature = signature; time = time; transfer = transfer_id; discriminator = discriminator }) out.old) }
+    ensures { entry result map.new out.new ≡ packed_send (sends map.old (record { own = own; transfer_type = transfer_type; type = type_id; destination = destination; priority = priority; payload = payload.now; signature = signature; time = time; transfer = transfer_id; discriminator = discriminator }) out.old) }
 {
     let c = Outgoing {
         own,

@@ -6,7 +6,6 @@ use Rattle.allocator.specs.Calls.{Call}
 use Rattle.allocator.specs.Laws.{Range}
 use Rattle.allocator.proofs.Ranges.{answers-in-range}
 use Rattle.tecelume.specs.Entry.{entry, packed_allocation}
-use borrow.Author.Rules.{rules}
 use Rattle.tecelume.proofs.tecelume_allocate_word.Goals as goal
 
 pub of_allocation-requires : goal.of_allocation-requires
@@ -14,7 +13,7 @@ of_allocation-requires c =
     let a = c.args in
     let call : Call =
     record {
-      request = record { reserved = record { own = a.own; low = a.marks-low; high = a.marks-high }; source = a.source; time = a.time };
+      request = record { reserved = record { own = a.own; low = a.marks_low; high = a.marks_high }; source = a.source; time = a.time };
       payload = a.payload.now;
       out = a.out.now;
     } in
@@ -22,4 +21,4 @@ of_allocation-requires c =
 
 pub returns : goal.returns
 returns c =
-    ap (λ (w : ℕ). entry w c.allocate.new.state c.allocate.new.out.1.1.0) c.of_allocation.ensures ∙ ap packed_allocation c.allocate.ensures
+    ap (λ (w : ℕ). entry w c.allocate.new.state c.allocate.new.out) c.of_allocation.ensures ∙ ap packed_allocation c.allocate.ensures

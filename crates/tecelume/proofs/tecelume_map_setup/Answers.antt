@@ -2,7 +2,6 @@
 use mathlib.Core.Path.{ap, ◌∙◌}
 use Prim.Native.Nat.{ℕ}
 use Rattle.tecelume.specs.Entry.{numbered_map}
-use borrow.Author.Rules.{rules}
 use Rattle.tecelume.proofs.tecelume_map_setup.Goals as goal
 
 pub returns : goal.returns

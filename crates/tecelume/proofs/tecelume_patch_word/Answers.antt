@@ -1,7 +1,6 @@
 -- `tecelume_patch_word` meets its contract: the proved call on the low bits, its answer as a word.
 use mathlib.Core.Path.{ap, ◌∙◌}
 use Rattle.words.specs.Word.{patch_word}
-use borrow.Author.Rules.{rules}
 use Rattle.tecelume.proofs.tecelume_patch_word.Goals as goal
 
 pub returns : goal.returns

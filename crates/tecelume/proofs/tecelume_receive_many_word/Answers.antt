@@ -6,7 +6,6 @@ use Rattle.batch.proofs.Calls.{used-few}
 use Rattle.batch.specs.Answer.{used_in}
 use Rattle.batch.specs.Layout.{records_max}
 use Rattle.batch.specs.Many.{Called}
-use borrow.Author.Rules.{rules}
 use Rattle.tecelume.proofs.tecelume_receive_many_word.Goals as goal
 
 pub of_progress-requires : goal.of_progress-requires
@@ -17,5 +16,5 @@ of_progress-requires c =
 
 pub returns : goal.returns
 returns c =
-    ap (λ (w : ℕ). record { word = w; state = c.receive_many.new.state; results = c.receive_many.new.results.1.0; out = c.receive_many.new.results.1.1.0 })
+    ap (λ (w : ℕ). record { word = w; state = c.receive_many.new.state; results = c.receive_many.new.results; out = c.receive_many.new.out })
     c.of_progress.ensures ∙ ap packed_many c.receive_many.ensures

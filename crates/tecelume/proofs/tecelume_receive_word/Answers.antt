@@ -5,7 +5,6 @@ use Rattle.tecelume.specs.Entry.{entry, packed}
 use Rattle.answers.specs.Word.{Fits}
 use Rattle.batch.proofs.Fits.{received-fits}
 use Rattle.receiver.specs.Receive.{Result, arrival_of}
-use borrow.Author.Rules.{rules}
 use Rattle.tecelume.proofs.tecelume_receive_word.Goals as goal
 
 pub of_answer-requires : goal.of_answer-requires
@@ -16,4 +15,4 @@ of_answer-requires c =
 
 pub returns : goal.returns
 returns c =
-    ap (λ (w : ℕ). entry w c.receive.new.state c.receive.new.out.1.1.1.1.0) c.of_answer.ensures ∙ ap packed c.receive.ensures
+    ap (λ (w : ℕ). entry w c.receive.new.state c.receive.new.out) c.of_answer.ensures ∙ ap packed c.receive.ensures

@@ -16,7 +16,6 @@ use Rattle.id_map.specs.Sound.{sound_map}
 use Rattle.rules.specs.Sending.{Call, send_step}
 use Rattle.rules.proofs.Sends.{record-laws}
 use Rattle.sender.specs.Send.{sends_if, sends, Result}
-use borrow.Author.Rules.{rules}
 use Rattle.tecelume.proofs.tecelume_send_word.Goals as goal
 
 -- as many frames as 512 bytes make, at most, under a transfer ID in range
@@ -36,19 +35,19 @@ of_sent-requires c =
     let a = c.args in
     let call : Call =
     record {
-      own_val = a.own;
-      transfer_type = a.transfer-type;
-      type = a.type-id;
+      own = a.own;
+      transfer_type = a.transfer_type;
+      type = a.type_id;
       destination = a.destination;
       priority = a.priority;
       payload = a.payload.now;
       signature = a.signature;
       time = a.time;
-      transfer = a.transfer-id;
+      transfer = a.transfer_id;
       discriminator = a.discriminator;
     } in
     subst (λ (r : Result). ((dispatch_in r.answer).frames ≤ 74) × ((dispatch_in r.answer).transfer < 32)) (sym c.send.ensures) (fits a.map.now call a.out.now)
 
 pub returns : goal.returns
 returns c =
-    ap (λ (w : ℕ). entry w c.send.new.map c.send.new.out.1.1.0) c.of_sent.ensures ∙ ap packed_send c.send.ensures
+    ap (λ (w : ℕ). entry w c.send.new.map c.send.new.out) c.of_sent.ensures ∙ ap packed_send c.send.ensures

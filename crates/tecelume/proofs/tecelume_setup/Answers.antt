@@ -2,7 +2,6 @@
 use mathlib.Core.Path.{ap, ◌∙◌}
 use Prim.Native.Nat.{ℕ}
 use Rattle.tecelume.specs.Entry.{numbered}
-use borrow.Author.Rules.{rules}
 use Rattle.tecelume.proofs.tecelume_setup.Goals as goal
 
 pub returns : goal.returns

@@ -2,9 +2,8 @@
 use mathlib.Core.Path.{ap, ◌∙◌}
 use Prim.Native.Nat.{ℕ}
 use Rattle.tecelume.specs.Entry.{signed, packed_signatures}
-use borrow.Author.Rules.{rules}
 use Rattle.tecelume.proofs.tecelume_signatures_word.Goals as goal
 
 pub returns : goal.returns
 returns c =
-    ap (λ (w : ℕ). signed w c.signatures.new.records.1.0 c.signatures.new.records.1.1.0) c.of_signatures.ensures ∙ ap packed_signatures c.signatures.ensures
+    ap (λ (w : ℕ). signed w c.signatures.new.out c.signatures.new.records) c.of_signatures.ensures ∙ ap packed_signatures c.signatures.ensures
