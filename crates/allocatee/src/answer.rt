@@ -3,14 +3,14 @@ ghost use Rattle.std.specs.Prelude.{◌≡◌};
 ghost use Rattle.allocatee.specs.Answer.{number_of, length_in, wait_in, node_in};
 
 // A payload to send: its length, and in how many microseconds there is something to do after it.
-#[derive(Drop)]
+#[derive(Clone, Copy)]
 pub struct Sending {
     pub len: usize,
     pub wait: u64,
 }
 
 // `Waits` holds the microseconds until there is something to do, `Has` the node ID, `Refused` the number 8, 13, 15, 16 or 17.
-#[derive(Drop)]
+#[derive(Clone, Copy)]
 pub enum Answer {
     Waits(u64),
     Sends(Sending),

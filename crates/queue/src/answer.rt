@@ -3,7 +3,7 @@ ghost use Rattle.std.specs.Prelude.{◌≡◌};
 ghost use Rattle.queue.specs.Answer.{number_of};
 
 // `Empty`: there was no record to look at or to take. `Refused` holds the number 2, 3, 8, 9 or 15.
-#[derive(Drop)]
+#[derive(Clone, Copy)]
 pub enum Answer {
     Done,
     Empty,
