@@ -15,7 +15,6 @@ use Rattle.allocator.specs.Stage.{joined}
 use Rattle.allocator.specs.declared.Request.{Request}
 use Rattle.allocator.specs.declared.answer.Answer.TheVariants.{Refused, Faulty}
 use Rattle.allocator.proofs.Messages.{casts, cast_is, read-refused, node-held, first-held, read-got}
-use borrow.Author.Rules.{rules}
 use Rattle.allocator.proofs.allocate.Goals as goal
 
 module _ (m : List ℕ) (q : Request) (p out : List ℕ) where

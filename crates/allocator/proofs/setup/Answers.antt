@@ -8,7 +8,6 @@ use Rattle.bits.specs.Part.{splice}
 use Rattle.allocator_table.specs.Layout.{size}
 use Rattle.allocator.specs.Setup.{set_up, after_setup}
 use Rattle.answers.specs.declared.Outcome.TheVariants.{Done, Short}
-use borrow.Author.Rules.{rules}
 use Rattle.allocator.proofs.setup.Goals as goal
 
 refused : (m : List ℕ) → length m < size → set_up Short m ≡ after_setup m

@@ -15,7 +15,6 @@ use Rattle.allocator_table.proofs.Soundness.{long-enough}
 use Rattle.allocator.specs.Allocate.{Verdict, returned, performs}
 use Rattle.allocator.specs.declared.answer.Answer.TheVariants.{Exhausted}
 use Rattle.allocator.proofs.Decisions.{is_known, known-low, none_left, one_left, room-left}
-use borrow.Author.Rules.{rules}
 use Rattle.allocator.proofs.serve.complete.Goals as goal
 
 -- the node ID by the unique ID itself

@@ -10,7 +10,6 @@ use Rattle.allocator_table.specs.Layout.{with_time, with_count}
 use Rattle.allocator.specs.Allocate.{returned, performs}
 use Rattle.allocator.specs.declared.answer.Answer.TheVariants.{Replied}
 use Rattle.allocator.proofs.Replies.{node-sent, refused-reply, wrote-reply}
-use borrow.Author.Rules.{rules}
 use Rattle.allocator.proofs.serve.confirm.Goals as goal
 
 pub returns-in-Refused : goal.returns-in-Refused

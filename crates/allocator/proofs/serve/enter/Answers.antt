@@ -12,7 +12,6 @@ use Rattle.allocator_table.proofs.Soundness.{long-enough}
 use Rattle.allocator.specs.Allocate.{returned, performs}
 use Rattle.allocator.specs.declared.answer.Answer.TheVariants.{Replied}
 use Rattle.allocator.proofs.Replies.{node-sent, refused-reply, wrote-reply}
-use borrow.Author.Rules.{rules}
 use Rattle.allocator.proofs.serve.enter.Goals as goal
 
 pub gathered_count-requires : goal.gathered_count-requires

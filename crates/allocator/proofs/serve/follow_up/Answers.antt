@@ -10,7 +10,6 @@ use Rattle.allocator_table.specs.Layout.{with_time, with_gathered}
 use Rattle.allocator.specs.Allocate.{returned, performs}
 use Rattle.allocator.specs.declared.answer.Answer.TheVariants.{Replied}
 use Rattle.allocator.proofs.Replies.{refused-reply, wrote-reply}
-use borrow.Author.Rules.{rules}
 use Rattle.allocator.proofs.serve.follow_up.Goals as goal
 
 pub returns-in-Refused : goal.returns-in-Refused

@@ -7,7 +7,6 @@ use lib.ListN.{length, take, replicate}
 use Rattle.bits.specs.Part.{span, splice}
 use Rattle.bits.proofs.Splice.{length-span, length-splice, take-splice}
 use Rattle.allocator_table.specs.Layout.{gathered_at}
-use borrow.Author.Rules.{rules}
 use Rattle.allocator.proofs.serve.join.Goals as goal
 
 -- two stores, one behind the other

@@ -13,7 +13,6 @@ use Rattle.allocator.specs.Allocate.{Verdict, returned, gathers, completes, Fiel
 use Rattle.allocator.specs.Stage.{accepts, kept_at, joined}
 use Rattle.allocator.specs.declared.answer.Answer.TheVariants.{Silent}
 use Rattle.allocator.proofs.Decisions.{is-ignored, is-awaited, is-part, is-whole, kept-few, accepted-fits, length-joined}
-use borrow.Author.Rules.{rules}
 use Rattle.allocator.proofs.serve.message.Goals as goal
 
 -- what was joined in code, by the definition

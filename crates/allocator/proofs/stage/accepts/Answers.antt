@@ -2,7 +2,6 @@
 use mathlib.Core.Path.{sym, ◌∙◌}
 use native.Mathlib.Omega.{arith}
 use Rattle.allocator.proofs.Stages.{refuses-none, refuses-other, by-room}
-use borrow.Author.Rules.{rules}
 use Rattle.allocator.proofs.stage.accepts.Goals as goal
 
 pub returns-then-stage-eq0 : goal.returns-then-stage-eq0

@@ -1,7 +1,6 @@
 -- `stage::expected` meets its contract, case by case.
 use native.Mathlib.Omega.{arith}
 use Rattle.allocator.proofs.Stages.{expects-first, expects-third, expects-second, expects-none}
-use borrow.Author.Rules.{rules}
 use Rattle.allocator.proofs.stage.expected.Goals as goal
 
 pub returns-then-n-eq0 : goal.returns-then-n-eq0

@@ -2,7 +2,6 @@
 use mathlib.Core.Path.{◌∙◌}
 use native.Mathlib.Omega.{arith}
 use Rattle.allocator.proofs.Stages.{kept-all, kept-none}
-use borrow.Author.Rules.{rules}
 use Rattle.allocator.proofs.stage.kept.Goals as goal
 
 pub returns-then-t-since : goal.returns-then-t-since

@@ -1,7 +1,6 @@
 -- `stage::of` meets its contract, case by case.
 use native.Mathlib.Omega.{arith}
 use Rattle.allocator.proofs.Stages.{no_size, first-stage, second-stage, third-stage, no-stage}
-use borrow.Author.Rules.{rules}
 use Rattle.allocator.proofs.stage.of.Goals as goal
 
 pub returns-then-not-sized : goal.returns-then-not-sized

@@ -1,6 +1,5 @@
 -- `entry::count` meets its contract.
 use Rattle.allocator_table.specs.Layout.{entry_count}
-use borrow.Author.Rules.{rules}
 use Rattle.allocator_table.proofs.entry.count.Goals as goal
 
 pub returns : goal.returns

@@ -1,6 +1,5 @@
 -- `entry::gathered_count` meets its contract.
 use Rattle.allocator_table.specs.Layout.{gathered_count}
-use borrow.Author.Rules.{rules}
 use Rattle.allocator_table.proofs.entry.gathered_count.Goals as goal
 
 pub returns : goal.returns

@@ -1,6 +1,5 @@
 -- `entry::node` meets its contract.
 use Rattle.allocator_table.specs.Layout.{node_at}
-use borrow.Author.Rules.{rules}
 use Rattle.allocator_table.proofs.entry.node.Goals as goal
 
 pub returns : goal.returns

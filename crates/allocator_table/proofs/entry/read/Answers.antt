@@ -3,7 +3,6 @@ use mathlib.Core.Path.{ap₂, ◌∙◌}
 use Prim.Native.Nat.{ℕ, ◌+◌, ◌*◌, ◌^◌}
 use native.Mathlib.Omega.{arith}
 use Rattle.allocator_table.proofs.Numbers.{halves}
-use borrow.Author.Rules.{rules}
 use Rattle.allocator_table.proofs.entry.read.Goals as goal
 
 pub returns : goal.returns

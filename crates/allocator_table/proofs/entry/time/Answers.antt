@@ -1,6 +1,5 @@
 -- `entry::time` meets its contract.
 use Rattle.allocator_table.specs.Layout.{time_of}
-use borrow.Author.Rules.{rules}
 use Rattle.allocator_table.proofs.entry.time.Goals as goal
 
 pub returns : goal.returns

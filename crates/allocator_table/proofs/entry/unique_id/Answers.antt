@@ -1,6 +1,5 @@
 -- `entry::unique_id` meets its contract.
 use Rattle.allocator_table.specs.Layout.{unique_at}
-use borrow.Author.Rules.{rules}
 use Rattle.allocator_table.proofs.entry.unique_id.Goals as goal
 
 pub returns : goal.returns

@@ -1,11 +1,10 @@
 -- `find::is_held` meets its contract: no entry passed has the node ID.
-use mathlib.Core.Path.{◌≡◌, refl, sym, ap, ◌∙◌}
-use Prim.Native.Nat.{◌-◌, ◌≤◌}
+use mathlib.Core.Path.{refl, sym, ap, ◌∙◌}
 use native.Mathlib.Numerals.{add-one}
 use native.Mathlib.Omega.{arith}
 use borrow.Author.Tests.{eq-eqb, ne_eqb}
 use Rattle.allocator_table.specs.Table.{holds}
-use Rattle.allocator_table.proofs.Walk.{rest, by_count, held_none, held-hit, held-miss}
+use Rattle.allocator_table.proofs.Walk.{by_count, held_none, held-hit, held-miss}
 use Rattle.allocator_table.proofs.Soundness.{long-enough, entries-few}
 use Rattle.allocator_table.proofs.find.is_held.Goals as goal
 

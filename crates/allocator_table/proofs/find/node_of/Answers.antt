@@ -1,14 +1,13 @@
 -- `find::node_of` meets its contract: no entry passed has the unique ID.
-use mathlib.Core.Path.{◌≡◌, refl, sym, ap, ◌∙◌}
-use Prim.Native.Nat.{ℕ, ◌-◌, ◌≤◌}
+use mathlib.Core.Path.{refl, sym, ap, ◌∙◌}
+use Prim.Native.Nat.{ℕ}
 use native.Mathlib.Numerals.{add-one}
 use native.Mathlib.Omega.{arith}
 use lib.Dec.{eqb}
 use Rattle.allocator_table.specs.Table.{node_of}
 use Rattle.allocator_table.specs.inside.Code.{number_of, or_zero}
-use Rattle.allocator_table.proofs.Walk.{rest, by_count, node-none, node-hit, node-miss}
+use Rattle.allocator_table.proofs.Walk.{by_count, node-none, node-hit, node-miss}
 use Rattle.allocator_table.proofs.Soundness.{long-enough, entries-few}
-use borrow.Author.Rules.{rules}
 use Rattle.allocator_table.proofs.find.node_of.Goals as goal
 
 pub count-n-requires : goal.count-n-requires

@@ -1,13 +1,8 @@
-use mathlib.Core.Path.{◌≡◌, refl, sym, ap, ◌∙◌}
-use Prim.Native.Nat.{ℕ, ◌-◌, ◌≤◌}
-use native.Mathlib.Numerals.{add-one}
-use native.Mathlib.Omega.{arith}
-use lib.Dec.{eqb}
+use mathlib.Core.Path.{◌≡◌}
+use Prim.Native.Nat.{◌-◌, ◌≤◌}
 use Rattle.allocator_table.specs.Table.{node_of}
-use Rattle.allocator_table.specs.inside.Code.{number_of, or_zero}
-use Rattle.allocator_table.proofs.Walk.{rest, by_count, node-none, node-hit, node-miss}
-use Rattle.allocator_table.proofs.Soundness.{long-enough, entries-few}
-use borrow.Author.Rules.{rules}
+use Rattle.allocator_table.specs.inside.Code.{number_of}
+use Rattle.allocator_table.proofs.Walk.{rest}
 use Rattle.allocator_table.proofs.find.node_of.Given as goal
 
 abbrev pub invariant-loop-i : goal.invariant-loop-i

@@ -1,14 +1,13 @@
 -- `find::place_for` meets its contract: every entry passed has a smaller unique ID.
-use mathlib.Core.Path.{◌≡◌, sym, ap, ◌∙◌}
-use Prim.Native.Nat.{ℕ, ◌+◌, ◌-◌, ◌≤◌}
+use mathlib.Core.Path.{sym, ap, ◌∙◌}
+use Prim.Native.Nat.{ℕ}
 use native.Mathlib.Numerals.{add-one}
 use native.Mathlib.Omega.{arith}
 use lib.Dec.{ltb}
 use Rattle.allocator_table.specs.Table.{place_for}
 use Rattle.allocator_table.specs.inside.Code.{number_of}
-use Rattle.allocator_table.proofs.Walk.{rest, by_count, place_none, place-hit, place-miss}
+use Rattle.allocator_table.proofs.Walk.{by_count, place_none, place-hit, place-miss}
 use Rattle.allocator_table.proofs.Soundness.{long-enough, entries-few}
-use borrow.Author.Rules.{rules}
 use Rattle.allocator_table.proofs.find.place_for.Goals as goal
 
 pub count-n-requires : goal.count-n-requires

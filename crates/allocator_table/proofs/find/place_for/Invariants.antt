@@ -1,13 +1,8 @@
-use mathlib.Core.Path.{◌≡◌, sym, ap, ◌∙◌}
-use Prim.Native.Nat.{ℕ, ◌+◌, ◌-◌, ◌≤◌}
-use native.Mathlib.Numerals.{add-one}
-use native.Mathlib.Omega.{arith}
-use lib.Dec.{ltb}
+use mathlib.Core.Path.{◌≡◌}
+use Prim.Native.Nat.{◌+◌, ◌-◌, ◌≤◌}
 use Rattle.allocator_table.specs.Table.{place_for}
 use Rattle.allocator_table.specs.inside.Code.{number_of}
-use Rattle.allocator_table.proofs.Walk.{rest, by_count, place_none, place-hit, place-miss}
-use Rattle.allocator_table.proofs.Soundness.{long-enough, entries-few}
-use borrow.Author.Rules.{rules}
+use Rattle.allocator_table.proofs.Walk.{rest}
 use Rattle.allocator_table.proofs.find.place_for.Given as goal
 
 abbrev pub invariant-loop-i : goal.invariant-loop-i

@@ -1,12 +1,7 @@
 -- `free::downwards` meets its contract: no node ID passed is free.
-use mathlib.Core.Path.{◌≡◌, refl, sym, ap, ◌∙◌}
-use mathlib.Core.Bool.{Bool}
-use mathlib.Core.List.{List}
-use Prim.Native.Nat.{ℕ, ◌-◌, ◌≤◌}
+use mathlib.Core.Path.{refl, sym, ap, ◌∙◌}
+use Prim.Native.Nat.{◌-◌}
 use native.Mathlib.Omega.{arith}
-use Rattle.allocator_table.specs.declared.free.Reserved.{Reserved}
-use Rattle.allocator_table.specs.Layout.{table_of}
-use Rattle.allocator_table.specs.Table.{is_free, highest_below}
 use Rattle.allocator_table.specs.inside.Code.{or_zero}
 use Rattle.allocator_table.proofs.Search.{high-hit, high-miss, high-none}
 use Rattle.allocator_table.proofs.free.downwards.Invariants.{free}

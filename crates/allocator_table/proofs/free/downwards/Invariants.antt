@@ -1,13 +1,10 @@
-use mathlib.Core.Path.{◌≡◌, refl, sym, ap, ◌∙◌}
+use mathlib.Core.Path.{◌≡◌}
 use mathlib.Core.Bool.{Bool}
 use mathlib.Core.List.{List}
-use Prim.Native.Nat.{ℕ, ◌-◌, ◌≤◌}
-use native.Mathlib.Omega.{arith}
+use Prim.Native.Nat.{ℕ, ◌≤◌}
 use Rattle.allocator_table.specs.declared.free.Reserved.{Reserved}
 use Rattle.allocator_table.specs.Layout.{table_of}
 use Rattle.allocator_table.specs.Table.{is_free, highest_below}
-use Rattle.allocator_table.specs.inside.Code.{or_zero}
-use Rattle.allocator_table.proofs.Search.{high-hit, high-miss, high-none}
 use Rattle.allocator_table.proofs.free.downwards.Given as goal
 
 abbrev pub free : List ℕ → Reserved → ℕ → Bool

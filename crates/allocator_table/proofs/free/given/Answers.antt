@@ -3,7 +3,6 @@ use Prim.Native.Nat.{ℕ}
 use Rattle.allocator_table.specs.Layout.{table_of}
 use Rattle.allocator_table.specs.Table.{is_free}
 use Rattle.allocator_table.proofs.Search.{free-some, given-up, given-down}
-use borrow.Author.Rules.{rules}
 use Rattle.allocator_table.proofs.free.given.Goals as goal
 
 pub returns-then-up-ne0 : goal.returns-then-up-ne0

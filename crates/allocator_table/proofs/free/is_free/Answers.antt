@@ -4,7 +4,6 @@ use mathlib.Core.Bool.{not}
 use native.Mathlib.Omega.{arith}
 use Rattle.allocator_table.specs.Layout.{table_of}
 use Rattle.allocator_table.proofs.Search.{free-zero, free_own, free-marked, free-held}
-use borrow.Author.Rules.{rules}
 use Rattle.allocator_table.proofs.free.is_free.Goals as goal
 
 pub returns-then-n-eq0 : goal.returns-then-n-eq0

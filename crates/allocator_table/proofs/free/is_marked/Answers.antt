@@ -5,7 +5,6 @@ use borrow.Author.Tests.{lt-ltb, le-ltb}
 use lib.Dec.{eqb}
 use Rattle.allocator_table.specs.Table.{is_marked}
 use Rattle.allocator_table.specs.declared.free.Reserved.{Reserved}
-use borrow.Author.Rules.{rules}
 use Rattle.allocator_table.proofs.free.is_marked.Goals as goal
 
 low : (r : Reserved) (n : ℕ) → n < 64 → eqb (r.low / 2 ^ n % 2) 1 ≡ is_marked r n

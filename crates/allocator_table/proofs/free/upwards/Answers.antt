@@ -1,14 +1,9 @@
 -- `free::upwards` meets its contract: no node ID passed is free.
-use mathlib.Core.Path.{◌≡◌, refl, sym, ap, ◌∙◌}
-use mathlib.Core.Bool.{Bool}
-use mathlib.Core.List.{List}
-use Prim.Native.Nat.{ℕ, suc, ◌-◌, ◌≤◌}
+use mathlib.Core.Path.{refl, sym, ap, ◌∙◌}
+use Prim.Native.Nat.{suc}
 use native.Mathlib.Numerals.{add-one}
 use native.Mathlib.Omega.{arith}
-use Rattle.allocator_table.specs.declared.free.Reserved.{Reserved}
-use Rattle.allocator_table.specs.Layout.{table_of}
 use Rattle.allocator_table.specs.Limits.{node_max}
-use Rattle.allocator_table.specs.Table.{is_free, lowest_from}
 use Rattle.allocator_table.specs.inside.Code.{or_zero}
 use Rattle.allocator_table.proofs.Search.{low-hit, low-miss, low-none}
 use Rattle.allocator_table.proofs.free.upwards.Invariants.{free}

@@ -8,7 +8,6 @@ use Rattle.allocator_table.specs.Layout.{unique_at, entry_at}
 use Rattle.allocator_table.specs.Table.{holds}
 use Rattle.allocator_table.proofs.Walk.{rest}
 use Rattle.allocator_table.proofs.Soundness.{unfit-zero, unfit-large, unfit-held, by_order, below_next, below_none, seen-held, unseen}
-use borrow.Author.Rules.{rules}
 use Rattle.allocator_table.proofs.sound.entry_fits.Goals as goal
 
 pub returns-then-node-eq0 : goal.returns-then-node-eq0

@@ -6,7 +6,6 @@ use Rattle.bits.specs.Tabulate.{tabulate}
 use Rattle.allocator_table.specs.Layout.{entry_at, table_of}
 use Rattle.allocator_table.specs.Table.{sound}
 use Rattle.allocator_table.proofs.Soundness.{fault-short, fault-gathered, fault-entries, by-table}
-use borrow.Author.Rules.{rules}
 use Rattle.allocator_table.proofs.sound.is_sound.Goals as goal
 
 pub returns-then-state-lt-SIZE : goal.returns-then-state-lt-SIZE

@@ -13,7 +13,6 @@ use Rattle.allocator_table.specs.Table.{place_for}
 use Rattle.allocator_table.specs.inside.Code.{number_of}
 use Rattle.allocator_table.proofs.Soundness.{long-enough}
 use Rattle.allocator_table.proofs.Tables.{place_in}
-use borrow.Author.Rules.{rules}
 use Rattle.allocator_table.proofs.store.entry.Goals as goal
 
 -- where the unique ID belongs

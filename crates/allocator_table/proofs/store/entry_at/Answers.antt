@@ -7,7 +7,6 @@ use Rattle.bits.specs.Little.{le_bytes}
 use Rattle.bits.specs.Part.{span, splice}
 use Rattle.allocator_table.specs.Layout.{entries_at, entry_count_at, entry_size, entry_count, opened, with_entry_at}
 use Rattle.allocator_table.specs.Limits.{unique_id_max}
-use borrow.Author.Rules.{rules}
 use Rattle.allocator_table.proofs.store.entry_at.Goals as goal
 
 -- the four stores

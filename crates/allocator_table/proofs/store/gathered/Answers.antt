@@ -4,7 +4,6 @@ use mathlib.Core.List.{List}
 use Prim.Native.Nat.{ℕ}
 use Rattle.bits.specs.Part.{splice}
 use Rattle.allocator_table.specs.Layout.{gathered_at, with_gathered}
-use borrow.Author.Rules.{rules}
 use Rattle.allocator_table.proofs.store.gathered.Goals as goal
 
 pub returns : goal.returns

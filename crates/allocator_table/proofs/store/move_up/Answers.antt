@@ -1,12 +1,12 @@
 -- `store::move_up` meets its contract: the bytes from i on have moved.
-use mathlib.Core.Path.{◌≡◌, refl, sym, ap, ◌∙◌}
+use mathlib.Core.Path.{refl, sym, ap, ◌∙◌}
 use mathlib.Core.List.{List}
 use lib.Dec.{lit<}
-use lib.ListN.{length, get_or, set, length-set}
-use Prim.Native.Nat.{ℕ, ◌+◌, ◌-◌, ◌≤◌}
+use lib.ListN.{get_or, set, length-set}
+use Prim.Native.Nat.{ℕ, ◌+◌, ◌-◌}
 use native.Mathlib.Omega.{arith}
 use Rattle.allocator_table.specs.Layout.{entry_size}
-use Rattle.allocator_table.proofs.Moved.{moved, moved_none, moved_more, moved_all}
+use Rattle.allocator_table.proofs.Moved.{moved_none, moved_more, moved_all}
 use Rattle.allocator_table.proofs.store.move_up.Goals as goal
 
 pub loop-i-init : goal.loop-i-init

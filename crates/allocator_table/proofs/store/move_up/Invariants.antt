@@ -1,11 +1,8 @@
-use mathlib.Core.Path.{◌≡◌, refl, sym, ap, ◌∙◌}
-use mathlib.Core.List.{List}
-use lib.Dec.{lit<}
-use lib.ListN.{length, get_or, set, length-set}
-use Prim.Native.Nat.{ℕ, ◌+◌, ◌-◌, ◌≤◌}
-use native.Mathlib.Omega.{arith}
+use mathlib.Core.Path.{◌≡◌}
+use lib.ListN.{length}
+use Prim.Native.Nat.{◌≤◌}
 use Rattle.allocator_table.specs.Layout.{entry_size}
-use Rattle.allocator_table.proofs.Moved.{moved, moved_none, moved_more, moved_all}
+use Rattle.allocator_table.proofs.Moved.{moved}
 use Rattle.allocator_table.proofs.store.move_up.Given as goal
 
 abbrev pub invariant-loop-i : goal.invariant-loop-i
