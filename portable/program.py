@@ -1,5 +1,6 @@
 """The whole C file: which functions, in which order, and what stands at its top."""
 import collections
+import json
 import re
 
 import returns
@@ -22,10 +23,11 @@ MAKE = '''/* A value of a struct type: C's compound literal, C++'s braces. */
 typedef char int_has_at_most_32_bits[sizeof(int) <= 4 ? 1 : -1];'''
 
 
-def quoted(numbers):
-    """Numbers as the characters that they are, or nothing where one is none."""
-    text = ''.join(map(chr, numbers)) if max(numbers) < 127 and min(numbers) >= 32 else ''
-    return f'"{text}"' if text and '*/' not in text else ''
+def quoted(name, numbers):
+    """A short text of characters, for the comment above its numbers, where its name does not say it."""
+    is_text = all(n == 10 or 32 <= n < 127 for n in numbers) and len(numbers) <= 40
+    text = json.dumps(''.join(map(chr, numbers))) if is_text else ''
+    return text if '*/' not in text and not name.startswith('letters_') else ''
 
 
 class Program:
@@ -92,7 +94,7 @@ class Program:
         kept = apart(self, bodies)
         texts.update({symbol: body.text(symbol in kept) for symbol, body in bodies.items()})
         top = f'#include "{header}"\n\n' + '\n'.join(f'#include <{name}.h>' for name in ('stdbool', 'stddef', 'stdint', 'string'))
-        statics = [comment(quoted(numbers)) + constants(type_, numbers, self.shapes, name) for (type_, numbers), name in self.statics.items()]
+        statics = [comment(quoted(name, numbers)) + constants(type_, numbers, self.shapes, name) for (type_, numbers), name in self.statics.items()]
         types = list(self.shapes.definitions.values()) + list(self.shapes.makers.values())
         code = [comment(self.sources.comments.get(symbol)) + text for symbol, text in texts.items() if symbol in self.entries or self.sites[symbol]]
         return '\n\n'.join([head, top, MAKE, APART] + types + statics + sorted(self.helpers) + code) + '\n'
