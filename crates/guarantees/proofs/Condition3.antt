@@ -8,7 +8,6 @@ use Rattle.guarantees.specs.Run.{Call, reception_of, result_of, reading_of}
 use Rattle.guarantees.proofs.Received.{view-law, sound-law}
 use Rattle.guarantees.proofs.Run.{reading-is}
 use Rattle.rules.proofs.Lift.{View, lifted, lifted-burst}
-use Rattle.rules.specs.Answer as rules
 use Rattle.rules.specs.Condition3.{Condition3, lent}
 use Rattle.rules.specs.Damage.{BurstIsCaught}
 use Rattle.rules.specs.Reception.{step}

@@ -34,7 +34,7 @@ use Rattle.state.proofs.Free.{free-kept, free-taken, free-lowest}
 use Rattle.state.proofs.Good.{Good, set-timed, good-set, good-view, ready-shared, free-there, times-at}
 use Rattle.state.proofs.Held.{table-held, stream-fits, small}
 use Rattle.state.proofs.Table.{once-of, length-places}
-use Rattle.state.specs.Layout.{size, free_at, stream_keys_at, block_lists_at, blocks_at, free_of, key_at, count_at, blocks_of, gathered_at, places_of}
+use Rattle.state.specs.Layout.{free_at, stream_keys_at, block_lists_at, blocks_at, free_of, key_at, count_at, blocks_of, gathered_at, places_of}
 use Rattle.state.specs.Place.{free_set, free_store, place_stores, written}
 use Rattle.state.specs.inside.Ready.{Small}
 use Rattle.sessions.proofs.Grown.{grown-length, list-many, grown-by}

@@ -23,7 +23,7 @@ use Rattle.state.proofs.Good.{Good, good-set, good-view, ready-shared, small_at}
 use Rattle.state.proofs.Keys.{key-stream}
 use Rattle.state.proofs.Put.{put}
 use Rattle.state.proofs.Table.{length-places}
-use Rattle.state.specs.Layout.{size, block_lists_at, free_of, places_of}
+use Rattle.state.specs.Layout.{block_lists_at, free_of, places_of}
 use Rattle.state.specs.Place.{one, control_of, free_set, free_store, key_store, control_store, time_store, list_store, block_stores, place_stores, written}
 
 module _ (m : List ℕ) (i k : ℕ) (c : coded.Session) (bytes : Octets m) (word : k < 4294967296) (time : c.time < 2 ^ 64) (w : Waits m i k c) where

@@ -1,13 +1,9 @@
 -- `find` meets its contract: no place passed has the key.
-use mathlib.Core.Path.{◌≡◌, sym, ap, ◌∙◌}
-use mathlib.Core.Bool.{Bool}
-use mathlib.Core.List.{List}
-use Prim.Native.Nat.{ℕ, ◌-◌, ◌≤◌}
+use mathlib.Core.Path.{sym, ap, ◌∙◌}
 use native.Mathlib.Nat.{sub-zero}
 use native.Mathlib.Numerals.{add-one}
 use native.Mathlib.Omega.{arith}
 use borrow.Author.Tests.{eq-eqb, ne_eqb}
-use lib.Dec.{eqb}
 use Rattle.keys.specs.inside.Keys.{word_at, lowest}
 use Rattle.keys.proofs.Lowest.{hit, miss, none}
 use Rattle.keys.proofs.find.Invariants.{has}

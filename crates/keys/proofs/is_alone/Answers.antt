@@ -6,7 +6,6 @@ use Prim.Native.Nat.{ℕ}
 use borrow.Author.Tests.{eq-eqb, ne_eqb}
 use lib.Dec.{eqb}
 use Rattle.keys.specs.inside.Keys.{count}
-use borrow.Author.Rules.{rules}
 use Rattle.keys.proofs.is_alone.Goals as goal
 
 module _ (table : List ℕ) (k : ℕ) (first : Bool) (f : first ≡ false) where

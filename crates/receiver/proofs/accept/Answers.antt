@@ -20,7 +20,6 @@ use Rattle.rules.specs.Table.{seek, holds}
 use Rattle.session.specs.inside.Session.{stream_of, parsed_of}
 use Rattle.session.specs.declared.Incoming.{Incoming}
 use Rattle.state.specs.Layout.{places_of}
-use borrow.Author.Rules.{rules}
 use Rattle.receiver.proofs.accept.Goals as goal
 
 -- the part of the frame before its tail

@@ -2,7 +2,6 @@
 use mathlib.Core.Path.{sym, ap, ◌∙◌}
 use mathlib.Core.Bool.{Bool}
 use Rattle.receiver.specs.Receive.{arrival_of, received_if, received}
-use borrow.Author.Rules.{rules}
 use Rattle.receiver.proofs.receive.Goals as goal
 
 pub receive_sound-requires : goal.receive_sound-requires

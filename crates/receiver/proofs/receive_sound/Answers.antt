@@ -36,7 +36,6 @@ use Rattle.subscriptions.proofs.Lookup.{under, not-asked}
 use Rattle.subscriptions.specs.inside.Subscription.{asked}
 use Rattle.subscriptions.specs.declared.Subscribed.{Subscribed}
 use Rattle.state.proofs.Faultless.{long}
-use borrow.Author.Rules.{rules}
 use Rattle.receiver.proofs.receive_sound.Goals as goal
 use Rattle.receiver.proofs.receive_sound.Goals.{After-find, After-refusal-refused, Else-unreadable-gt0, Start}
 

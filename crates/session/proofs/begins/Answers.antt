@@ -1,5 +1,4 @@
 -- `begins` meets its contract: the tests are those of the definition.
-use borrow.Author.Rules.{rules}
 use Rattle.session.proofs.Rules.{begins-behind, begins-switch, begins-not}
 use Rattle.session.proofs.begins.Goals as goal
 

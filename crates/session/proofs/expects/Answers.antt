@@ -1,5 +1,4 @@
 -- `expects` meets its contract.
-use borrow.Author.Rules.{rules}
 use Rattle.session.proofs.expects.Goals as goal
 
 pub returns : goal.returns

@@ -1,5 +1,4 @@
 -- `is_behind` meets its contract.
-use borrow.Author.Rules.{rules}
 use borrow.Author.Tests.{eq-eqb, ne_eqb}
 use Rattle.session.proofs.is_behind.Goals as goal
 

@@ -1,5 +1,4 @@
 -- `reason` meets its contract: the tests, from the last to the first, are those of the definition.
-use borrow.Author.Rules.{rules}
 use Rattle.session.proofs.Rules.{reason-start, reason-other}
 use Rattle.session.proofs.reason.Goals as goal
 

@@ -1,6 +1,5 @@
 -- `restarts` meets its contract: the tests are those of the definition.
 use mathlib.Core.Path.{◌∙◌}
-use borrow.Author.Rules.{rules}
 use Rattle.session.proofs.Rules.{restarts-old, restarts-start, restarts-not}
 use Rattle.session.proofs.restarts.Goals as goal
 

@@ -1,7 +1,6 @@
 -- `sum_ok` meets its contract: the two bytes in front, low byte first, against the checksum of those after them.
 use mathlib.Core.Path.{◌≡◌}
 use native.Mathlib.Omega.{arith}
-use borrow.Author.Rules.{rules}
 use lib.ListN.{length, take}
 use lib.Seq.{length-take-le}
 use Rattle.session.proofs.Gathered.{sum-short, sum-at}

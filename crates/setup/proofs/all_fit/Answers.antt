@@ -1,14 +1,13 @@
 -- `all_fit` meets its contract: what is left decides.
 use mathlib.Core.Path.{◌≡◌, refl, sym, ap, ◌∙◌}
 use mathlib.Core.Bool.{true, false}
-use Prim.Native.Nat.{ℕ, ◌-◌}
+use Prim.Native.Nat.{ℕ}
 use native.Mathlib.Nat.{sub-zero}
 use native.Mathlib.Omega.{arith}
 use Rattle.rules.specs.Setup.{type_fits, all_fit}
 use Rattle.setup.specs.Setup.{record_at}
 use Rattle.setup.proofs.Records.{tab-end, same-type, fit-turn}
 use Rattle.bits.specs.Tabulate.{tabulate}
-use borrow.Author.Rules.{rules}
 use Rattle.setup.proofs.all_fit.Goals as goal
 use Rattle.setup.proofs.all_fit.Goals.{After-type_fits}
 

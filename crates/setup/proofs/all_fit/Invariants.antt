@@ -1,13 +1,8 @@
-use mathlib.Core.Path.{◌≡◌, refl, sym, ap, ◌∙◌}
-use mathlib.Core.Bool.{true, false}
-use Prim.Native.Nat.{ℕ, ◌-◌}
-use native.Mathlib.Nat.{sub-zero}
-use native.Mathlib.Omega.{arith}
-use Rattle.rules.specs.Setup.{type_fits, all_fit}
+use mathlib.Core.Path.{◌≡◌}
+use Prim.Native.Nat.{◌-◌}
+use Rattle.rules.specs.Setup.{all_fit}
 use Rattle.setup.specs.Setup.{record_at}
-use Rattle.setup.proofs.Records.{tab-end, same-type, fit-turn}
 use Rattle.bits.specs.Tabulate.{tabulate}
-use borrow.Author.Rules.{rules}
 use Rattle.setup.proofs.all_fit.Given as goal
 
 abbrev pub invariant-loop-j : goal.invariant-loop-j

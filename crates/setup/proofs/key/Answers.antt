@@ -3,7 +3,6 @@ use Prim.Native.Nat.{◌*◌}
 use native.Mathlib.Omega.{arith}
 use Rattle.rules.specs.Limits.{subscription_record}
 use Rattle.setup.proofs.Records.{keyed}
-use borrow.Author.Rules.{rules}
 use Rattle.setup.proofs.key.Goals as goal
 
 pub returns : goal.returns

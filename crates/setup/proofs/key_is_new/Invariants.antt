@@ -1,11 +1,7 @@
-use mathlib.Core.Path.{◌≡◌, refl, sym, ap, ◌∙◌}
-use mathlib.Core.Bool.{true, false}
+use mathlib.Core.Path.{◌≡◌}
 use Prim.Native.Nat.{◌+◌, ◌-◌}
-use native.Mathlib.Omega.{arith}
-use borrow.Author.Tests.{eq-eqb, ne_eqb}
 use Rattle.rules.specs.Setup.{unlike}
 use Rattle.setup.specs.Setup.{record_at}
-use Rattle.setup.proofs.Records.{tab-end, unlike-turn}
 use Rattle.bits.specs.Tabulate.{tabulate}
 use Rattle.setup.proofs.key_is_new.Given as goal
 

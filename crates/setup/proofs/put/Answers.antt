@@ -9,7 +9,6 @@ use Rattle.setup.specs.Setup.{record_at}
 use Rattle.setup.specs.inside.Record.{Keyed, written}
 use Rattle.setup.proofs.Records.{same_key}
 use Rattle.subscriptions.specs.inside.Subscription.{with_subscription}
-use borrow.Author.Rules.{rules}
 use Rattle.setup.proofs.put.Goals as goal
 
 stored : (m m' r : List ℕ) (j k q g : ℕ) → Keyed (record_at r j) k → q ≡ k % 256 * 65536 + k / 256 → g ≡ le (span r (j * subscription_record + 5) 8)

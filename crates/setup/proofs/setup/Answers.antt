@@ -7,7 +7,6 @@ use borrow.Author.Tests.{lt-ltb, le-ltb, le-leb, lt-leb, eq-eqb, ne_eqb}
 use lib.ListN.{length}
 use Rattle.rules.specs.Limits.{subscriptions_max, subscription_record}
 use Rattle.setup.proofs.Answers.{tests, short, refused, done}
-use borrow.Author.Rules.{rules}
 use Rattle.setup.proofs.setup.Goals as goal
 
 pub returns-then-state-lt-SIZE : goal.returns-then-state-lt-SIZE

@@ -1,16 +1,10 @@
-use mathlib.Core.Path.{◌≡◌, refl, sym, ap, ap₂, ◌∙◌}
-use mathlib.Core.List.{List, [], ◌++◌}
-use Prim.Native.Nat.{ℕ, ◌-◌, ◌/◌, ◌≤◌}
-use native.Mathlib.Omega.{arith}
-use lib.ListN.{length, drop, set, replicate, length-set}
-use Rattle.rules.specs.Limits.{subscription_record}
-use Rattle.setup.specs.Setup.{record_at, given, state_of}
-use Rattle.setup.specs.inside.Record.{written}
-use Rattle.setup.proofs.Laid.{laid_out, laid-turn, laid-first, given-laid, past}
+use mathlib.Core.Path.{◌≡◌}
+use Prim.Native.Nat.{◌-◌, ◌≤◌}
+use lib.ListN.{length, drop}
+use Rattle.setup.specs.Setup.{record_at}
+use Rattle.setup.proofs.Laid.{laid_out}
 use Rattle.bits.specs.Tabulate.{tabulate}
-use Rattle.bits.specs.Little.{le_bytes}
-use Rattle.bits.specs.Part.{splice}
-use Rattle.state.specs.Layout.{size, free_at}
+use Rattle.state.specs.Layout.{size}
 use Rattle.setup.proofs.write.Given as goal
 
 abbrev pub invariant-loop-j : goal.invariant-loop-j

@@ -2,7 +2,7 @@
 use mathlib.Core.Path.{◌≡◌, refl, sym, ap, subst, ◌∙◌}
 use mathlib.Core.Bool.{Bool, true, false, false≢true, ◌&&◌, ◌||◌}
 use mathlib.Core.List.{List}
-use Prim.Native.Nat.{ℕ, suc, ◌+◌, ◌-◌, ◌≤◌, ◌<◌}
+use Prim.Native.Nat.{ℕ, suc, ◌+◌, ◌≤◌, ◌<◌}
 use native.Mathlib.Numerals.{add-one}
 use native.Mathlib.Omega.{arith}
 use borrow.Author.Count.{below_more}
@@ -16,7 +16,7 @@ use Rattle.keys.proofs.Marks.{Marked, unmarked, mark}
 use Rattle.rules.specs.Setup.{type_fits, all_fit}
 use Rattle.state.specs.Layout.{subscription_count_at, subscription_keys_at, subscription_key_at, subscription_at, setup_of}
 use Rattle.subscriptions.specs.inside.Subscription.{keys_end, key_fits}
-use Rattle.subscriptions.proofs.Fit.{Fits, entry_of, type-fits, one-unfit, first-fit, twice-unfit}
+use Rattle.subscriptions.proofs.Fit.{entry_of, type-fits, one-unfit, first-fit, twice-unfit}
 use Rattle.subscriptions.proofs.all_fit.Invariants.{Good}
 use Rattle.subscriptions.proofs.all_fit.Goals as goal
 

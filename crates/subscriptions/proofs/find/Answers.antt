@@ -12,7 +12,6 @@ use Rattle.state.specs.Layout.{signatures_at, subscription_count_at, setup_of}
 use Rattle.subscriptions.specs.inside.Subscription.{asked}
 use Rattle.subscriptions.specs.declared.Subscribed.TheVariants.{Under, Not}
 use Rattle.subscriptions.proofs.Lookup.{has, found, missing}
-use borrow.Author.Rules.{rules}
 use Rattle.subscriptions.proofs.find.Goals as goal
 
 module _ (m : List ℕ) (kind type : ℕ) (h : type < 65536) (j : ℕ) (e : j ≡ lowest (has m kind type h) 0 (get_or m subscription_count_at 0)) where

@@ -9,7 +9,6 @@ use lib.Dec.{eqb}
 use Rattle.keys.specs.inside.Keys.{word_at, lowest}
 use Rattle.state.specs.Layout.{subscription_keys_at}
 use Rattle.subscriptions.specs.inside.Subscription.{keys_end, key_fits}
-use borrow.Author.Rules.{rules}
 use Rattle.subscriptions.proofs.key_fits.Goals as goal
 
 module _ (m : List ℕ) (k j : ℕ) (first : Bool) where

@@ -6,7 +6,6 @@ use Rattle.bits.specs.Little.{le_bytes}
 use Rattle.bits.specs.Part.{splice}
 use Rattle.state.specs.Layout.{signatures_at, subscription_keys_at}
 use Rattle.subscriptions.specs.inside.Subscription.{with_subscription}
-use borrow.Author.Rules.{rules}
 use Rattle.subscriptions.proofs.put.Goals as goal
 
 stored : (m m₁ m₂ : List ℕ) (j k g : ℕ) → m₁ ≡ splice m (signatures_at + j * 8) (le_bytes 8 g) → m₂ ≡ splice m₁ (subscription_keys_at + j * 4) (le_bytes 4 k)

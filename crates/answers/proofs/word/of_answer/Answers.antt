@@ -4,7 +4,6 @@ use Prim.Native.Nat.{◌+◌, ◌^◌, ◌<◌}
 use native.Mathlib.Omega.{arith}
 use Rattle.answers.specs.declared.Transfer.{Transfer}
 use Rattle.answers.specs.Word.{transfer_word, word_of, TransferFits}
-use borrow.Author.Rules.{rules}
 use Rattle.answers.proofs.word.of_answer.Goals as goal
 
 word_lt : (t : Transfer) → TransferFits t → transfer_word t < 2 ^ 60

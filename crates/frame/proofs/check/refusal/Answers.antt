@@ -8,7 +8,6 @@ use Rattle.frame.specs.declared.head.Head.{Head}
 use Rattle.rules.specs.Check.{or_zero, first, unnamed_service, bad_tail, for_another}
 use Rattle.rules.specs.Frame.{unnamed}
 use Rattle.rules.specs.Tests.{pick}
-use borrow.Author.Rules.{rules}
 use Rattle.frame.proofs.check.refusal.Goals as goal
 use Rattle.frame.proofs.check.refusal.Goals.{After-bad_tail}
 

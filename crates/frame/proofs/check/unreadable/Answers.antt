@@ -1,5 +1,4 @@
 -- `check::unreadable` meets its contract.
-use borrow.Author.Rules.{rules}
 use borrow.Author.Tests.{le-leb, lt-leb, eq-eqb, ne_eqb, lt-ltb, le-ltb}
 use Prim.Native.Nat.{◌^◌}
 use Rattle.frame.proofs.check.unreadable.Goals as goal

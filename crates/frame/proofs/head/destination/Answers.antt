@@ -3,7 +3,6 @@ use mathlib.Core.Path.{sym, ap, ◌∙◌}
 use mathlib.Core.Bool.{true, false}
 use Rattle.rules.specs.Frame.{Stream}
 use Rattle.frame.proofs.Heads.{stream-is}
-use borrow.Author.Rules.{rules}
 use Rattle.frame.proofs.head.destination.Goals as goal
 
 pub returns-then-is_service : goal.returns-then-is_service

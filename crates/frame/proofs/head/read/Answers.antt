@@ -8,7 +8,6 @@ use Rattle.rules.specs.Frame.{priority_of}
 use Rattle.frame.specs.inside.Head.{head_of}
 use Rattle.frame.specs.declared.head.Head.{Head}
 use Rattle.frame.proofs.Heads.{source_is, type-lt}
-use borrow.Author.Rules.{rules}
 use Rattle.frame.proofs.head.read.Goals as goal
 
 -- two heads with equal fields

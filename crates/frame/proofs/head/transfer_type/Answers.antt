@@ -6,7 +6,6 @@ use borrow.Author.Tests.{eq-eqb, ne_eqb}
 use Rattle.rules.specs.Tests.{pick}
 use Rattle.rules.specs.Frame.{Stream}
 use Rattle.frame.proofs.Heads.{stream-is}
-use borrow.Author.Rules.{rules}
 use Rattle.frame.proofs.head.transfer_type.Goals as goal
 
 pub returns-then-id-eq1 : goal.returns-then-id-eq1

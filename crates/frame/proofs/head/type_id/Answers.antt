@@ -6,7 +6,6 @@ use borrow.Author.Tests.{eq-eqb, ne_eqb}
 use Rattle.rules.specs.Tests.{pick}
 use Rattle.rules.specs.Frame.{Stream}
 use Rattle.frame.proofs.Heads.{stream-is}
-use borrow.Author.Rules.{rules}
 use Rattle.frame.proofs.head.type_id.Goals as goal
 
 pub returns-then-is_service : goal.returns-then-is_service

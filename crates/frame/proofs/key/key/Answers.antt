@@ -1,7 +1,6 @@
 -- `key::key` meets its contract.
 use mathlib.Core.Path.{refl}
 use Rattle.frame.specs.Key.{key_of}
-use borrow.Author.Rules.{rules}
 use Rattle.frame.proofs.key.key.Goals as goal
 
 pub returns : goal.returns

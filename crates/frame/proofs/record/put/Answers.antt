@@ -1,7 +1,6 @@
 -- `record::put` meets its contract: three stores, one after the other.
 use native.Mathlib.Omega.{arith}
 use Rattle.frame.proofs.Records.{stored}
-use borrow.Author.Rules.{rules}
 use Rattle.frame.proofs.record.put.Goals as goal
 
 pub returns : goal.returns

@@ -17,7 +17,6 @@ use Rattle.state.proofs.Faultless.{long}
 use Rattle.state.proofs.Table as table
 use Rattle.receiver.proofs.Lent.{head-key, key-some, key-word, untouched}
 use Rattle.receiver.proofs.Seek.{place_of, no-place-of, key-found}
-use borrow.Author.Rules.{rules}
 use Rattle.receiver.proofs.place.arrive.Goals as goal
 
 -- the step at the place that was found

@@ -3,7 +3,6 @@ use mathlib.Core.Path.{refl}
 use native.Mathlib.Omega.{arith}
 use Rattle.bits.proofs.Octets.{octets-all}
 use Rattle.receiver.proofs.Steps.{over-ready, over-waits, ended, gathered-all, blocks-small, len_is, first-few}
-use borrow.Author.Rules.{rules}
 use Rattle.receiver.proofs.place.close.Goals as goal
 
 pub gather-requires : goal.gather-requires

@@ -3,7 +3,6 @@ use mathlib.Core.Path.{◌∙◌}
 use native.Mathlib.Omega.{arith}
 use Rattle.bits.proofs.Octets.{octets-all}
 use Rattle.receiver.proofs.Steps.{len_is, any-blocks, grows, went_on}
-use borrow.Author.Rules.{rules}
 use Rattle.receiver.proofs.place.enter.Goals as goal
 
 pub close-requires : goal.close-requires

@@ -7,7 +7,6 @@ use Rattle.receiver.proofs.Known.{coded-is, expected, anew, restarting, meets, g
 use Rattle.receiver.proofs.Steps.{restarts-at}
 use Rattle.state.proofs.Faultless.{long}
 use Rattle.state.specs.Layout.{session_at}
-use borrow.Author.Rules.{rules}
 use Rattle.receiver.proofs.place.known.Goals as goal
 
 pub load-c-requires : goal.load-c-requires

@@ -3,7 +3,6 @@ use Prim.Native.Nat.{◌+◌}
 use native.Mathlib.Omega.{arith}
 use Rattle.receiver.proofs.Lacking.{block-asked, none-asked}
 use Rattle.rules.specs.Blocks.{need}
-use borrow.Author.Rules.{rules}
 use Rattle.receiver.proofs.place.lacks_block.Goals as goal
 
 pub returns-then-needed : goal.returns-then-needed

@@ -2,7 +2,6 @@
 use mathlib.Core.Path.{sym, ap, ◌∙◌}
 use mathlib.Core.Bool.{Bool}
 use native.Mathlib.Omega.{arith}
-use borrow.Author.Rules.{rules}
 use Rattle.rules.specs.Session.{next}
 use Rattle.rules.specs.Tests.{pick}
 use Rattle.session.specs.inside.Session.{idle}

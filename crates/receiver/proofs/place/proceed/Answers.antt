@@ -5,7 +5,6 @@ use native.Mathlib.Omega.{arith}
 use Rattle.bits.proofs.Octets.{octets-all}
 use Rattle.state.specs.Layout.{session_at}
 use Rattle.receiver.proofs.Steps.{coded-is, fits, over-ready, over-waits, passed, too_long, held-len, awaited-at, reason-at, toggle-at}
-use borrow.Author.Rules.{rules}
 use Rattle.receiver.proofs.place.proceed.Goals as goal
 
 pub overflow_add-c : goal.overflow_add-c

@@ -17,7 +17,6 @@ use Rattle.session.specs.declared.Session.{Session}
 use Rattle.session.specs.inside.Session.{idle, parsed_of}
 use Rattle.state.proofs.Faultless.{long}
 use Rattle.state.specs.Layout.{places_of}
-use borrow.Author.Rules.{rules}
 use Rattle.receiver.proofs.place.unknown.Goals as goal
 
 -- the step at the place that was found

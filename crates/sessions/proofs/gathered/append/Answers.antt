@@ -4,7 +4,6 @@ use Prim.Native.Nat.{◌+◌, ◌*◌, ◌/◌, ◌<◌}
 use native.Mathlib.Omega.{arith}
 use lib.ListN.{get_or}
 use Rattle.sessions.proofs.Stored.{next-number, one-tail, two-tails}
-use borrow.Author.Rules.{rules}
 use Rattle.sessions.proofs.gathered.append.Goals as goal
 use Rattle.sessions.proofs.gathered.append.Goals.{After-slice_known-3-1}
 

@@ -3,7 +3,6 @@ use mathlib.Core.Path.{ap, ◌∙◌}
 use native.Mathlib.Omega.{arith}
 use lib.Count.{count_trailing_zeros}
 use Rattle.sessions.proofs.Stored.{claims}
-use borrow.Author.Rules.{rules}
 use Rattle.sessions.proofs.gathered.claim.Goals as goal
 
 pub exclude-requires : goal.exclude-requires

@@ -1,6 +1,5 @@
 -- `gathered::free` meets its contract.
 use Rattle.state.specs.Layout.{free_of}
-use borrow.Author.Rules.{rules}
 use Rattle.sessions.proofs.gathered.free.Goals as goal
 
 pub returns : goal.returns

@@ -1,11 +1,8 @@
-use mathlib.Core.Path.{◌≡◌, ap, ◌∙◌}
-use Prim.Native.Nat.{ℕ, ◌+◌, ◌*◌, ◌-◌, ◌≤◌, ◌<◌}
-use native.Mathlib.Omega.{arith}
-use lib.ListN.{get_or}
+use mathlib.Core.Path.{◌≡◌}
+use Prim.Native.Nat.{◌+◌, ◌*◌, ◌-◌, ◌≤◌}
 use Rattle.bits.specs.Part.{span}
 use Rattle.blocks.specs.inside.Bit.{including_all}
 use Rattle.state.specs.Layout.{free_of, block_lists_at}
-use Rattle.sessions.proofs.Stored.{one_more, small_one}
 use Rattle.sessions.proofs.gathered.free_with.Given as goal
 
 abbrev pub invariant-loop-j : goal.invariant-loop-j

@@ -1,13 +1,12 @@
 -- `gathered::gather` meets its contract. The invariant: the bytes of the first j blocks, n at most, are at the front.
 use mathlib.Core.Path.{◌≡◌, refl, ap, ◌∙◌}
-use Prim.Native.Nat.{ℕ, ◌+◌, ◌*◌, ◌-◌, ◌≤◌, ◌<◌}
+use Prim.Native.Nat.{ℕ, ◌+◌, ◌*◌, ◌<◌}
 use native.Mathlib.Omega.{arith}
-use lib.ListN.{length, get_or, take}
+use lib.ListN.{get_or, take}
 use Rattle.bits.specs.Part.{span, splice}
 use Rattle.rules.specs.Blocks.{need}
 use Rattle.state.specs.Layout.{joined, block_lists_at}
 use Rattle.sessions.proofs.Stored.{gather_none, gather-more, small_one}
-use borrow.Author.Rules.{rules}
 use Rattle.sessions.proofs.gathered.gather.Goals as goal
 use Rattle.sessions.proofs.gathered.gather.Goals.{After-shared_slice_known-in-loop-j-1}
 

@@ -1,12 +1,9 @@
-use mathlib.Core.Path.{◌≡◌, refl, ap, ◌∙◌}
-use Prim.Native.Nat.{ℕ, ◌+◌, ◌*◌, ◌-◌, ◌≤◌, ◌<◌}
-use native.Mathlib.Omega.{arith}
-use lib.ListN.{length, get_or, take}
+use mathlib.Core.Path.{◌≡◌}
+use Prim.Native.Nat.{◌+◌, ◌*◌, ◌-◌, ◌≤◌}
+use lib.ListN.{length, take}
 use Rattle.bits.specs.Part.{span, splice}
 use Rattle.rules.specs.Blocks.{need}
 use Rattle.state.specs.Layout.{joined, block_lists_at}
-use Rattle.sessions.proofs.Stored.{gather_none, gather-more, small_one}
-use borrow.Author.Rules.{rules}
 use Rattle.sessions.proofs.gathered.gather.Given as goal
 
 abbrev pub invariant-loop-j : goal.invariant-loop-j

@@ -1,7 +1,6 @@
 -- `gathered::lowest` meets its contract.
 use mathlib.Core.Path.{ap, ◌∙◌}
 use lib.Count.{count_trailing_zeros}
-use borrow.Author.Rules.{rules}
 use Rattle.sessions.proofs.gathered.lowest.Goals as goal
 
 pub returns : goal.returns

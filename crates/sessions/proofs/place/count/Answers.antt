@@ -1,6 +1,5 @@
 -- `place::count` meets its contract.
 use Rattle.state.specs.Layout.{count_at}
-use borrow.Author.Rules.{rules}
 use Rattle.sessions.proofs.place.count.Goals as goal
 
 pub returns : goal.returns

@@ -1,6 +1,5 @@
 -- `place::fill` meets its contract: the session's fields, and then the bytes.
 use Rattle.sessions.proofs.Stored.{appends-after, tail-after}
-use borrow.Author.Rules.{rules}
 use Rattle.sessions.proofs.place.fill.Goals as goal
 
 pub write-requires : goal.write-requires

@@ -1,6 +1,5 @@
 -- `place::key` meets its contract.
 use Rattle.state.specs.Layout.{key_at}
-use borrow.Author.Rules.{rules}
 use Rattle.sessions.proofs.place.key.Goals as goal
 
 pub returns : goal.returns

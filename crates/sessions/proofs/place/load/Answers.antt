@@ -2,7 +2,6 @@
 use native.Mathlib.Omega.{arith}
 use Rattle.state.specs.Layout.{count_at}
 use Rattle.sessions.proofs.Stored.{fields, loaded}
-use borrow.Author.Rules.{rules}
 use Rattle.sessions.proofs.place.load.Goals as goal
 
 pub returns : goal.returns

@@ -1,6 +1,5 @@
 -- `place::time` meets its contract.
 use Rattle.state.specs.Layout.{time_at}
-use borrow.Author.Rules.{rules}
 use Rattle.sessions.proofs.place.time.Goals as goal
 
 pub returns : goal.returns

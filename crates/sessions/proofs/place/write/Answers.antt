@@ -4,7 +4,6 @@ use Prim.Native.Nat.{◌<◌}
 use native.Mathlib.Omega.{arith}
 use Rattle.sessions.proofs.Stored.{codes}
 use Rattle.state.proofs.Written.{one-lt}
-use borrow.Author.Rules.{rules}
 use Rattle.sessions.proofs.place.write.Goals as goal
 use Rattle.sessions.proofs.place.write.Goals.{After-flags}
 

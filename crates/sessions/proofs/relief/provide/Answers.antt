@@ -3,7 +3,6 @@ use native.Mathlib.Omega.{arith}
 use Rattle.bits.proofs.Octets.{octets-all}
 use Rattle.sessions.proofs.Eased.{map-ready, map-view}
 use Rattle.sessions.proofs.Stale.{provided, emptied}
-use borrow.Author.Rules.{rules}
 use Rattle.sessions.proofs.relief.provide.Goals as goal
 
 pub lowest-requires : goal.lowest-requires

@@ -1,9 +1,8 @@
 -- `relief::relieve` meets its contract. The invariant: the first i places are relieved.
 use mathlib.Core.Path.{◌≡◌, refl, sym, ap, ◌∙◌}
-use Prim.Native.Nat.{ℕ, ◌-◌, ◌≤◌}
+use Prim.Native.Nat.{ℕ}
 use native.Mathlib.Numerals.{add-one}
 use native.Mathlib.Omega.{arith}
-use lib.ListN.{length}
 use Rattle.bits.proofs.Octets.{octets-all}
 use Rattle.rules.specs.Limits.{sessions_max}
 use Rattle.state.proofs.Good.{same-table}

@@ -1,14 +1,10 @@
-use mathlib.Core.Path.{◌≡◌, refl, sym, ap, ◌∙◌}
-use Prim.Native.Nat.{ℕ, ◌-◌, ◌≤◌}
-use native.Mathlib.Numerals.{add-one}
-use native.Mathlib.Omega.{arith}
+use mathlib.Core.Path.{◌≡◌}
+use Prim.Native.Nat.{◌-◌, ◌≤◌}
 use lib.ListN.{length}
-use Rattle.bits.proofs.Octets.{octets-all}
 use Rattle.rules.specs.Limits.{sessions_max}
-use Rattle.state.proofs.Good.{same-table}
 use Rattle.state.specs.Layout.{places_of}
 use Rattle.state.specs.Place.{written}
-use Rattle.sessions.proofs.Eased.{eased_to, one_more, eased-ready, eased-whole}
+use Rattle.sessions.proofs.Eased.{eased_to}
 use Rattle.sessions.proofs.relief.relieve.Given as goal
 
 abbrev pub invariant-loop-i : goal.invariant-loop-i

@@ -7,7 +7,6 @@ use Rattle.rules.specs.Table.{Place}
 use Rattle.state.specs.Layout.{places_of}
 use Rattle.state.specs.Place.{written}
 use Rattle.sessions.proofs.Stale.{stale-key, expected-of, waits-for, relieved-yes, relieved-no}
-use borrow.Author.Rules.{rules}
 use Rattle.sessions.proofs.relief.relieve_one.Goals as goal
 
 pub is_stale-requires : goal.is_stale-requires

@@ -9,7 +9,6 @@ use lib.Dec.{ltb}
 use Rattle.rules.specs.Limits.{old_age}
 use Rattle.sessions.specs.inside.Scan.{old_at}
 use Rattle.state.specs.Layout.{key_at, time_at}
-use borrow.Author.Rules.{rules}
 use Rattle.sessions.proofs.scan.is_old.Goals as goal
 
 module _ (m : List ℕ) (t i : ℕ) where

@@ -1,9 +1,7 @@
 -- `scan::lowest_old` meets its contract: no place passed is old.
-use mathlib.Core.Path.{◌≡◌, refl, sym, ◌∙◌}
-use Prim.Native.Nat.{◌-◌, ◌≤◌}
+use mathlib.Core.Path.{refl, sym, ◌∙◌}
 use native.Mathlib.Numerals.{add-one}
 use native.Mathlib.Omega.{arith}
-use Rattle.keys.specs.inside.Keys.{lowest}
 use Rattle.keys.proofs.Lowest.{hit, miss, none}
 use Rattle.rules.specs.Limits.{sessions_max}
 use Rattle.sessions.specs.inside.Scan.{old_at}

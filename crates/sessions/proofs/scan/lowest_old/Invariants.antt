@@ -1,9 +1,6 @@
-use mathlib.Core.Path.{◌≡◌, refl, sym, ◌∙◌}
+use mathlib.Core.Path.{◌≡◌}
 use Prim.Native.Nat.{◌-◌, ◌≤◌}
-use native.Mathlib.Numerals.{add-one}
-use native.Mathlib.Omega.{arith}
 use Rattle.keys.specs.inside.Keys.{lowest}
-use Rattle.keys.proofs.Lowest.{hit, miss, none}
 use Rattle.rules.specs.Limits.{sessions_max}
 use Rattle.sessions.specs.inside.Scan.{old_at}
 use Rattle.sessions.proofs.scan.lowest_old.Given as goal

@@ -9,7 +9,6 @@ use Rattle.sessions.specs.inside.Scan.{old_at, fits_at}
 use Rattle.sessions.specs.declared.scan.Want.{Want}
 use Rattle.sessions.specs.declared.scan.Want.TheVariants.{Key, Old}
 use Rattle.state.specs.Layout.{stream_keys_at, key_at}
-use borrow.Author.Rules.{rules}
 use Rattle.sessions.proofs.scan.scan.Goals as goal
 
 module _ (m : List ℕ) (w : Want) where

@@ -1,13 +1,11 @@
 -- `sound::claim` meets its contract. The invariant: the first j blocks were new.
 use mathlib.Core.Path.{◌≡◌, sym, ap, ◌∙◌}
-use mathlib.Core.Option.{some}
-use Prim.Native.Nat.{ℕ, ◌+◌, ◌*◌, ◌-◌, ◌≤◌}
+use Prim.Native.Nat.{ℕ, ◌+◌, ◌*◌}
 use native.Mathlib.Omega.{arith}
 use Rattle.bits.specs.Part.{span}
 use Rattle.sessions.specs.inside.Sound.{claimed, told}
 use Rattle.state.specs.Layout.{block_lists_at}
 use Rattle.sessions.proofs.Claims.{claim-none, claim-more, claim-fault, new-small}
-use borrow.Author.Rules.{rules}
 use Rattle.sessions.proofs.sound.claim.Goals as goal
 
 pub overflow_mul-at : goal.overflow_mul-at

@@ -1,12 +1,9 @@
-use mathlib.Core.Path.{◌≡◌, sym, ap, ◌∙◌}
+use mathlib.Core.Path.{◌≡◌}
 use mathlib.Core.Option.{some}
-use Prim.Native.Nat.{ℕ, ◌+◌, ◌*◌, ◌-◌, ◌≤◌}
-use native.Mathlib.Omega.{arith}
+use Prim.Native.Nat.{◌+◌, ◌*◌, ◌-◌, ◌≤◌}
 use Rattle.bits.specs.Part.{span}
-use Rattle.sessions.specs.inside.Sound.{claimed, told}
+use Rattle.sessions.specs.inside.Sound.{claimed}
 use Rattle.state.specs.Layout.{block_lists_at}
-use Rattle.sessions.proofs.Claims.{claim-none, claim-more, claim-fault, new-small}
-use borrow.Author.Rules.{rules}
 use Rattle.sessions.proofs.sound.claim.Given as goal
 
 abbrev pub invariant-loop-j : goal.invariant-loop-j

@@ -1,7 +1,6 @@
 -- `sound::claim_place` meets its contract, case by case.
 use mathlib.Core.Path.{sym, ◌∙◌}
 use Rattle.sessions.proofs.Listed.{none-claimed, no_stream, in-stream}
-use borrow.Author.Rules.{rules}
 use Rattle.sessions.proofs.sound.claim_place.Goals as goal
 
 pub returns-then-k-eq0 : goal.returns-then-k-eq0

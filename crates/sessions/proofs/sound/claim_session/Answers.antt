@@ -8,7 +8,6 @@ use Rattle.bits.proofs.Octets.{octets-all}
 use Rattle.state.specs.Layout.{count_at}
 use Rattle.sessions.proofs.Fits.{idle-is, busy-is}
 use Rattle.sessions.proofs.Listed.{idle-claimed, unfit-claimed, some-claimed, few-claimed}
-use borrow.Author.Rules.{rules}
 use Rattle.sessions.proofs.sound.claim_session.Goals as goal
 
 pub returns-then-idle_fits : goal.returns-then-idle_fits

@@ -18,7 +18,6 @@ use Rattle.sessions.proofs.Soundness.{whole}
 use Rattle.state.specs.Layout.{own_at, subscription_count_at, size, key_at, setup_of, subscription_at}
 use Rattle.bits.specs.Tabulate.{every}
 use Rattle.state.specs.Sound.{sound_state}
-use borrow.Author.Rules.{rules}
 use Rattle.sessions.proofs.sound.is_sound.Goals as goal
 
 module _ (m : List ℕ) where
