@@ -1,20 +1,20 @@
 -- Frames as the code makes them: what is unsent, piece by piece.
 use mathlib.Core.Path.{◌≡◌, refl, sym, ap, ap₂, ◌∙◌}
 use mathlib.Core.Bool.{Bool, true, false, not}
-use mathlib.Core.List.{List, [], ◌∷◌, ◌++◌, append_assoc, append-nil}
+use mathlib.Core.List.{List, [], ◌∷◌, ◌++◌, append-nil}
 use Prim.Native.Nat.{ℕ, zero, suc, ◌+◌, ◌*◌, ◌-◌, ◌/◌, ◌%◌, ◌^◌, ◌≤◌, ◌<◌}
 use native.Mathlib.Nat.{add-zero}
 use native.Mathlib.Omega.{arith}
 use borrow.Author.Tests.{le-leb, lt-leb, leb-true, leb-false}
 use lib.Dec.{leb}
-use lib.ListN.{length, take, drop, length-append, length-take, length-drop, take-append-drop}
+use lib.ListN.{length, take, drop, length-take, length-drop, take-append-drop}
 use lib.Seq.{take_all, length-take-le, drop-drop}
 use mir.Val.{bool_byte}
 use Rattle.bits.specs.Little.{le, le_bytes}
 use Rattle.bits.specs.Order.{Octets}
 use Rattle.bits.specs.Part.{splice}
-use Rattle.bits.proofs.Little.{length-le_bytes, le_bytes-padded, le-lt}
-use Rattle.bits.proofs.Octets.{octets-append, octets-take}
+use Rattle.bits.proofs.Little.{le-lt}
+use Rattle.bits.proofs.Octets.{octets-take}
 use Rattle.bits.proofs.Splice.{splice-splice}
 use Rattle.frame.proofs.Records.{record_is, framed-octets}
 use Rattle.checksum.specs.Crc16.{checksum}

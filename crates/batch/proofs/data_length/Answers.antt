@@ -4,7 +4,6 @@ use mathlib.Core.Bool.{Bool}
 use native.Mathlib.Omega.{arith}
 use borrow.Author.Tests.{lt-ltb, le-ltb}
 use Rattle.rules.specs.Tests.{pick}
-use borrow.Author.Rules.{rules}
 use Rattle.batch.proofs.data_length.Goals as goal
 
 pub returns-then-n-gt-FRAME_DATA : goal.returns-then-n-gt-FRAME_DATA

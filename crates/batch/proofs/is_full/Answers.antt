@@ -6,7 +6,6 @@ use native.Mathlib.Omega.{arith}
 use borrow.Author.Tests.{lt-ltb, le-ltb}
 use lib.Dec.{ltb}
 use Rattle.rules.specs.Limits.{payload_max}
-use borrow.Author.Rules.{rules}
 use Rattle.batch.proofs.is_full.Goals as goal
 
 pub returns-then-len-gt0 : goal.returns-then-len-gt0

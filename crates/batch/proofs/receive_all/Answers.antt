@@ -5,8 +5,7 @@ use native.Mathlib.Omega.{arith}
 use lib.ListN.{length}
 use borrow.Rule.Slice.PartMut.{put_mid}
 use Rattle.bits.specs.Part.{span}
-use borrow.Author.Rules.{rules}
-use Rattle.batch.proofs.Turns.{Going, at_first, at_last, part-lent, part-back, stopped, going}
+use Rattle.batch.proofs.Turns.{at_first, at_last, part-lent, part-back, stopped, going}
 use Rattle.batch.proofs.receive_all.Goals as goal
 
 pub loop-i-init : goal.loop-i-init

@@ -8,7 +8,6 @@ use lib.ListN.{length}
 use Rattle.batch.specs.Layout.{arrival_size, result_size, records_max, arrival_at}
 use Rattle.batch.specs.Many.{at_most, batch, told, received_many_if, received_many}
 use Rattle.bits.specs.Tabulate.{tabulate}
-use borrow.Author.Rules.{rules}
 use Rattle.batch.proofs.receive_many.Goals as goal
 
 -- as many records as there are, and as there is room for

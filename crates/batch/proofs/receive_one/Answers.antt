@@ -13,7 +13,6 @@ use Rattle.rules.specs.Frame.{Arrival}
 use Rattle.rules.specs.Reception.{step}
 use Rattle.state.specs.Layout.{setup_of, places_of}
 use Rattle.state.specs.Sound.{sound_state}
-use borrow.Author.Rules.{rules}
 use Rattle.batch.proofs.receive_one.Goals as goal
 use Rattle.batch.proofs.receive_one.Goals.{After-receive_sound}
 

@@ -8,7 +8,6 @@ use Rattle.bits.specs.Part.{splice}
 use Rattle.id_map.specs.Layout.{size}
 use Rattle.id_map.specs.Setup.{returned, after_setup}
 use Rattle.answers.specs.declared.Outcome.TheVariants.{Done, Short}
-use borrow.Author.Rules.{rules}
 use Rattle.id_map.proofs.setup.Goals as goal
 
 refused : (m : List ℕ) → length m < size → returned Short m ≡ after_setup m

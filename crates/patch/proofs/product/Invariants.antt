@@ -1,12 +1,5 @@
-use mathlib.Core.Path.{◌≡◌, sym, ap, ◌∙◌}
-use Prim.Native.Nat.{ℕ, suc, ◌+◌, ◌*◌, ◌-◌, ◌/◌, ◌%◌, ◌^◌, ◌≤◌, ◌<◌}
-use native.Mathlib.Omega.{arith}
-use borrow.Author.Rules.{rules}
-use lib.Bits.{bit_xor}
-use lib.Pow.{shr-shr}
-use Rattle.checksum.specs.Crc.{shift}
-use Rattle.checksum.specs.Crc16.{ccitt}
-use Rattle.checksum.proofs.Xor.{bit-cases, odd-lt}
+use mathlib.Core.Path.{◌≡◌}
+use Prim.Native.Nat.{◌-◌, ◌/◌, ◌^◌, ◌≤◌}
 use Rattle.patch.specs.inside.Powers.{product_of}
 use Rattle.patch.proofs.product.Given as goal
 

@@ -2,20 +2,18 @@
 use mathlib.Core.Path.{◌≡◌, sym, ap, ◌∙◌}
 use mathlib.Core.Bool.{false}
 use mathlib.Core.List.{List}
-use Prim.Native.Nat.{ℕ, ◌*◌, ◌≤◌}
+use Prim.Native.Nat.{ℕ}
 use native.Mathlib.Omega.{arith}
 use lib.ListN.{length}
-use Rattle.bits.specs.Order.{Octets}
 use Rattle.bits.specs.Part.{splice}
 use Rattle.bits.proofs.Octets.{octets-all}
-use Rattle.rules.specs.Sending.{Call, not_sendable, frame_count, records_of}
+use Rattle.rules.specs.Sending.{not_sendable, records_of}
 use Rattle.rules.specs.SendingLaws.{InRange}
 use Rattle.rules.specs.Sent.{sent}
 use Rattle.rules.proofs.Calls.{in-range}
 use Rattle.sender.specs.Send.{call_of, returned}
 use Rattle.sender.proofs.Pieces.{count_most}
 use Rattle.sender.proofs.Lent.{misfitting, too_long, too_small, responded, numbered, without-payload, same_id}
-use borrow.Author.Rules.{rules}
 use Rattle.sender.proofs.dispatch.Goals as goal
 use Rattle.sender.proofs.dispatch.Goals.{Else-not_sendable}
 

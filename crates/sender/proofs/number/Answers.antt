@@ -1,23 +1,20 @@
 -- `number` meets its contract: no place is left, or an entry is stored and the records are written.
 use mathlib.Core.Path.{◌≡◌, ap, ◌∙◌}
 use mathlib.Core.List.{List}
-use Prim.Native.Nat.{ℕ, ◌≤◌, ◌<◌}
+use Prim.Native.Nat.{ℕ, ◌<◌}
 use native.Mathlib.Omega.{arith}
-use lib.ListN.{length}
-use Rattle.bits.specs.Order.{Octets}
 use Rattle.bits.specs.Part.{splice}
 use Rattle.bits.proofs.Octets.{octets-all}
 use Rattle.id_map.specs.inside.Find.{place_or32}
-use Rattle.id_map.specs.Layout.{size, map_of, slot_at, with_slot}
+use Rattle.id_map.specs.Layout.{map_of, slot_at, with_slot}
 use Rattle.id_map.proofs.Soundness.{long-enough}
 use Rattle.rules.specs.Map as rules
 use Rattle.rules.specs.Map.{slot_for, used}
-use Rattle.rules.specs.Sending.{Call, topic_of, records_of}
+use Rattle.rules.specs.Sending.{topic_of, records_of}
 use Rattle.rules.specs.Sent.{sent}
 use Rattle.rules.specs.Session.{next}
 use Rattle.sender.specs.Send.{call_of}
 use Rattle.sender.proofs.Lent.{drawn-lt, no_place, stored, without-payload, same_id, key_in}
-use borrow.Author.Rules.{rules}
 use Rattle.sender.proofs.number.Goals as goal
 use Rattle.sender.proofs.number.Goals.{After-drawn-transfer, After-place-i}
 

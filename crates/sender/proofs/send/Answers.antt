@@ -2,7 +2,6 @@
 use mathlib.Core.Path.{sym, ◌∙◌}
 use Rattle.sender.specs.Send.{call_of, returned}
 use Rattle.sender.proofs.Lent.{faulty, faultless}
-use borrow.Author.Rules.{rules}
 use Rattle.sender.proofs.send.Goals as goal
 
 pub dispatch-requires : goal.dispatch-requires

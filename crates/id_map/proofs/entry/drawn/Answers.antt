@@ -10,7 +10,6 @@ use Rattle.id_map.specs.Layout.{key_at, next_at, time_at, topic_of_key, slot_at}
 use Rattle.id_map.proofs.Keys.{same_key}
 use Rattle.rules.specs.Map as rules
 use Rattle.rules.specs.Tests.{pick}
-use borrow.Author.Rules.{rules}
 use Rattle.id_map.proofs.entry.drawn.Goals as goal
 
 module _ (m : List ℕ) (i k : ℕ) where

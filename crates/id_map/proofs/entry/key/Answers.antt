@@ -1,6 +1,5 @@
 -- `entry::key` meets its contract.
 use Rattle.id_map.specs.Layout.{key_at}
-use borrow.Author.Rules.{rules}
 use Rattle.id_map.proofs.entry.key.Goals as goal
 
 pub returns : goal.returns

@@ -2,7 +2,6 @@
 use native.Mathlib.Omega.{arith}
 use Rattle.id_map.specs.Layout.{key_of}
 use Rattle.id_map.proofs.Keys.{topic-key}
-use borrow.Author.Rules.{rules}
 use Rattle.id_map.proofs.entry.key_of.Goals as goal
 
 pub returns : goal.returns

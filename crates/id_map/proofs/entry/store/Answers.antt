@@ -8,7 +8,6 @@ use Rattle.bits.specs.Part.{splice}
 use Rattle.id_map.specs.Layout.{topic_of_key, with_slot, keys_at, times_at, nexts_at}
 use Rattle.id_map.proofs.Keys.{key-topic}
 use Rattle.rules.specs.Map.{used}
-use borrow.Author.Rules.{rules}
 use Rattle.id_map.proofs.entry.store.Goals as goal
 
 stored : (m m₁ m₂ m₃ : List ℕ) (i k next time : ℕ) → k % 2 ≡ 1 → next < 256 → m₁ ≡ splice m (keys_at + i * 4) (le_bytes 4 k) → m₂ ≡ splice m₁ (times_at + i * 8) (le_bytes 8 time)

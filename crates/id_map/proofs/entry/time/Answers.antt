@@ -1,6 +1,5 @@
 -- `entry::time` meets its contract.
 use Rattle.id_map.specs.Layout.{time_at}
-use borrow.Author.Rules.{rules}
 use Rattle.id_map.proofs.entry.time.Goals as goal
 
 pub returns : goal.returns

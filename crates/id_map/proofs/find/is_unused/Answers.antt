@@ -6,7 +6,6 @@ use borrow.Author.Tests.{lt-leb}
 use lib.Dec.{leb}
 use Rattle.id_map.proofs.Seek.{none-unused, age-unused}
 use Rattle.rules.specs.Limits.{unused_age}
-use borrow.Author.Rules.{rules}
 use Rattle.id_map.proofs.find.is_unused.Goals as goal
 
 pub returns-then-key-eq0 : goal.returns-then-key-eq0

@@ -1,15 +1,9 @@
 -- `find::lowest_unused` meets its contract: no place passed is unused for long.
-use mathlib.Core.Path.{◌≡◌, refl, sym, ◌∙◌}
-use mathlib.Core.Bool.{Bool}
-use mathlib.Core.List.{List}
-use Prim.Native.Nat.{ℕ, ◌-◌, ◌≤◌}
+use mathlib.Core.Path.{refl, sym, ◌∙◌}
 use native.Mathlib.Numerals.{add-one}
 use native.Mathlib.Omega.{arith}
-use Rattle.id_map.specs.Layout.{slot_at}
-use Rattle.keys.specs.inside.Keys.{lowest}
 use Rattle.keys.proofs.Lowest.{hit, miss, none}
 use Rattle.rules.specs.Limits.{entries_max}
-use Rattle.rules.specs.Map.{is_unused}
 use Rattle.id_map.proofs.find.lowest_unused.Invariants.{unused}
 use Rattle.id_map.proofs.find.lowest_unused.Goals as goal
 

@@ -1,12 +1,9 @@
-use mathlib.Core.Path.{◌≡◌, refl, sym, ◌∙◌}
+use mathlib.Core.Path.{◌≡◌}
 use mathlib.Core.Bool.{Bool}
 use mathlib.Core.List.{List}
 use Prim.Native.Nat.{ℕ, ◌-◌, ◌≤◌}
-use native.Mathlib.Numerals.{add-one}
-use native.Mathlib.Omega.{arith}
 use Rattle.id_map.specs.Layout.{slot_at}
 use Rattle.keys.specs.inside.Keys.{lowest}
-use Rattle.keys.proofs.Lowest.{hit, miss, none}
 use Rattle.rules.specs.Limits.{entries_max}
 use Rattle.rules.specs.Map.{is_unused}
 use Rattle.id_map.proofs.find.lowest_unused.Given as goal

@@ -1,7 +1,6 @@
 -- `find::place` meets its contract, case by case.
 use native.Mathlib.Omega.{arith}
 use Rattle.id_map.proofs.Seek.{place_found, place-free, place-unused}
-use borrow.Author.Rules.{rules}
 use Rattle.id_map.proofs.find.place.Goals as goal
 
 pub returns-then-found-lt-MAP_ENTRIES : goal.returns-then-found-lt-MAP_ENTRIES

@@ -8,7 +8,6 @@ use Rattle.id_map.specs.inside.Sound.{empty_or_fits}
 use Rattle.id_map.proofs.Soundness.{sound-short, whole}
 use Rattle.keys.specs.inside.Keys.{distinct}
 use Rattle.rules.specs.Limits.{entries_max}
-use borrow.Author.Rules.{rules}
 use Rattle.id_map.proofs.sound.is_sound.Goals as goal
 
 pub returns-then-map-lt-SIZE : goal.returns-then-map-lt-SIZE

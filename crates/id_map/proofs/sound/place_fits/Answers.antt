@@ -8,7 +8,6 @@ use lib.Dec.{ltb}
 use Rattle.id_map.specs.Layout.{key_at, next_at, topic_of_key}
 use Rattle.id_map.specs.inside.Sound.{empty_or_fits}
 use Rattle.rules.specs.Map.{topic_fits}
-use borrow.Author.Rules.{rules}
 use Rattle.id_map.proofs.sound.place_fits.Goals as goal
 
 module _ (m : List ℕ) (i k : ℕ) (is : k ≡ key_at m i) where

@@ -1,15 +1,7 @@
-use mathlib.Core.Path.{◌≡◌, refl, sym, ◌∙◌}
-use mathlib.Core.Bool.{true}
-use mathlib.Core.List.{List}
-use Prim.Native.Nat.{ℕ, ◌-◌}
-use native.Mathlib.Omega.{arith}
-use borrow.Author.Tests.{eq-eqb}
+use Prim.Native.Nat.{◌-◌}
 use lib.ListN.{length}
-use Rattle.keys.proofs.Counts.{count-le}
-use Rattle.keys.proofs.Walk.{here, left-ok, as_long, table_at, Tested, begins, place, again, unfit, alike, ends}
-use Rattle.rules.specs.Limits.{entries_max}
+use Rattle.keys.proofs.Walk.{Tested}
 use Rattle.id_map.specs.inside.Sound.{empty_or_fits}
-use Rattle.id_map.specs.Layout.{key_at}
 use Rattle.id_map.proofs.sound.places_sound.Given as goal
 
 abbrev pub invariant-loop-left : goal.invariant-loop-left

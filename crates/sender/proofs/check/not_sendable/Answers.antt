@@ -2,7 +2,6 @@
 use mathlib.Core.Path.{sym, ◌∙◌}
 use Rattle.sender.specs.Send.{call_of}
 use Rattle.sender.proofs.NotSendable.{over-own, over-kind, off-aim, over-priority, over-transfer, unnamed, named}
-use borrow.Author.Rules.{rules}
 use Rattle.sender.proofs.check.not_sendable.Goals as goal
 
 pub returns-then-c-gt127 : goal.returns-then-c-gt127

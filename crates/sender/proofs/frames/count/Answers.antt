@@ -1,7 +1,6 @@
 -- `frames::count` meets its contract.
 use borrow.Author.Tests.{le-leb, lt-leb}
 use Rattle.rules.specs.Sending.{frame_count}
-use borrow.Author.Rules.{rules}
 use Rattle.sender.proofs.frames.count.Goals as goal
 
 pub returns-then-n-le-FRAME_PAYLOAD : goal.returns-then-n-le-FRAME_PAYLOAD

@@ -3,7 +3,6 @@ use Prim.Native.Nat.{◌+◌, ◌*◌, ◌/◌, ◌%◌, ◌^◌, ◌<◌}
 use native.Mathlib.Omega.{arith}
 use Rattle.bits.proofs.Octets.{octets-all}
 use Rattle.sender.proofs.Pieces.{first_fits, first-is}
-use borrow.Author.Rules.{rules}
 use Rattle.sender.proofs.frames.first.Goals as goal
 use Rattle.sender.proofs.frames.first.Goals.{After-word}
 

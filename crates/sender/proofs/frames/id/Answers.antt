@@ -1,17 +1,13 @@
 -- `frames::id` meets its contract, case by case.
 use mathlib.Core.Path.{◌≡◌, refl}
 use mathlib.Core.Bool.{Bool, true, false}
-use mathlib.Core.List.{[]}
 use Prim.Native.Nat.{◌≤◌, ◌<◌}
 use native.Mathlib.Omega.{arith}
 use borrow.Author.Tests.{eq-eqb, ne_eqb}
 use lib.Dec.{eqb}
 use mir.Val.{bool_byte}
 use Rattle.rules.specs.Sending.{anonymous_id}
-use Rattle.rules.specs.SendingLaws.{InRange}
 use Rattle.rules.specs.Sent.{flag, id_of}
-use Rattle.sender.specs.Send.{call_of}
-use borrow.Author.Rules.{rules}
 use Rattle.sender.proofs.frames.id.Goals as goal
 use Rattle.sender.proofs.frames.id.Goals.{Else-c-eq0-2, Then-c-eq0, Then-c-eq0-2}
 

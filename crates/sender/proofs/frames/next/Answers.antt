@@ -2,7 +2,6 @@
 use native.Mathlib.Omega.{arith}
 use Rattle.bits.proofs.Octets.{octets-all}
 use Rattle.sender.proofs.Pieces.{next_last, next-full}
-use borrow.Author.Rules.{rules}
 use Rattle.sender.proofs.frames.next.Goals as goal
 
 pub returns-then-left-le-FRAME_PAYLOAD : goal.returns-then-left-le-FRAME_PAYLOAD

@@ -1,13 +1,10 @@
-use mathlib.Core.Path.{◌≡◌, refl, sym, ap, ◌∙◌}
-use mathlib.Core.Bool.{Bool, true, false}
-use mathlib.Core.List.{List}
-use Prim.Native.Nat.{ℕ, ◌+◌, ◌*◌, ◌-◌, ◌/◌, ◌%◌, ◌≤◌, ◌<◌}
-use native.Mathlib.Omega.{arith}
-use lib.ListN.{length, drop, length-drop}
-use mir.Val.{bool_byte}
+use mathlib.Core.Path.{◌≡◌}
+use mathlib.Core.Bool.{true}
+use Prim.Native.Nat.{◌+◌, ◌*◌, ◌-◌, ◌/◌, ◌%◌, ◌≤◌}
+use lib.ListN.{length, drop}
 use Rattle.bits.specs.Part.{splice}
 use Rattle.rules.specs.Sending.{records_of}
-use Rattle.sender.proofs.Pieces.{onward, onward-end, splice-none, others-turn, others-are}
+use Rattle.sender.proofs.Pieces.{onward}
 use Rattle.sender.proofs.frames.others.Given as goal
 
 abbrev pub invariant-loop-k : goal.invariant-loop-k

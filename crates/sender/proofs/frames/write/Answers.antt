@@ -2,7 +2,6 @@
 use native.Mathlib.Omega.{arith}
 use lib.ListN.{length}
 use Rattle.sender.proofs.Pieces.{count-one, count-several, write-one, write-several}
-use borrow.Author.Rules.{rules}
 use Rattle.sender.proofs.frames.write.Goals as goal
 
 pub next-requires : goal.next-requires
