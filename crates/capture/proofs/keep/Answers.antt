@@ -1,5 +1,5 @@
 -- `keep` is safe and ends.
-use Rattle.std.proofs.Common.{◌≡◌, ◌-◌, ◌≤◌, length, refl, arith, rules}
+use Rattle.std.proofs.Common.{refl, arith}
 use Rattle.capture.proofs.keep.Goals as goal
 
 pub loop-i-init : goal.loop-i-init

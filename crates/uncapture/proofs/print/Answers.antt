@@ -1,5 +1,5 @@
 -- `print` is safe: a block has room for the lines of its records.
-use Rattle.std.proofs.Common.{length, arith, rules}
+use Rattle.std.proofs.Common.{length, arith}
 use borrow.Author.Tests.{not-false}
 use Rattle.capture_convert.proofs.Calls.{prints}
 use Rattle.uncapture.proofs.print.Goals as goal

@@ -1,4 +1,4 @@
-use Rattle.std.proofs.Common.{◌≡◌, length, rules}
+use Rattle.std.proofs.Common.{◌≡◌, length}
 use Rattle.uncapture.proofs.run.Given as goal
 
 abbrev pub invariant-loop-s : goal.invariant-loop-s
