@@ -8,9 +8,9 @@ use Rattle.blocks.specs.inside.Bit.{including_all}
 use Rattle.state.specs.Layout.{free_of, block_lists_at}
 use Rattle.sessions.proofs.Stored.{one_more, small_one}
 use Rattle.sessions.proofs.gathered.free_with.Goals as goal
-use Rattle.sessions.proofs.gathered.free_with.Goals.{After-shared_slice_known-in-loop-j-1}
+use Rattle.sessions.proofs.gathered.free_with.Goals.{In-loop-j}
 
-block : (c : After-shared_slice_known-in-loop-j-1) → get_or c.args.state.now (block_lists_at + c.args.i * 9 + c.loop-j.j) 0 < 64
+block : (c : In-loop-j) → get_or c.args.state.now (block_lists_at + c.args.i * 9 + c.loop-j.j) 0 < 64
 block c =
     let a = c.args in
     let p = c.requires in
@@ -36,10 +36,10 @@ pub bounds-state-at : goal.bounds-state-at
 bounds-state-at c = omega arith
 
 pub overflow_cast-state : goal.overflow_cast-state
-overflow_cast-state c = omega (arith, block (goal.at.overflow_cast-state c).After-shared_slice_known-in-loop-j-1)
+overflow_cast-state c = omega (arith, block (goal.at.overflow_cast-state c).In-loop-j)
 
 pub include-all-requires : goal.include-all-requires
-include-all-requires c = block (goal.at.include-all-requires c).After-shared_slice_known-in-loop-j-1
+include-all-requires c = block (goal.at.include-all-requires c).In-loop-j
 
 pub overflow_add-j : goal.overflow_add-j
 overflow_add-j c = omega arith

@@ -8,9 +8,9 @@ use Rattle.rules.specs.Blocks.{need}
 use Rattle.state.specs.Layout.{joined, block_lists_at}
 use Rattle.sessions.proofs.Stored.{gather_none, gather-more, small_one}
 use Rattle.sessions.proofs.gathered.gather.Goals as goal
-use Rattle.sessions.proofs.gathered.gather.Goals.{After-shared_slice_known-in-loop-j-1}
+use Rattle.sessions.proofs.gathered.gather.Goals.{In-loop-j}
 
-block : (c : After-shared_slice_known-in-loop-j-1) → get_or c.args.state.now (block_lists_at + c.args.i * 9 + c.loop-j.j) 0 < 64
+block : (c : In-loop-j) → get_or c.args.state.now (block_lists_at + c.args.i * 9 + c.loop-j.j) 0 < 64
 block c =
     let a = c.args in
     let p = c.requires in
@@ -35,13 +35,13 @@ pub bounds-state-at : goal.bounds-state-at
 bounds-state-at c = omega arith
 
 pub overflow_cast-from : goal.overflow_cast-from
-overflow_cast-from c = omega (arith, block (goal.at.overflow_cast-from c).After-shared_slice_known-in-loop-j-1)
+overflow_cast-from c = omega (arith, block (goal.at.overflow_cast-from c).In-loop-j)
 
 pub overflow_mul-from : goal.overflow_mul-from
-overflow_mul-from c = omega (arith, block (goal.at.overflow_mul-from c).After-shared_slice_known-in-loop-j-1)
+overflow_mul-from c = omega (arith, block (goal.at.overflow_mul-from c).In-loop-j)
 
 pub overflow_add-from-in-loop-j : goal.overflow_add-from-in-loop-j
-overflow_add-from-in-loop-j c = omega (arith, block (goal.at.overflow_add-from-in-loop-j c).After-shared_slice_known-in-loop-j-1)
+overflow_add-from-in-loop-j c = omega (arith, block (goal.at.overflow_add-from-in-loop-j c).In-loop-j)
 
 pub overflow_mul-j-in-loop-j : goal.overflow_mul-j-in-loop-j
 overflow_mul-j-in-loop-j c = omega arith
@@ -54,7 +54,7 @@ overflow_sub-n c = omega arith
 
 pub copy_span-requires : goal.copy_span-requires
 copy_span-requires c =
-    let k = block (goal.at.copy_span-requires c).After-shared_slice_known-in-loop-j-1 in
+    let k = block (goal.at.copy_span-requires c).In-loop-j in
     (omega (arith, k, c.chunk.ensures.0), omega (arith, c.chunk.ensures.1.0, c.loop-j.invariant.1.0))
 
 pub overflow_add-j : goal.overflow_add-j
