@@ -1,6 +1,5 @@
 -- `allocation::decode` meets its contract: what the message call gives, as words.
 use mathlib.Core.Path.{sym, ap, ◌∙◌}
-use borrow.Author.Rules.{rules}
 use Rattle.shape.specs.Answer.{map_answer}
 use Rattle.shape.specs.Shape.{decoded}
 use Rattle.protocol_dynamic_node_id.specs.Allocation.{allocation, allocation_of, answer_of}

@@ -1,5 +1,4 @@
 -- `allocation::encode` meets its contract: the message call on the row's numbers.
-use borrow.Author.Rules.{rules}
 use mathlib.Core.Path.{refl, ap, ◌∙◌}
 use native.Mathlib.Omega.{arith}
 use lib.IntN.{ℤ}

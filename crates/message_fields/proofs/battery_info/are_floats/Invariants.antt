@@ -1,8 +1,5 @@
 use Prim.Native.Nat.{ℕ, ◌-◌, ◌^◌, ◌≤◌, ◌<◌}
-use native.Mathlib.Omega.{arith}
-use borrow.Author.Count.{below_more}
 use lib.ListN.{get_or}
-use Rattle.message_fields.proofs.Floats.{all-floats, no-float}
 use Rattle.message_fields.proofs.battery_info.are_floats.Given as goal
 
 abbrev pub invariant-loop-i : goal.invariant-loop-i

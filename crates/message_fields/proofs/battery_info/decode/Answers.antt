@@ -1,5 +1,4 @@
 -- `battery_info::decode` meets its contract: what the message call gives, as words.
-use borrow.Author.Rules.{rules}
 use mathlib.Core.Path.{sym, ap, ◌∙◌}
 use Rattle.equipment_power.specs.BatteryInfo.{raw_in, raw_answer_of}
 use Rattle.message_fields.specs.BatteryInfo.{info_words}

@@ -1,5 +1,4 @@
 -- `battery_info::encode` meets its contract: the message call on the row's numbers; 17 for what is no float.
-use borrow.Author.Rules.{rules}
 use mathlib.Core.Path.{◌≡◌, refl, sym, ap, ◌∙◌}
 use mathlib.Core.Bool.{Bool, true, false, not}
 use mathlib.Core.List.{List}

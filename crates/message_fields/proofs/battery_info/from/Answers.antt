@@ -1,5 +1,4 @@
 -- `battery_info::from` meets its contract, number by number.
-use borrow.Author.Rules.{rules}
 use Rattle.row.proofs.Rows.{counted}
 use Rattle.message_fields.proofs.battery_info.from.Goals as goal
 

@@ -1,5 +1,4 @@
 -- `battery_info::half` meets its contract.
-use borrow.Author.Rules.{rules}
 use native.Mathlib.Omega.{arith}
 use Rattle.message_fields.proofs.Floats.{float_at}
 use Rattle.message_fields.proofs.battery_info.half.Goals as goal

@@ -1,5 +1,4 @@
 -- `battery_info::words` meets its contract, number by number.
-use borrow.Author.Rules.{rules}
 use mathlib.Core.Path.{refl}
 use Rattle.row.proofs.Rows.{word-of, then}
 use Rattle.message_fields.proofs.battery_info.words.Goals as goal

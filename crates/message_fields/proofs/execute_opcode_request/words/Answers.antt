@@ -1,5 +1,4 @@
 -- `execute_opcode_request::words` meets its contract, number by number.
-use borrow.Author.Rules.{rules}
 use mathlib.Core.Path.{refl}
 use Rattle.row.proofs.Rows.{word-of, then}
 use Rattle.message_fields.proofs.execute_opcode_request.words.Goals as goal

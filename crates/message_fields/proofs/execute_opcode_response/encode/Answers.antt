@@ -1,5 +1,4 @@
 -- `execute_opcode_response::encode` meets its contract: the message call on the row's numbers.
-use borrow.Author.Rules.{rules}
 use mathlib.Core.Path.{refl, ap, ◌∙◌}
 use native.Mathlib.Omega.{arith}
 use Rattle.shape.specs.Shape.{written}

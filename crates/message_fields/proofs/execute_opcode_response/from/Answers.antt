@@ -1,5 +1,4 @@
 -- `execute_opcode_response::from` meets its contract, number by number.
-use borrow.Author.Rules.{rules}
 use Rattle.row.proofs.Rows.{held, counted}
 use Rattle.message_fields.proofs.execute_opcode_response.from.Goals as goal
 

@@ -1,5 +1,4 @@
 -- `get_node_info_request::decode` meets its contract: what the message call gives.
-use borrow.Author.Rules.{rules}
 use mathlib.Core.Path.{refl, sym, ap, ◌∙◌}
 use mathlib.Core.List.{[]}
 use Rattle.shape.specs.Shape.{decoded}

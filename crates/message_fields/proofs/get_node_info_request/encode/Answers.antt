@@ -1,5 +1,4 @@
 -- `get_node_info_request::encode` meets its contract: the message call.
-use borrow.Author.Rules.{rules}
 use mathlib.Core.Path.{refl}
 use native.Mathlib.Omega.{arith}
 use Rattle.protocol.specs.GetNodeInfoRequest.{request}

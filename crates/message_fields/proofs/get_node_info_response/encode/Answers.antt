@@ -1,5 +1,4 @@
 -- `get_node_info_response::encode` meets its contract: the message call on the row's numbers.
-use borrow.Author.Rules.{rules}
 use mathlib.Core.Path.{refl, ap, ◌∙◌}
 use native.Mathlib.Omega.{arith}
 use Rattle.bits.specs.Width.{width_of, width_in}

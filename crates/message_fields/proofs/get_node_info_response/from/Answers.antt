@@ -1,5 +1,4 @@
 -- `get_node_info_response::from` meets its contract, part by part.
-use borrow.Author.Rules.{rules}
 use Rattle.row.proofs.Rows.{counted}
 use Rattle.message_fields.proofs.get_node_info_response.from.Goals as goal
 

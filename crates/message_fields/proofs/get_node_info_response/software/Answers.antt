@@ -1,5 +1,4 @@
 -- `get_node_info_response::software` meets its contract, number by number.
-use borrow.Author.Rules.{rules}
 use Rattle.row.proofs.Rows.{counted}
 use Rattle.message_fields.proofs.get_node_info_response.software.Goals as goal
 

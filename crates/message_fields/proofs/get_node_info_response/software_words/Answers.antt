@@ -1,5 +1,4 @@
 -- `get_node_info_response::software_words` meets its contract, number by number.
-use borrow.Author.Rules.{rules}
 use mathlib.Core.Path.{refl}
 use Rattle.row.proofs.Rows.{word-of, then}
 use Rattle.message_fields.proofs.get_node_info_response.software_words.Goals as goal

@@ -1,5 +1,4 @@
 -- `get_node_info_response::words` meets its contract: the words of its parts, one after the other.
-use borrow.Author.Rules.{rules}
 use mathlib.Core.Path.{refl}
 use Rattle.row.proofs.Rows.{word-of, then, at}
 use Rattle.message_fields.proofs.get_node_info_response.words.Goals as goal

@@ -1,5 +1,4 @@
 -- `get_set_request::encode` meets its contract: the message call on the row's index and value; 17 for a real that is no float.
-use borrow.Author.Rules.{rules}
 use mathlib.Core.Path.{refl, sym, ap, ◌∙◌}
 use native.Mathlib.Omega.{arith}
 use lib.IntN.{ℤ}

@@ -1,5 +1,4 @@
 -- `get_set_request::words` meets its contract.
-use borrow.Author.Rules.{rules}
 use Rattle.row.proofs.Rows.{word-of, then}
 use Rattle.message_fields.proofs.Values.{spread}
 use Rattle.message_fields.proofs.get_set_request.words.Goals as goal

@@ -1,6 +1,5 @@
 -- `get_set_response::decode` meets its contract: what the message call gives, as words.
 use mathlib.Core.Path.{sym, ap, ◌∙◌}
-use borrow.Author.Rules.{rules}
 use Rattle.shape.specs.Answer.{map_answer}
 use Rattle.shape.specs.Shape.{decoded}
 use Rattle.protocol_param.specs.GetSetResponse.{response, response_of, answer_of}

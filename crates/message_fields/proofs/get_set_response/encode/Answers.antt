@@ -1,5 +1,4 @@
 -- `get_set_response::encode` meets its contract: the message call on the row's values; 27 or 17 for a real that is no float.
-use borrow.Author.Rules.{rules}
 use mathlib.Core.Path.{refl, sym, ap, ◌∙◌}
 use native.Mathlib.Omega.{arith}
 use Rattle.bits.specs.Width.{width_of, width_in}

@@ -1,5 +1,4 @@
 -- `get_set_response::is_too_large` meets its contract, value by value.
-use borrow.Author.Rules.{rules}
 use Rattle.message_fields.proofs.get_set_response.is_too_large.Goals as goal
 
 pub returns : goal.returns

@@ -1,5 +1,4 @@
 -- `get_set_response::words` meets its contract: the words of its values, one after the other.
-use borrow.Author.Rules.{rules}
 use mathlib.Core.Path.{ap, ◌∙◌}
 use mathlib.Core.List.{List, ◌++◌}
 use Prim.Native.Nat.{ℕ}

@@ -1,6 +1,5 @@
 -- `key_value::decode` meets its contract: what the message call gives, as words.
 use mathlib.Core.Path.{sym, ap, ◌∙◌}
-use borrow.Author.Rules.{rules}
 use Rattle.shape.specs.Answer.{map_answer}
 use Rattle.shape.specs.Shape.{decoded}
 use Rattle.protocol_debug.specs.KeyValue.{key_value, key_value_of, answer_of}

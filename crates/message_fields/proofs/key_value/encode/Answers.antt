@@ -1,5 +1,4 @@
 -- `key_value::encode` meets its contract: the message call on the row's float; 17 for what is none.
-use borrow.Author.Rules.{rules}
 use mathlib.Core.Path.{◌≡◌, refl}
 use mathlib.Core.List.{List}
 use Prim.Native.Nat.{ℕ, ◌^◌, ◌≤◌}

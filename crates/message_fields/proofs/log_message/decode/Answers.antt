@@ -1,6 +1,5 @@
 -- `log_message::decode` meets its contract: what the message call gives, as words.
 use mathlib.Core.Path.{sym, ap, ◌∙◌}
-use borrow.Author.Rules.{rules}
 use Rattle.shape.specs.Answer.{map_answer}
 use Rattle.shape.specs.Shape.{decoded}
 use Rattle.protocol_debug.specs.LogMessage.{log_message, log_message_of, answer_of}

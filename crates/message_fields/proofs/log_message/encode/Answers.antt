@@ -1,5 +1,4 @@
 -- `log_message::encode` meets its contract: the message call on the row's level.
-use borrow.Author.Rules.{rules}
 use mathlib.Core.Path.{refl, ap, ◌∙◌}
 use native.Mathlib.Omega.{arith}
 use lib.IntN.{ℤ}

@@ -1,5 +1,4 @@
 -- `log_message::words` meets its contract.
-use borrow.Author.Rules.{rules}
 use mathlib.Core.Path.{refl}
 use Rattle.row.proofs.Rows.{word-of, then}
 use Rattle.message_fields.proofs.log_message.words.Goals as goal

@@ -1,6 +1,5 @@
 -- `node_status::decode` meets its contract: what the message call gives, as words.
 use mathlib.Core.Path.{sym, ap, ◌∙◌}
-use borrow.Author.Rules.{rules}
 use Rattle.shape.specs.Answer.{map_answer}
 use Rattle.shape.specs.Shape.{end, decoded}
 use Rattle.protocol.specs.NodeStatus.{node_status, status_of, answer_of}

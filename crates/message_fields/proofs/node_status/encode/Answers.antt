@@ -1,7 +1,6 @@
 -- `node_status::encode` meets its contract: the message call on the row's numbers.
 use mathlib.Core.Path.{refl, ap, ◌∙◌}
 use native.Mathlib.Omega.{arith}
-use borrow.Author.Rules.{rules}
 use Rattle.shape.specs.Shape.{end, written}
 use Rattle.protocol.specs.NodeStatus.{node_status, status_values}
 use Rattle.protocol.specs.declared.node_status.NodeStatus.{NodeStatus}

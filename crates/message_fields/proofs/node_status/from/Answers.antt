@@ -1,5 +1,4 @@
 -- `node_status::from` meets its contract, number by number.
-use borrow.Author.Rules.{rules}
 use Rattle.row.proofs.Rows.{counted}
 use Rattle.message_fields.proofs.node_status.from.Goals as goal
 

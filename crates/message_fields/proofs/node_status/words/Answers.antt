@@ -1,6 +1,5 @@
 -- `node_status::words` meets its contract, number by number.
 use mathlib.Core.Path.{refl}
-use borrow.Author.Rules.{rules}
 use Rattle.row.proofs.Rows.{word-of, then}
 use Rattle.message_fields.proofs.node_status.words.Goals as goal
 

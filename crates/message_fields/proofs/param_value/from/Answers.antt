@@ -1,5 +1,4 @@
 -- `param_value::from` meets its contract: what is given for each case, of which the tag names one.
-use borrow.Author.Rules.{rules}
 use mathlib.Core.Path.{refl, ◌∙◌}
 use Rattle.row.proofs.Rows.{held, counted}
 use Rattle.message_fields.proofs.Values.{made}

@@ -1,5 +1,4 @@
 -- `param_value::is_too_large` meets its contract.
-use borrow.Author.Rules.{rules}
 use native.Mathlib.Omega.{arith}
 use Rattle.message_fields.proofs.Values.{not-real, of-real}
 use Rattle.message_fields.proofs.param_value.is_too_large.Goals as goal

@@ -1,5 +1,4 @@
 -- `param_value::words` meets its contract, case by case.
-use borrow.Author.Rules.{rules}
 use mathlib.Core.Path.{refl, sym, subst, ap, ◌∙◌}
 use Rattle.protocol_param.proofs.WriteFacts.{Held, held}
 use Rattle.message_fields.specs.GetSet.{value_words}

@@ -1,11 +1,10 @@
 -- `raw_command::decode` meets its contract: what the message call gives, as words.
-use borrow.Author.Rules.{rules}
-use mathlib.Core.Path.{◌≡◌, refl, sym, ap, ◌∙◌}
-use mathlib.Core.Bool.{Bool, true, false, not}
+use mathlib.Core.Path.{◌≡◌, sym, ap, ◌∙◌}
+use mathlib.Core.Bool.{Bool, true, false}
 use mathlib.Core.List.{List}
 use Prim.Native.Nat.{ℕ}
 use native.Mathlib.Omega.{arith}
-use Rattle.shape.specs.Answer.{Answer, refused, got, numbered, refuse_if, map_answer}
+use Rattle.shape.specs.Answer.{Answer, refused, got, numbered, refuse_if}
 use Rattle.shape.specs.Shape.{decode, decoded}
 use Rattle.shape.proofs.Reading.{refused-from}
 use Rattle.equipment_esc.specs.RawCommand.{raw_command, command_of, command_in, read_of}

@@ -1,16 +1,10 @@
-use mathlib.Core.Path.{◌≡◌, refl, sym, ap, ◌∙◌}
-use mathlib.Core.List.{List, ◌++◌, map}
-use Prim.Native.Nat.{ℕ, ◌+◌, ◌-◌, ◌≤◌, ◌<◌}
-use native.Mathlib.Omega.{arith}
-use borrow.Author.Rules.{rules}
-use lib.IntN.{ℤ, pos}
-use lib.ListN.{length, take, drop, get_or, replicate}
-use lib.Seq.{get_or-take, get_or-drop}
+use mathlib.Core.Path.{◌≡◌}
+use mathlib.Core.List.{◌++◌, map}
+use Prim.Native.Nat.{◌-◌, ◌≤◌}
+use lib.IntN.{pos}
+use lib.ListN.{take, replicate}
 use Rattle.bits.specs.Part.{span}
-use Rattle.bits.proofs.Splice.{length-span}
 use Rattle.shape.specs.Signed.{signed_of}
-use Rattle.equipment_esc.proofs.RawCommandFacts.{mapped, all-mapped}
-use Rattle.row.proofs.Rows.{held}
 use Rattle.message_fields.proofs.raw_command.from.Given as goal
 
 abbrev pub invariant-loop-i : goal.invariant-loop-i

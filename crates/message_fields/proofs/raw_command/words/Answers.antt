@@ -1,12 +1,12 @@
 -- `raw_command::words` meets its contract. The invariant: the count, and the words of the first i numbers, stand in front.
 use mathlib.Core.Path.{◌≡◌, refl, ap, ◌∙◌}
-use mathlib.Core.List.{List, ◌∷◌, ◌++◌, map}
-use Prim.Native.Nat.{ℕ, suc, ◌+◌, ◌-◌, ◌≤◌, ◌<◌}
+use mathlib.Core.List.{List, ◌∷◌}
+use Prim.Native.Nat.{ℕ, ◌+◌, ◌<◌}
 use native.Mathlib.Numerals.{add-one}
 use native.Mathlib.Omega.{arith}
 use borrow.Author.Rules.{rules}
 use lib.IntN.{ℤ, pos}
-use lib.ListN.{length, take, get_or, set, replicate}
+use lib.ListN.{length, get_or, set}
 use Rattle.equipment_esc.proofs.RawCommandFacts.{mapped, all-mapped}
 use Rattle.row.specs.Row.{word}
 use Rattle.row.proofs.Rows.{word-of}

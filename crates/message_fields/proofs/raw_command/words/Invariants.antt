@@ -1,14 +1,9 @@
-use mathlib.Core.Path.{◌≡◌, refl, ap, ◌∙◌}
+use mathlib.Core.Path.{◌≡◌}
 use mathlib.Core.List.{List, ◌∷◌, ◌++◌, map}
-use Prim.Native.Nat.{ℕ, suc, ◌+◌, ◌-◌, ◌≤◌, ◌<◌}
-use native.Mathlib.Numerals.{add-one}
-use native.Mathlib.Omega.{arith}
-use borrow.Author.Rules.{rules}
-use lib.IntN.{ℤ, pos}
-use lib.ListN.{length, take, get_or, set, replicate}
-use Rattle.equipment_esc.proofs.RawCommandFacts.{mapped, all-mapped}
+use Prim.Native.Nat.{ℕ, ◌-◌, ◌≤◌}
+use lib.IntN.{ℤ}
+use lib.ListN.{take, get_or, replicate}
 use Rattle.row.specs.Row.{word}
-use Rattle.row.proofs.Rows.{word-of}
 use Rattle.message_fields.proofs.raw_command.words.Given as goal
 
 -- the words of the first i, and zeros
