@@ -1,9 +1,11 @@
 -- `main` lends buffers of the lengths that are asked.
-use Prim.Native.Nat.{ℕ}
+use Rattle.std.proofs.Common.{ℕ, sym}
 use lib.ListN.{length-replicate}
-use borrow.Author.Rules.{rules}
 use Rattle.state.specs.Layout.{size}
 use Rattle.log_program.proofs.main.Goals as goal
 
+pub slice_bounds-whole-end-3 : goal.slice_bounds-whole-end-3
+slice_bounds-whole-end-3 c = sym (length-replicate {A = ℕ} 656560 0)
+
 pub whole-requires : goal.whole-requires
-whole-requires g c = (length-replicate {A = ℕ} size 0, (length-replicate {A = ℕ} 8192 0, length-replicate {A = ℕ} 656560 0))
+whole-requires c = (length-replicate {A = ℕ} size 0, (length-replicate {A = ℕ} 8192 0, length-replicate {A = ℕ} 656560 0))
