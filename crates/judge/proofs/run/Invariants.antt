@@ -1,4 +1,4 @@
-use Rattle.std.proofs.Common.{◌≡◌, length, rules}
+use Rattle.std.proofs.Common.{◌≡◌, length}
 use Rattle.judge_streams.specs.inside.Table.{Table}
 use Rattle.judge.proofs.run.Given as goal
 

@@ -1,5 +1,5 @@
 -- `show_frame` is safe: a line has at most 47 bytes.
-use Rattle.std.proofs.Common.{arith, rules}
+use Rattle.std.proofs.Common.{arith}
 use Rattle.capture_convert.proofs.Calls.{prints}
 use Rattle.judge.proofs.fault.show_frame.Goals as goal
 
