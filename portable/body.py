@@ -10,6 +10,7 @@ import re
 
 from copies import LARGE
 from exprs import Expr, mixed
+from idioms import library
 from layout import Lines, fold
 from mir import Place, mentions, refuse, target, whole
 from returns import ends
@@ -130,7 +131,7 @@ class Body(Values):
     def do_assign(self, s, _):
         type_ = self.place_type(s[1])[0]
         if type_ == ('unit',):
-            if s[2] != ('opd', ('unit',)):
+            if s[2][0] != 'opd':
                 refuse('a unit value', s[2])
             return
         self.assign(s[1], self.value(s[2], type_))
@@ -198,6 +199,19 @@ class Body(Values):
             refuse('the result of a call to a part', s)
         else:
             self.assign(place, self.convert(e, self.types[place.local]))
+
+    def do_library(self, s, _):
+        """A method of slices: to, and from what or with what."""
+        _, name, operands = s
+        to, other = map(self.operand, operands)
+        self.separate([to, other])
+        item = to.type[2]
+        wanted = ('slice', 'imm', item) if name == 'copy' else item
+        called, text = library(name, self.shapes.c_type(to.type), self.shapes.c_type(wanted), self.shapes.short(item))
+        self.program.helpers |= {text}
+        e = mixed(Expr(f'{called}({to.text}, {self.convert(other, wanted).text})', ('unit',), 'calls'), to, other)
+        self.flush()
+        self.lines.put(e.text + ';')
 
     def argument(self, e, k, callee):
         """e as the k-th argument of a call. A lent one is a pointer: to a local that only the caller can change, which waits for the call.

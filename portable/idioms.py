@@ -37,6 +37,15 @@ def copy(function, shapes):
     return fold(head) + f'\n{{\n    memcpy({to}.ptr, {source}.ptr, {source}.len);\n}}'
 
 
+def library(name, to, other, item):
+    """The C name and the text of a method of slices."""
+    if name == 'copy':
+        lines = ['memcpy(to.ptr, from.ptr, from.len * sizeof *from.ptr);' if item != 'u8' else 'memcpy(to.ptr, from.ptr, from.len);']
+        return f'copy_{item}', '\n'.join([f'static void copy_{item}({to} to, {other} from)', '{', *(f'    {one}' for one in lines), '}'])
+    lines = ['memset(to.ptr, with, to.len);'] if item == 'u8' else ['size_t i;', '', 'for (i = 0; i < to.len; i++) {', '    to.ptr[i] = with;', '}']
+    return f'fill_{item}', '\n'.join([f'static void fill_{item}({to} to, {other} with)', '{', *(f'    {one}' if one else '' for one in lines), '}'])
+
+
 # Compilers for machines that may not be asked for four bytes at any address do not see that four bytes in a row are one number. memcpy they do.
 FOUR_BYTES = '''/* A number of 32 bits in four bytes, low byte first: as it is in the memory of most machines, else byte by byte. */
 #if defined(__BYTE_ORDER__) && defined(__ORDER_LITTLE_ENDIAN__) && __BYTE_ORDER__ == __ORDER_LITTLE_ENDIAN__

@@ -8,9 +8,11 @@ Terms as this translator uses them:
              ('aggregate', operands), ('repeat', operand, count) or ('static', type, numbers), which lends an array of constants; an operator
              is (name, argument...)
   statement  ['assign', place, value], ['call', symbol, operands, place], ['if', operand, body, body], ['exit', depth], ['return'],
-             ['switch', operand, [(keys, body)...], body or None], ['block', body] or ['loop', body]; a body is a list of statements
+             ['switch', operand, [(keys, body)...], body or None], ['block', body], ['loop', body] or ['library', name, operands], a call of one of
+             LIBRARY; a body is a list of statements
   type       ('int', width), ('bool',), ('unit',), ('raw',), ('ref', 'imm' or 'mut', type), ('slice', 'imm' or 'mut', type),
-             ('array', type, length) or ('named', symbol). Lifetimes are dropped: the machine of the proofs does not read them.
+             ('array', type, length) or ('named', symbol). Lifetimes are dropped: the machine of the proofs does not read them. A type with
+             parameters has a symbol for each choice of them: Option_u64 is Option<u64>.
 
 What is not listed here is an error that names it, never a guess."""
 import json
@@ -41,22 +43,55 @@ def split(term):
     return name, argument
 
 
-def read_type(term):
+LIBRARY = {'core::slice::edits::slice+T::copy_from_slice': 'copy', 'core::slice::edits::slice+T::fill': 'fill'}
+GENERIC = {}    # a type with parameters: what declares it
+INSTANCES = {}  # symbol of such a type at types: its name and the types
+# what `?` makes of a refusal before it returns it: the error alone, or nothing
+RESIDUAL = {'core::result::ErrResidual': lambda types: types[0], 'core::option::NoValue': lambda _: ('unit',)}
+
+
+def word(t):
+    """A type as a part of a name."""
+    if t[0] == 'int':
+        return f'u{t[1]}'
+    if t[0] in ('bool', 'unit'):
+        return t[0]
+    if t[0] in ('ref', 'slice'):
+        return f'{t[0]}_{"mut_" if t[1] == "mut" else ""}{word(t[2])}'
+    if t[0] == 'array':
+        return f'array_{word(t[1])}_{t[2]}'
+    return t[1].replace('::', '_') if t[0] == 'named' else refuse('a type at the type', t)
+
+
+def instance(name, types):
+    """The symbol of a type with parameters at these types."""
+    head = 'Tuple' if name.strip('(,)') == '' else name.split('::')[-1] if name.startswith('core::') else name
+    symbol = '_'.join([head, *map(word, types)])
+    if INSTANCES.setdefault(symbol, (name, types)) != (name, types):
+        refuse('two types of one name', symbol)
+    return symbol
+
+
+def read_type(term, given=()):
+    """given: what the parameters of the declared type stand for in which the term is."""
     name, argument = split(term)
     if name in ('Bool', 'Unit', 'Ptr'):
         return ({'Bool': 'bool', 'Unit': 'unit', 'Ptr': 'raw'}[name],)
     if name == 'Int' and argument in (8, 16, 32, 64):
         return ('int', argument)
     if name == 'Ref':
-        return ('ref', argument[1].lower(), read_type(argument[2]))
+        return ('ref', argument[1].lower(), read_type(argument[2], given))
     if name == 'Array' and argument[1].get('Lit', 0) > 0:
-        return ('array', read_type(argument[0]), argument[1]['Lit'])
+        return ('array', read_type(argument[0], given), argument[1]['Lit'])
     if name == 'Struct' and argument[0] == '&[]':
-        pointer, length = map(read_type, argument[1])
+        pointer, length = (read_type(t, given) for t in argument[1])
         if pointer[0] == 'ref' and length == ('int', 64):
             return ('slice',) + pointer[1:]
-    if name == 'Named' and not argument[0]['lifetimes'] and not argument[1]:
-        return ('named', argument[0]['name'])
+    if name == 'Param' and argument < len(given):
+        return given[argument]
+    if name == 'Named' and not argument[0]['lifetimes']:
+        symbol, types = argument[0]['name'], tuple(read_type(t, given) for t in argument[1])
+        return RESIDUAL[symbol](types) if symbol in RESIDUAL else ('named', instance(symbol, types) if types else symbol)
     return refuse('the type', term)
 
 
@@ -110,12 +145,21 @@ def read_value(term):
     return refuse('the value', term)
 
 
-def read_callee(term):
-    """The symbol of a function that is called by its name, and is no generic one."""
+def read_call(term, operands, place):
+    """A call of a function by its name, which is no generic one but for those of LIBRARY and the two that `?` calls."""
     name, argument = split(term)
-    if name == 'Fn' and not argument[1]['types'] and not argument[1]['dicts']:
-        return argument[0]
-    return refuse('the call of', term)
+    if name != 'Fn':
+        return refuse('the call of', term)
+    symbol, given = argument
+    if symbol in LIBRARY:
+        return ['library', LIBRARY[symbol], operands]
+    if symbol in BRANCH:
+        return ['branch', symbol, operands[0], place]
+    if symbol in FROM_RESIDUAL:
+        return ['residual', FROM_RESIDUAL[symbol], [split(one)[1][0] for one in given['dicts']], operands[0], place]
+    if given['types'] or given['dicts']:
+        return refuse('the call of', term)
+    return ['call', symbol, operands, place]
 
 
 def read_static(type_term, term):
@@ -144,7 +188,7 @@ def read_body(terms):
     if name == 'Exit':
         return [['exit', argument]]
     if name == 'Call':
-        return [['call', read_callee(argument[0]), tuple(map(read_operand, argument[1])), read_place(argument[2])]]
+        return [read_call(argument[0], tuple(map(read_operand, argument[1])), read_place(argument[2]))]
     if name == 'LendStatic':
         return [['assign', read_place(argument[0]), read_static(*argument[1:])]]
     if name == 'Switch':
@@ -154,19 +198,84 @@ def read_body(terms):
     return refuse('the statement', term)
 
 
-def read_shape(shape):
-    """A declared type: ('fields', types) or ('variants', types of each)."""
+def read_shape(shape, given=()):
+    """A declared type: ('fields', types) or ('variants', types of each). A variant whose only field is a unit has none."""
     name, argument = split(shape)
     if name == 'Fields':
-        return ('fields', [read_type(t) for t in argument])
+        return ('fields', [read_type(t, given) for t in argument])
     if name == 'Variants':
-        return ('variants', [[read_type(t) for t in fields] for fields in argument])
+        variants = [[read_type(t, given) for t in fields] for fields in argument]
+        return ('variants', [[] if types == [('unit',)] else types for types in variants])
     return refuse('the declared type', shape)
 
 
 def is_plain(declared):
-    """A declared type without parameters."""
-    return declared['lifetimes'] == 0 and declared['type_params'] == 0 and not declared['const_params']
+    """A declared type without parameters but types."""
+    return declared['lifetimes'] == 0 and not declared['const_params']
+
+
+def instances():
+    """Each type with parameters at the types that it was met at."""
+    found = {}
+    while len(found) < len(INSTANCES):
+        for symbol, (name, types) in list(INSTANCES.items()):
+            found[symbol] = read_shape(GENERIC[name], types) if name in GENERIC else ('unknown',)
+    return found
+
+
+# ---- `?`: `branch` tells whether to go on, a switch asks it, and `from_residual` makes the function's own refusal
+
+BRANCH = {'core::result::ResultTry::branch': (0, 1), 'core::option::OptionTry::branch': (1, 0)}  # the variants to go on with and to leave with
+FROM_RESIDUAL = {'core::result::ResultFromResidualErrResidual::from_residual': 1, 'core::option::OptionFromResidualNoValue::from_residual': 0}
+
+
+def moved(term, local, place, keys):
+    """The term with another place in place of a local, whose variants have other numbers there."""
+    if isinstance(term, Place) and term.local == local:
+        (kind, k), *rest = term.steps
+        if kind != 'variant':
+            refuse('a part of', term)
+        return Place(place.local, place.steps + (('variant', keys[k]), *rest))
+    if isinstance(term, (list, tuple)) and not isinstance(term, Place):
+        return type(term)(moved(part, local, place, keys) for part in term)
+    return term
+
+
+def asked(body):
+    """The body without `branch`: the switch behind it asks the value itself."""
+    made = []
+    rest = list(body)
+    while rest:
+        s = rest.pop(0)
+        if s[0] == 'branch':
+            keys = BRANCH[s[1]]
+            if s[2][0] != 'copy' or not rest or rest[0][0] != 'switch' or s[3].steps:
+                refuse('a ? of', s)
+            _, number, arms, default = rest[0]
+            arms = [([keys[k] for k in ks], arm) for ks, arm in arms]
+            rest = moved([['switch', number, arms, default], *rest[1:]], s[3].local, s[2][1], keys)
+            continue
+        if s[0] == 'residual':
+            made += residual(s)
+            continue
+        made.append([asked(part) if is_body(part) else [(ks, asked(arm)) for ks, arm in part] if is_arms(part) else part for part in s])
+    return made
+
+
+def residual(s):
+    """The refusal that `?` returns: the variant of its own, with the error as it is."""
+    _, k, conversions, operand, place = s
+    if any(one != 'core::convert::AnyFrom' for one in conversions):
+        refuse('a ? that converts by', conversions)
+    return [['assign', place, ('aggregate', (('int', 8, k), operand)[:1 + k])]]
+
+
+def is_body(part):
+    return isinstance(part, list) and all(isinstance(s, list) for s in part)
+
+
+def is_arms(part):
+    return isinstance(part, list) and all(isinstance(arm, tuple) for arm in part)
 
 
 class Function:
@@ -175,12 +284,14 @@ class Function:
         self.types = [read_type(one['ty']) for one in term['locals']]
         self.in_memory = [one['home'] == 'MemorySlot' for one in term['locals']]
         terms = iter(term['body'])
-        self.body = read_body(terms)
+        self.body = asked(read_body(terms))
         if next(terms, None) is not None:
             refuse('a body with a rest', symbol)
         if term['generics']['types'] or term['generics']['bounds']:
             refuse('the generic function', symbol)
-        self.declared = {one['name']: read_shape(one['shape']) for one in term['types'] if is_plain(one)}
+        plain = [one for one in term['types'] if is_plain(one)]
+        self.declared = {one['name']: read_shape(one['shape']) for one in plain if one['type_params'] == 0}
+        GENERIC.update({one['name']: one['shape'] for one in plain if one['type_params'] > 0})
         self.note()
 
     def note(self):

@@ -9,7 +9,7 @@ from body import Body
 from copies import LARGE, Storage
 from idioms import FOUR_BYTES, constants, copy, load, store, table
 from layout import comment
-from mir import calls, refuse
+from mir import INSTANCES, calls, instances, refuse
 from shapes import Shapes, c_name
 
 MAKE = '''/* A value of a struct type: C's compound literal, C++'s braces. */
@@ -21,6 +21,9 @@ MAKE = '''/* A value of a struct type: C's compound literal, C++'s braces. */
 
 /* Numbers below 32 bits are cut by hand where C computes with int: that asks for an int of at most 32 bits. */
 typedef char int_has_at_most_32_bits[sizeof(int) <= 4 ? 1 : -1];'''
+
+# the library's own enums
+VARIANTS = {'core::option::Option': ['None', 'Some'], 'core::result::Result': ['Ok', 'Err']}
 
 
 def quoted(name, numbers):
@@ -43,6 +46,9 @@ class Program:
             for name, what in function.declared.items():
                 if declared.setdefault(name, what) != what:
                     refuse('two types of one name', name)
+        declared.update(instances())
+        for symbol, (name, _) in INSTANCES.items():
+            sources.names[symbol] = VARIANTS.get(name) or sources.names.get(name, [])
         self.shapes = Shapes(declared, sources)
         in_c = [function for function in self.order if not load(function, self.shapes, self.functions)]  # what that calls is not called in C
         self.sites = collections.Counter(symbol for function in in_c for symbol in calls(function))  # how many calls of each there are

@@ -69,6 +69,8 @@ class Values:
             if k == 0:
                 return '' if self.shapes.is_plain(type_[1]) else '.tag', ('tag', type_[1])
             variant, types = self.shapes.variants(type_[1])[type_[2]]
+            if k > len(types):
+                refuse(f'field {k} of the variant {variant} of', type_[1])
             return f'.of.{variant}.f{k - 1}', types[k - 1]
         if name == 'field' and type_[0] == 'named':
             field, t = self.shapes.fields(type_[1])[k]
@@ -118,6 +120,9 @@ class Values:
             return Expr('true' if operand[1] else 'false', ('bool',), constant=operand[1])
         return refuse('the operand', operand)
 
+    def is_unit(self, operand):
+        return operand[0] == 'unit' or operand[0] == 'copy' and not operand[1].steps and self.types[operand[1].local] == ('unit',)
+
     def convert(self, e, type_):
         """e as a value of the type. Pointers to an array's first element, `&mut` as `&` and an enum's tag as a number are all that
         changes."""
@@ -140,7 +145,7 @@ class Values:
 
     def value(self, term, type_):
         operands = {'opd': term[1:], 'op1': term[2:], 'op2': term[2:], 'aggregate': term[1], 'repeat': term[1:2], 'addrOf': (), 'static': ()}[term[0]]
-        parts = [self.operand(o) for o in operands]
+        parts = [self.operand(o) for o in operands if not self.is_unit(o)]
         self.separate(parts)
         if term[0] == 'addrOf':
             return self.convert(self.address(term[1]), type_)
