@@ -12,10 +12,16 @@ from copies import LARGE
 from exprs import Expr, mixed
 from idioms import library
 from layout import Lines, fold
-from mir import Place, mentions, refuse, target, whole
+from mir import Place, mentions, parts, refuse, target, whole
 from returns import ends
 from shapes import c_name, safe
 from values import Values
+
+
+def is_left(body, depth=0):
+    """Whether an exit inside the body of a block leaves the block."""
+    inner = [(s, depth + (s[0] in ('block', 'loop'))) for s in body]
+    return any(s == ['exit', depth] or any(is_left(part, at) for part in parts(s)) for s, at in inner)
 
 
 class Body(Values):
@@ -297,9 +303,12 @@ class Body(Values):
             self.lines.put('break;')
 
     def do_block(self, s, targets):
-        """A block around a loop alone is one with it, and any other a loop of one turn: leaving either is `break`."""
+        """A block around a loop alone is one with it, and any other that is left early a loop of one turn: leaving either is `break`."""
         self.label += 1
         label = f'end_{self.label}'
+        if not is_left(s[1]):
+            self.run(s[1], targets + (('block', label, False),))
+            return
         inside = tuple((kind, name, False) for kind, name, _ in targets) + (('block', label, True),)
         if len(s[1]) == 1 and s[1][0][0] == 'loop':
             self.lines.open('for (;;) {')

@@ -43,9 +43,12 @@ def split(term):
     return name, argument
 
 
+# methods of slices that are called at a type, by their names here
 LIBRARY = {'core::slice::edits::slice+T::copy_from_slice': 'copy', 'core::slice::edits::slice+T::fill': 'fill'}
 GENERIC = {}    # a type with parameters: what declares it
 INSTANCES = {}  # symbol of such a type at types: its name and the types
+CALLED = {}     # symbol of a generic function at types: the function's own symbol, and the terms of the types and of the traits' impls
+METHODS = {}    # an impl of a trait: its methods' symbols
 # what `?` makes of a refusal before it returns it: the error alone, or nothing
 RESIDUAL = {'core::result::ErrResidual': lambda types: types[0], 'core::option::NoValue': lambda _: ('unit',)}
 
@@ -145,9 +148,24 @@ def read_value(term):
     return refuse('the value', term)
 
 
+def called(symbol, given):
+    """The symbol of a function at types."""
+    if not given['types'] and not given['dicts']:
+        return symbol
+    name = '_'.join([symbol, *(str(t['Const']) if 'Const' in t else word(read_type(t)) for t in given['types'])])
+    if CALLED.setdefault(name, (symbol, given)) != (symbol, given):
+        refuse('two functions of one name', name)
+    return name
+
+
 def read_call(term, operands, place):
-    """A call of a function by its name, which is no generic one but for those of LIBRARY and the two that `?` calls."""
+    """A call of a function by its name, or of a trait's method at a type."""
     name, argument = split(term)
+    if name == 'Method' and 'Impl' in argument[0]:
+        impl, index, given = argument
+        if impl['Impl'][1] or impl['Impl'][2] or given['types'] or given['dicts'] or impl['Impl'][0] not in METHODS:
+            return refuse('the method of', term)
+        return ['call', METHODS[impl['Impl'][0]][index], operands, place]
     if name != 'Fn':
         return refuse('the call of', term)
     symbol, given = argument
@@ -157,9 +175,27 @@ def read_call(term, operands, place):
         return ['branch', symbol, operands[0], place]
     if symbol in FROM_RESIDUAL:
         return ['residual', FROM_RESIDUAL[symbol], [split(one)[1][0] for one in given['dicts']], operands[0], place]
-    if given['types'] or given['dicts']:
+    if symbol.startswith('core::') and (given['types'] or given['dicts']):
         return refuse('the call of', term)
-    return ['call', symbol, operands, place]
+    return ['call', called(symbol, given), operands, place]
+
+
+def at_types(term, given):
+    """The text of a generic function with types in place of its parameters."""
+    if isinstance(term, list):
+        return [at_types(part, given) for part in term]
+    if not isinstance(term, dict):
+        return term
+    if set(term) == {'Param'}:
+        return given['types'][term['Param']]
+    if set(term) == {'Given'}:
+        return given['dicts'][term['Given']]
+    made = {key: at_types(part, given) for key, part in term.items()}
+    if set(made) == {'NumOf'} and 'Const' in made['NumOf'][1]:
+        return {'Int': {'width': made['NumOf'][0], 'value': made['NumOf'][1]['Const']}}
+    if set(made) == {'Array'} and 'Const' in made['Array'][1]:
+        return {'Array': [made['Array'][0], {'Lit': made['Array'][1]['Const']}]}
+    return made
 
 
 def read_static(type_term, term):
@@ -280,6 +316,7 @@ def is_arms(part):
 
 class Function:
     def __init__(self, symbol, term):
+        METHODS.update({impl['name']: impl['methods'] for impl in term['generics']['impls']})
         self.symbol, self.params = symbol, term['params']
         self.types = [read_type(one['ty']) for one in term['locals']]
         self.in_memory = [one['home'] == 'MemorySlot' for one in term['locals']]
@@ -287,7 +324,7 @@ class Function:
         self.body = asked(read_body(terms))
         if next(terms, None) is not None:
             refuse('a body with a rest', symbol)
-        if term['generics']['types'] or term['generics']['bounds']:
+        if symbol not in CALLED and (term['generics']['types'] or term['generics']['bounds']):
             refuse('the generic function', symbol)
         plain = [one for one in term['types'] if is_plain(one)]
         self.declared = {one['name']: read_shape(one['shape']) for one in plain if one['type_params'] == 0}
@@ -308,8 +345,16 @@ class Functions(dict):
         self.terms = {}
 
     def __missing__(self, symbol):
-        self[symbol] = Function(symbol, self.terms[symbol])
+        if symbol in CALLED:
+            own, given = CALLED[symbol]
+            term = self.terms[own]
+            self[symbol] = Function(symbol, {**term, 'locals': at_types(term['locals'], given), 'body': at_types(term['body'], given)})
+        else:
+            self[symbol] = Function(symbol, self.terms[symbol])
         return self[symbol]
+
+    def has(self, symbol):
+        return symbol in self.terms or symbol in CALLED and CALLED[symbol][0] in self.terms
 
 
 class Library:

@@ -9,7 +9,7 @@ from body import Body
 from copies import LARGE, Storage
 from idioms import FOUR_BYTES, constants, load, store, table
 from layout import comment
-from mir import INSTANCES, calls, instances, refuse
+from mir import CALLED, INSTANCES, calls, instances, refuse
 from shapes import Shapes, c_name
 
 MAKE = '''/* A value of a struct type: C's compound literal, C++'s braces. */
@@ -49,6 +49,8 @@ class Program:
         declared.update(instances())
         for symbol, (name, _) in INSTANCES.items():
             sources.names[symbol] = VARIANTS.get(name) or sources.names.get(name, [])
+        for symbol, (own, _) in CALLED.items():
+            sources.like(symbol, own)
         self.shapes = Shapes(declared, sources)
         in_c = [function for function in self.order if not load(function, self.shapes, self.functions)]  # what that calls is not called in C
         self.sites = collections.Counter(symbol for function in in_c for symbol in calls(function))  # how many calls of each there are
@@ -69,7 +71,7 @@ class Program:
         def visit(symbol):
             if symbol in order:
                 return
-            if symbol not in self.functions.terms:
+            if not self.functions.has(symbol):
                 refuse('a call of a function that is not in these libraries', symbol)
             if symbol in open_ or symbol in self.entries and open_:
                 refuse('a recursive or an exported function that is called', symbol)

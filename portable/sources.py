@@ -5,7 +5,7 @@ import re
 
 from mir import refuse
 
-ITEM = re.compile(r'^(?P<indent> *)(?:pub )?(?:extern "C" )?(?:(?P<fn>fn)|struct|enum|impl) (?P<name>\w+)(?:<[^>]*>)?', re.M)
+ITEM = re.compile(r'^(?P<indent> *)(?:pub )?(?:extern "C" )?(?:(?P<fn>fn)|struct|enum|impl) (?P<name>\w+)(?:<[^>]*>)?(?: for (?P<type>\w+))?', re.M)
 BINDER = re.compile(r'\blet (?:mut )?([a-z_]\w*)\s*[:=;]|\bfor (\w+) in\b|\b[A-Z]\w*::[A-Z]\w*\(([^()]*)\)\s*(?:=>|=(?!=)|\|)')
 EXPORT = re.compile(r'#\[unsafe\(no_mangle\)\]\npub extern "C" fn (\w+)\(([^()]*)\)[^{}]*(?:(?:requires|ensures)[^\n]*\n)*\{\n(.*?)^\}', re.M | re.S)
 
@@ -25,7 +25,7 @@ class Sources:
             end = re.compile(rf'^{item["indent"]}\}}', re.M).search(text, item.end())
             inside = re.sub(r'//.*', '', text[item.end():end.start() if end else len(text)])
             if ' impl ' in f' {item[0]}':
-                owner = item['name']
+                owner = (item['type'] or '') + item['name']
                 continue
             symbol = '::'.join(filter(None, (module, owner if item['indent'] else None, item['name'])))
             self.comments[symbol] = comment_above(text[:item.start()])
@@ -33,6 +33,12 @@ class Sources:
                 self.read_function(symbol, inside)
             else:
                 self.names[symbol] = re.findall(r'^\s+(?:pub )?(\w+)\s*(?:[:,(]|$)', inside, re.M)
+
+    def like(self, symbol, own):
+        """A generic function at types is named as it is."""
+        for table in (self.names, self.locals, self.comments):
+            if own in table:
+                table[symbol] = table[own]
 
     def read_function(self, symbol, text):
         head, _, body = text.partition(')')

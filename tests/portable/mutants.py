@@ -170,4 +170,13 @@ MUTANTS = [
     ('numbers filled but for the last', 'idioms.py',
      'for (i = 0; i < to.len; i++) {',
      'for (i = 0; i + 1 < to.len; i++) {'),
+    ('another method of a trait', 'mir.py',
+     'METHODS[impl[\'Impl\'][0]][index]',
+     'METHODS[impl[\'Impl\'][0]][max(index, 1)]'),
+    ('a number for a length, one less', 'mir.py',
+     "'value': made['NumOf'][1]['Const']}",
+     "'value': made['NumOf'][1]['Const'] - 1}"),
+    ('a block that is left taken for one that is not', 'body.py',
+     "s == ['exit', depth]",
+     "s == ['exit', depth + 1]"),
 ]
