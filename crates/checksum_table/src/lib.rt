@@ -41,10 +41,8 @@ fn steps(t: &[u16; 256], c: u16, s: &[u8]) -> u16
     ensures { result ≡ crc_over ccitt c s.now }
 {
     let mut r = c;
-    let mut i = 0;
-    while i < s.len() {
-        r = step(t, r, s[i]);
-        i += 1;
+    for b in s {
+        r = step(t, r, *b);
     }
     r
 }
