@@ -18,10 +18,8 @@ fn table() -> [u16; 256]
     ensures { IsTable result }
 {
     let mut t = [0u16; 256];
-    let mut i = 0;
-    while i < 256 {
-        t[i] = entry((i % 256) as u8);
-        i += 1;
+    for (i, e) in t.iter_mut().enumerate() {
+        *e = entry((i % 256) as u8);
     }
     t
 }
