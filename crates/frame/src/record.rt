@@ -18,9 +18,7 @@ pub fn word(p: &[u8], k: usize, tail: u8) -> u64
     ensures { result ≡ le (framed (take k p.now) tail) }
 {
     let mut v = bits::le::wide(tail);
-    let mut i = k;
-    while 0 < i {
-        i -= 1;
+    for i in (0..k).rev() {
         v = v * 256 + bits::le::wide(p[i]);
     }
     v

@@ -65,9 +65,7 @@ fn product(bits: u8, v: u16, w: u16) -> u16
     ensures { result ≡ product_of bits v w }
 {
     let mut r: u16 = 0;
-    let mut k = bits;
-    while 0 < k {
-        k -= 1;
+    for k in (0..bits).rev() {
         let x = (v >> k) % 2;
         r = up(r) ^ (x * w);
     }

@@ -37,7 +37,7 @@ small : (x w : ℕ) → x < 2 → w < 65536 → x * w < 65536
 small x w l h = bit-cases (λ (x : ℕ). x * w < 65536) (omega arith) (omega arith) x l
 
 pub loop-k-init : goal.loop-k-init
-loop-k-init c = let a = c.args in (omega arith, begin a.bits (a.v / 2 ^ a.bits) a.w)
+loop-k-init c = let a = c.args in begin a.bits (a.v / 2 ^ a.bits) a.w
 
 pub overflow_mul-r : goal.overflow_mul-r
 overflow_mul-r c =
@@ -47,9 +47,9 @@ overflow_mul-r c =
 pub loop-k-preserved : goal.loop-k-preserved
 loop-k-preserved c =
     let a = c.args in
-    (omega arith, turn a.bits a.v a.w c.loop-k.k c.loop-k.r c.up.result c.loop-k.invariant.0 (omega arith) c.loop-k.invariant.1 c.up.ensures)
+    turn a.bits a.v a.w c.loop-k.k c.loop-k.r c.up.result (omega arith) (omega arith) c.loop-k.invariant c.up.ensures
 
 pub returns : goal.returns
 returns c =
     let a = c.args in
-    done a.bits a.v a.w c.loop-k.k c.loop-k.r (omega arith) c.loop-k.invariant.1
+    done a.bits a.v a.w c.loop-k.k c.loop-k.r (omega arith) c.loop-k.invariant

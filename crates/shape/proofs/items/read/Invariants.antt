@@ -6,7 +6,5 @@ use Rattle.shape.specs.Shape.{items_of}
 use Rattle.shape.proofs.items.read.Given as goal
 
 abbrev pub invariant-loop-i : goal.invariant-loop-i
-invariant-loop-i l = (l.i ≤ length l.initial.out) × ((length l.out ≡ length l.initial.out) × (take l.i l.out ≡ items_of l.w l.i (drop l.at (unpack l.s))))
+invariant-loop-i l = take l.i l.out ≡ items_of l.w l.i (drop l.at (unpack l.s))
 
-abbrev pub decreases-loop-i : goal.decreases-loop-i
-decreases-loop-i l = length l.initial.out - l.i

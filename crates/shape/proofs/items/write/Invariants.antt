@@ -6,7 +6,5 @@ use Rattle.shape.specs.Shape.{item_bits}
 use Rattle.shape.proofs.items.write.Given as goal
 
 abbrev pub invariant-loop-i : goal.invariant-loop-i
-invariant-loop-i l = (l.i ≤ length l.xs) × ((length l.s ≡ length l.initial.s) × (l.s ≡ store l.initial.s l.at (item_bits l.w (take l.i l.xs))))
+invariant-loop-i l = (length l.s ≡ length l.initial.s) × (l.s ≡ store l.initial.s l.at (item_bits l.w (take l.i l.xs)))
 
-abbrev pub decreases-loop-i : goal.decreases-loop-i
-decreases-loop-i l = length l.xs - l.i
