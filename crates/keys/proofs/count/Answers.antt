@@ -2,7 +2,6 @@
 use mathlib.Core.Path.{◌≡◌, ◌∙◌}
 use mathlib.Core.List.{List}
 use Prim.Native.Nat.{ℕ, suc, ◌+◌, ◌<◌}
-use native.Mathlib.Nat.{zero-add}
 use native.Mathlib.Numerals.{add-one}
 use native.Mathlib.Omega.{arith}
 use lib.Dec.{eqb}
@@ -20,17 +19,6 @@ turn k hits j table h = rw (drop-cons table j 0) (omega arith)
 done : (k hits j : ℕ) (table : List ℕ) → j ≡ length table → hits ≡ hits + inside.count k (drop j table)
 unfolding inside.count
 done k hits j table e = rw (e, drop-length) (omega arith)
-
-pub loop-x-init : goal.loop-x-init
-loop-x-init c = (omega arith, zero-add (inside.count c.args.k c.args.table.now))
-
-pub overflow_cast-hits : goal.overflow_cast-hits
-overflow_cast-hits c = tt
-
-pub overflow_add-hits : goal.overflow_add-hits
-overflow_add-hits c =
-    let a = c.args in
-    omega (arith, byte_le (eqb (get_or a.table.now c.loop-x.x-index 0) a.k))
 
 pub loop-x-preserved : goal.loop-x-preserved
 loop-x-preserved c =

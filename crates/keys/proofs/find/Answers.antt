@@ -1,16 +1,12 @@
 -- `find` meets its contract: no place passed has the key.
-use mathlib.Core.Path.{◌≡◌, sym, ap, ◌∙◌}
-use native.Mathlib.Nat.{sub-zero}
+use mathlib.Core.Path.{◌≡◌, sym, ◌∙◌}
 use native.Mathlib.Numerals.{add-one}
 use native.Mathlib.Omega.{arith}
 use borrow.Author.Tests.{eq-eqb, ne_eqb}
-use Rattle.keys.specs.inside.Keys.{word_at, lowest}
+use Rattle.keys.specs.inside.Keys.{word_at}
 use Rattle.keys.proofs.Lowest.{hit, miss, none}
 use Rattle.keys.proofs.find.Invariants.{has}
 use Rattle.keys.proofs.find.Goals as goal
-
-pub loop-i-init : goal.loop-i-init
-loop-i-init c = let a = c.args in ap (lowest (has a.s.now a.at a.k) 0) (sub-zero a.n)
 
 pub returns-then-get_u32-k : goal.returns-then-get_u32-k
 returns-then-get_u32-k c =

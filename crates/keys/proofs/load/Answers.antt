@@ -1,12 +1,12 @@
 -- `load` meets its contract. The invariant: the first i keys are in hand.
-use mathlib.Core.Path.{◌≡◌, refl, sym, ap, ◌∙◌}
+use mathlib.Core.Path.{◌≡◌, refl}
 use mathlib.Core.List.{List}
 use Prim.Native.Nat.{ℕ, suc, ◌<◌}
 use native.Mathlib.Nat.{zero-add}
 use native.Mathlib.Numerals.{add-one}
 use native.Mathlib.Omega.{arith}
-use lib.ListN.{length, take, set, length-set}
-use lib.Seq.{take-suc-set, take_all}
+use lib.ListN.{length, take, set}
+use lib.Seq.{take-suc-set}
 use Rattle.bits.specs.Tabulate.{tabulate}
 use Rattle.bits.proofs.Tabulate.{tab-snoc}
 use Rattle.keys.specs.inside.Keys.{word_at}
@@ -23,9 +23,3 @@ pub loop-i-preserved : goal.loop-i-preserved
 loop-i-preserved c =
     let a = c.args in
     rw add-one (turn (word_at a.s.now a.at) c.loop-i.table c.loop-i.i c.get_u32.result (omega arith) c.loop-i.invariant c.get_u32.ensures)
-
-pub returns : goal.returns
-returns c =
-    let a = c.args in
-    let e : c.loop-i.i ≡ length a.table.now = omega arith in
-    sym (take_all c.loop-i.i c.loop-i.table (omega arith)) ∙ c.loop-i.invariant ∙ ap (tabulate (word_at a.s.now a.at) 0) e

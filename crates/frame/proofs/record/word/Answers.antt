@@ -65,9 +65,3 @@ loop-i-preserved c =
       number a.p.now a.k a.tail c.loop-i.i c.loop-i.v c.wide.result (omega arith) (omega arith) (omega arith) c.loop-i.invariant.1 b c.loop-i.invariant.0 c.wide.ensures,
       below a.p.now a.k a.tail c.loop-i.i c.loop-i.v c.wide.result (omega arith) (omega arith) (omega arith) c.loop-i.invariant.1 b,
     )
-
-pub returns : goal.returns
-returns c =
-    let a = c.args in
-    let z : c.loop-i.i ≡ 0 = omega arith in
-    c.loop-i.invariant.0 ∙ ap (λ (n : ℕ). le (drop n (framed (take a.k a.p.now) a.tail))) z
