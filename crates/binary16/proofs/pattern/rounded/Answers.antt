@@ -1,6 +1,5 @@
 -- `pattern::rounded` meets its contract: adding and cutting off rounds to the nearest, a tie to the even one.
-use native.Mathlib.Omega.{arith}
-use Rattle.binary16.proofs.Steps.{half_is, half_le, half_pos, rounded-le, rounded-by}
+use Rattle.binary16.proofs.Steps.{rounded-le, rounded-by}
 use Rattle.binary16.proofs.pattern.rounded.Goals as goal
 
 pub returns : goal.returns
