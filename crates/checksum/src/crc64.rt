@@ -26,7 +26,7 @@ fn step(c: u64, b: u8) -> u64
     r
 }
 
-// The register c after the bytes of s.
+// The register c after the bytes of s. As in `crc16`: a trait for the step, which is all that differs, would be longer than the loop.
 fn steps(c: u64, s: &[u8]) -> u64
     ensures { result ≡ crc_over we c s.now }
 {

@@ -33,7 +33,7 @@ fn step(t: &[u16; 256], c: u16, b: u8) -> u16
     (c << 8) ^ t[i as usize]
 }
 
-// The register c after the bytes of s.
+// The register c after the bytes of s. As in `checksum`: a trait for the step, which is all that differs, would be longer than the loop.
 fn steps(t: &[u16; 256], c: u16, s: &[u8]) -> u16
     requires { IsTable t.now }
     ensures { result ≡ crc_over ccitt c s.now }

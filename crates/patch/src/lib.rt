@@ -52,7 +52,7 @@ fn far() -> [u16; 16]
     FAR
 }
 
-// One place up; the polynomial once more for a one that leaves at the top.
+// One place up; the polynomial once more for a one that leaves at the top. At 16 bits a product says so, where `crc64` of `checksum` branches.
 fn up(c: u16) -> u16
     ensures { result ≡ shift ccitt c }
 {
