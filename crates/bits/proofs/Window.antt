@@ -5,7 +5,7 @@ use mathlib.Core.List.{List, ◌++◌, append_assoc}
 use Prim.Native.Nat.{ℕ, suc, ◌+◌, ◌*◌, ◌-◌, ◌/◌, ◌%◌, ◌^◌, ◌≤◌, ◌<◌}
 use native.Mathlib.Nat.{add-mul, mod-lt}
 use native.Mathlib.Omega.{arith}
-use lib.Pow.{pow_pos, pow_mono, split, shr-shr, shl_lt}
+use lib.Pow.{pow_pos, split, shr-shr}
 use lib.ListN.{length, take, drop, set, get_or, length-append, length-set, take-append-drop}
 use lib.Seq.{take_at, drop_at, length-take-le, drop-cons, drop-drop, take-set-le, drop-set-lt, get_or-set_same, get_or-set_other}
 use Rattle.bits.specs.Order.{digits, value, Octets, unpack, bytes, store}
@@ -160,13 +160,6 @@ module _ (x r k v : ℕ) (small : x < 65536) (fits : r + k ≤ 16) (hv : v < 2 ^
 
   pub old-le : x / 2 ^ r % 2 ^ k * 2 ^ r ≤ x
   old-le = omega (arith, parts)
-
-  pub new-lt : v * 2 ^ r < 65536
-  new-lt =
-      let h : v * 2 ^ r < 2 ^ (k + r) = shl_lt k r hv in
-      let j : k + r ≤ 16 = omega arith in
-      let p : 2 ^ (k + r) ≤ 2 ^ 16 = pow_mono j in
-      omega arith
 
   pub patch-is : x - x / 2 ^ r % 2 ^ k * 2 ^ r + v * 2 ^ r ≡ patched x r k v
   unfolding patched

@@ -51,10 +51,8 @@ pub fn read(s: &[u8], at: usize, w: usize) -> u64
     ensures { result ≡ from_bits w (drop at (unpack s.now)) }
 {
     let q = w / 8;
-    let mut i = q;
     let mut v = octet(s, at + q * 8, w % 8);
-    while 0 < i {
-        i -= 1;
+    for i in (0..q).rev() {
         v = v * 256 + octet(s, at + i * 8, 8);
     }
     v
@@ -99,11 +97,9 @@ pub fn write(s: &mut [u8], at: usize, w: usize, v: u64)
 {
     let q = w / 8;
     let mut x = v;
-    let mut i = 0;
-    while i < q {
+    for i in 0..q {
         put_octet(s, at + i * 8, 8, x);
-        x = x / 256;
-        i += 1;
+        x /= 256;
     }
     put_octet(s, at + q * 8, w % 8, x);
 }

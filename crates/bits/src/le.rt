@@ -16,9 +16,7 @@ fn get(s: &[u8]) -> u64
     ensures { result ≡ le s.now }
 {
     let mut v: u64 = 0;
-    let mut i = s.len();
-    while 0 < i {
-        i -= 1;
+    for i in (0..s.len()).rev() {
         v = v * 256 + wide(s[i]);
     }
     v
@@ -29,11 +27,9 @@ fn put(s: &mut [u8], v: u64)
     ensures { s.new ≡ le_bytes (length s.old) v }
 {
     let mut x = v;
-    let mut i = 0;
-    while i < s.len() {
-        s[i] = (x % 256) as u8;
-        x = x / 256;
-        i += 1;
+    for b in s.iter_mut() {
+        *b = (x % 256) as u8;
+        x /= 256;
     }
 }
 

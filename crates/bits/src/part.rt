@@ -2,24 +2,12 @@
 ghost use Rattle.std.specs.Prelude.{◌≡◌, ◌+◌, ◌≤◌, length};
 ghost use Rattle.bits.specs.Part.{span, splice};
 
-// All of src into dst, which is as long.
-fn copy(dst: &mut [u8], src: &[u8])
-    requires { length dst.old ≡ length src.now }
-    ensures { dst.new ≡ src.now }
-{
-    let mut i = 0;
-    while i < src.len() {
-        dst[i] = src[i];
-        i += 1;
-    }
-}
-
 // Internal. The bytes of src, stored from `at` on.
 pub fn copy_at(dst: &mut [u8], at: usize, src: &[u8])
     requires { at + length src.now ≤ length dst.old }
     ensures { dst.new ≡ splice dst.old at src.now }
 {
-    copy(&mut dst[at..at + src.len()], src);
+    dst[at..at + src.len()].copy_from_slice(src);
 }
 
 // Internal. The n bytes of src from `from` on, stored from `at` on.

@@ -39,10 +39,8 @@ fn steps(t: &[u16; 16], c: u16, s: &[u8]) -> u16
     ensures { result ≡ crc_over ccitt c s.now }
 {
     let mut r = c;
-    let mut i = 0;
-    while i < s.len() {
-        r = step(t, r, s[i]);
-        i += 1;
+    for b in s {
+        r = step(t, r, *b);
     }
     r
 }
@@ -54,11 +52,9 @@ fn signed(t: &[u16; 16], signature: u64) -> u16
 {
     let mut r: u16 = 0xFFFF;
     let mut x = signature;
-    let mut k: usize = 8;
-    while 0 < k {
+    for _ in 0..8usize {
         r = step(t, r, (x % 256) as u8);
-        x = x / 256;
-        k -= 1;
+        x /= 256;
     }
     r
 }

@@ -20,23 +20,19 @@ fn step(c: u64, b: u8) -> u64
     ensures { result ≡ crc_byte we c b }
 {
     let mut r = c ^ ((b as u64) << 56);
-    let mut k: usize = 8;
-    while 0 < k {
+    for _ in 0..8usize {
         r = up(r);
-        k -= 1;
     }
     r
 }
 
-// The register c after the bytes of s.
+// The register c after the bytes of s. As in `crc16`: a trait for the step, which is all that differs, would be longer than the loop.
 fn steps(c: u64, s: &[u8]) -> u64
     ensures { result ≡ crc_over we c s.now }
 {
     let mut r = c;
-    let mut i = 0;
-    while i < s.len() {
-        r = step(r, s[i]);
-        i += 1;
+    for b in s {
+        r = step(r, *b);
     }
     r
 }

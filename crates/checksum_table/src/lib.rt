@@ -18,10 +18,8 @@ fn table() -> [u16; 256]
     ensures { IsTable result }
 {
     let mut t = [0u16; 256];
-    let mut i = 0;
-    while i < 256 {
-        t[i] = entry((i % 256) as u8);
-        i += 1;
+    for (i, e) in t.iter_mut().enumerate() {
+        *e = entry((i % 256) as u8);
     }
     t
 }
@@ -35,16 +33,14 @@ fn step(t: &[u16; 256], c: u16, b: u8) -> u16
     (c << 8) ^ t[i as usize]
 }
 
-// The register c after the bytes of s.
+// The register c after the bytes of s. As in `checksum`: a trait for the step, which is all that differs, would be longer than the loop.
 fn steps(t: &[u16; 256], c: u16, s: &[u8]) -> u16
     requires { IsTable t.now }
     ensures { result ≡ crc_over ccitt c s.now }
 {
     let mut r = c;
-    let mut i = 0;
-    while i < s.len() {
-        r = step(t, r, s[i]);
-        i += 1;
+    for b in s {
+        r = step(t, r, *b);
     }
     r
 }

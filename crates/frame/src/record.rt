@@ -12,15 +12,13 @@ pub struct Found {
     pub len: usize,
 }
 
-// Internal. The first k bytes of p and the tail byte after them, as one number.
+// Internal. The first k bytes of p and the tail byte after them, as one number. The loop of `bits::le` starts from 0, and so needs no bound on a start.
 pub fn word(p: &[u8], k: usize, tail: u8) -> u64
     requires { (k ≤ frame_payload) × (k ≤ length p.now) }
     ensures { result ≡ le (framed (take k p.now) tail) }
 {
     let mut v = bits::le::wide(tail);
-    let mut i = k;
-    while 0 < i {
-        i -= 1;
+    for i in (0..k).rev() {
         v = v * 256 + bits::le::wide(p[i]);
     }
     v

@@ -11,10 +11,8 @@ pub fn load(table: &mut [u32], s: &[u8], at: usize)
     requires { at + length table.old * 4 ≤ length s.now }
     ensures { table.new ≡ tabulate (word_at s.now at) 0 (length table.old) }
 {
-    let mut i = 0;
-    while i < table.len() {
-        table[i] = bits::le::get_u32(s, at + i * 4);
-        i += 1;
+    for (i, k) in table.iter_mut().enumerate() {
+        *k = bits::le::get_u32(s, at + i * 4);
     }
 }
 
@@ -24,10 +22,8 @@ pub fn count(table: &[u32], k: u32) -> u32
     ensures { result ≡ inside.count k table.now }
 {
     let mut hits: u32 = 0;
-    let mut j = 0;
-    while j < table.len() {
-        hits += (table[j] == k) as u32;
-        j += 1;
+    for x in table {
+        hits += (*x == k) as u32;
     }
     hits
 }
@@ -73,12 +69,10 @@ pub fn find(s: &[u8], at: usize, n: usize, k: u32) -> usize
     requires { at + n * 4 ≤ length s.now }
     ensures { result ≡ lowest (λ i. eqb (word_at s.now at i) k) 0 n }
 {
-    let mut i = 0;
-    while i < n {
+    for i in 0..n {
         if bits::le::get_u32(s, at + i * 4) == k {
             return i;
         }
-        i += 1;
     }
-    i
+    n
 }

@@ -9,9 +9,7 @@ pub fn up(s: &mut [u8], at: usize, n: usize, by: usize)
     requires { (at + by + n ≤ length s.old) × (0 < by) }
     ensures { s.new ≡ splice s.old (at + by) (span s.old at n) }
 {
-    let mut i = n;
-    while 0 < i {
-        i -= 1;
+    for i in (0..n).rev() {
         s[at + by + i] = s[at + i];
     }
 }

@@ -52,7 +52,7 @@ fn far() -> [u16; 16]
     FAR
 }
 
-// One place up; the polynomial once more for a one that leaves at the top.
+// One place up; the polynomial once more for a one that leaves at the top. At 16 bits a product says so, where `crc64` of `checksum` branches.
 fn up(c: u16) -> u16
     ensures { result ≡ shift ccitt c }
 {
@@ -65,9 +65,7 @@ fn product(bits: u8, v: u16, w: u16) -> u16
     ensures { result ≡ product_of bits v w }
 {
     let mut r: u16 = 0;
-    let mut k = bits;
-    while 0 < k {
-        k -= 1;
+    for k in (0..bits).rev() {
         let x = (v >> k) % 2;
         r = up(r) ^ (x * w);
     }

@@ -37,18 +37,6 @@ pub fn number(fields: &[u64], i: usize) -> i64
     signed::value(fields[i], 64)
 }
 
-// All of the words to the front.
-fn copy(words: &[u64], fields: &mut [u64])
-    requires { length words.now ≤ length fields.old }
-    ensures { fields.new ≡ words.now ++ drop (length words.now) fields.old }
-{
-    let mut i = 0;
-    while i < words.len() {
-        fields[i] = words[i];
-        i += 1;
-    }
-}
-
 // Internal. The words of a message that was read: 8 for too few places.
 pub fn put(words: &[u64], fields: &mut [u64]) -> u32
     ensures { (result, fields.new) ≡ row (got words.now) fields.old }
@@ -56,7 +44,7 @@ pub fn put(words: &[u64], fields: &mut [u64]) -> u32
     if fields.len() < words.len() {
         return 8;
     }
-    copy(words, fields);
+    fields[..words.len()].copy_from_slice(words);
     0
 }
 

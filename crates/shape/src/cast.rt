@@ -4,6 +4,7 @@ ghost use Rattle.shape.specs.Cast.{unsigned, signed, saturated, low_bits, cast_b
 
 use super::signed::{ones, size};
 
+// By hand: what goes to C calls no generic function of the library, as `min` is.
 fn least(a: u64, b: u64) -> u64
     ensures { result ≡ min a b }
 {
@@ -48,7 +49,7 @@ fn lowest(x: u64, w: usize) -> u64
     x % (top + 1)
 }
 
-// Internal. Truncated, of any field.
+// Internal. Truncated, of any field. `signed` cuts the size otherwise, and a parameter for how would be longer.
 pub fn truncated(v: i64, w: usize) -> u64
     requires { (1 ≤ w) × (w ≤ 64) }
     ensures { result ≡ low_bits w v }

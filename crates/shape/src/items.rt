@@ -61,10 +61,8 @@ pub fn read(s: &[u8], at: usize, w: usize, out: &mut [u64])
     requires { (w ≤ 64) × ((length out.old < 65536) × ((at < 2 ^ 32) × (at + length out.old * w ≤ length s.now * 8))) }
     ensures { out.new ≡ items_of w (length out.old) (drop at (unpack s.now)) }
 {
-    let mut i = 0;
-    while i < out.len() {
-        out[i] = field::read(s, at + i * w, w);
-        i += 1;
+    for (i, x) in out.iter_mut().enumerate() {
+        *x = field::read(s, at + i * w, w);
     }
 }
 
@@ -73,10 +71,8 @@ pub fn write(s: &mut [u8], at: usize, w: usize, xs: &[u64])
     requires { (w ≤ 64) × ((length xs.now < 65536) × ((at < 2 ^ 32) × (at + length xs.now * w ≤ length s.old * 8))) }
     ensures { s.new ≡ store s.old at (item_bits w xs.now) }
 {
-    let mut i = 0;
-    while i < xs.len() {
-        field::write(s, at + i * w, w, xs[i]);
-        i += 1;
+    for (i, x) in xs.iter().enumerate() {
+        field::write(s, at + i * w, w, *x);
     }
 }
 

@@ -10,15 +10,6 @@ use Rattle.checksum_table.proofs.step.Goals as goal
 small : (c b : ℕ) → c < 65536 → b < 256 → bit_xor (c / 256) b < 256
 small c b hc hb = xor_lt 8 (c / 256) b (omega arith) hb
 
-pub overflow_cast-result : goal.overflow_cast-result
-overflow_cast-result c = let s = small c.args.c c.args.b (search rules) (search rules) in omega arith
-
-pub offset_bounds-t-i : goal.offset_bounds-t-i
-offset_bounds-t-i c = let s = small c.args.c c.args.b (search rules) (search rules) in omega arith
-
-pub bounds-t-i : goal.bounds-t-i
-bounds-t-i c = small c.args.c c.args.b (search rules) (search rules)
-
 pub returns : goal.returns
 returns c =
     let a = c.args in

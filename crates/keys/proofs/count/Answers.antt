@@ -2,7 +2,6 @@
 use mathlib.Core.Path.{◌≡◌, ◌∙◌}
 use mathlib.Core.List.{List}
 use Prim.Native.Nat.{ℕ, suc, ◌+◌, ◌<◌}
-use native.Mathlib.Nat.{zero-add}
 use native.Mathlib.Numerals.{add-one}
 use native.Mathlib.Omega.{arith}
 use lib.Dec.{eqb}
@@ -21,36 +20,13 @@ done : (k hits j : ℕ) (table : List ℕ) → j ≡ length table → hits ≡ h
 unfolding inside.count
 done k hits j table e = rw (e, drop-length) (omega arith)
 
-pub loop-j-init : goal.loop-j-init
-loop-j-init c = (omega arith, (omega arith, zero-add (inside.count c.args.k c.args.table.now)))
-
-pub offset_bounds-table-j : goal.offset_bounds-table-j
-offset_bounds-table-j c = omega arith
-
-pub bounds-table-j : goal.bounds-table-j
-bounds-table-j c = omega arith
-
-pub overflow_cast-hits : goal.overflow_cast-hits
-overflow_cast-hits c = tt
-
-pub overflow_add-hits : goal.overflow_add-hits
-overflow_add-hits c =
+pub loop-x-preserved : goal.loop-x-preserved
+loop-x-preserved c =
     let a = c.args in
-    omega (arith, byte_le (eqb (get_or a.table.now c.loop-j.j 0) a.k))
-
-pub overflow_add-j : goal.overflow_add-j
-overflow_add-j c = omega arith
-
-pub loop-j-smaller : goal.loop-j-smaller
-loop-j-smaller c = omega arith
-
-pub loop-j-preserved : goal.loop-j-preserved
-loop-j-preserved c =
-    let a = c.args in
-    let b = byte_le (eqb (get_or a.table.now c.loop-j.j 0) a.k) in
-    (omega arith, (omega arith, rw add-one (turn a.k c.loop-j.hits c.loop-j.j a.table.now (omega arith) ∙ c.loop-j.invariant.1.1)))
+    let b = byte_le (eqb (get_or a.table.now c.loop-x.x-index 0) a.k) in
+    (omega arith, rw add-one (turn a.k c.loop-x.hits c.loop-x.x-index a.table.now (omega arith) ∙ c.loop-x.invariant.1))
 
 pub returns : goal.returns
 returns c =
     let a = c.args in
-    done a.k c.loop-j.hits c.loop-j.j a.table.now (omega arith) ∙ c.loop-j.invariant.1.1
+    done a.k c.loop-x.hits c.loop-x.x-index a.table.now (omega arith) ∙ c.loop-x.invariant.1

@@ -1,47 +1,27 @@
 -- `find` meets its contract: no place passed has the key.
-use mathlib.Core.Path.{sym, ap, ◌∙◌}
-use native.Mathlib.Nat.{sub-zero}
+use mathlib.Core.Path.{◌≡◌, sym, ◌∙◌}
 use native.Mathlib.Numerals.{add-one}
 use native.Mathlib.Omega.{arith}
 use borrow.Author.Tests.{eq-eqb, ne_eqb}
-use Rattle.keys.specs.inside.Keys.{word_at, lowest}
+use Rattle.keys.specs.inside.Keys.{word_at}
 use Rattle.keys.proofs.Lowest.{hit, miss, none}
 use Rattle.keys.proofs.find.Invariants.{has}
 use Rattle.keys.proofs.find.Goals as goal
-
-pub loop-i-init : goal.loop-i-init
-loop-i-init c = let a = c.args in (omega arith, ap (lowest (has a.s.now a.at a.k) 0) (sub-zero a.n))
-
-pub overflow_mul-i : goal.overflow_mul-i
-overflow_mul-i c = omega arith
-
-pub overflow_add-at : goal.overflow_add-at
-overflow_add-at c = omega arith
-
-pub get_u32-requires : goal.get_u32-requires
-get_u32-requires c = omega arith
 
 pub returns-then-get_u32-k : goal.returns-then-get_u32-k
 returns-then-get_u32-k c =
     let a = c.args in
     let f = has a.s.now a.at a.k in
-    sym (hit f c.loop-i.i a.n (omega arith) (eq-eqb (word_at a.s.now a.at c.loop-i.i) a.k (sym c.get_u32.ensures ∙ c.if-get_u32-k.true))) ∙ c.loop-i.invariant.1
-
-pub overflow_add-i : goal.overflow_add-i
-overflow_add-i c = omega arith
-
-pub loop-i-smaller : goal.loop-i-smaller
-loop-i-smaller c = omega arith
+    sym (hit f c.loop-i.i a.n (omega arith) (eq-eqb (word_at a.s.now a.at c.loop-i.i) a.k (sym c.get_u32.ensures ∙ c.if-get_u32-k.true))) ∙ c.loop-i.invariant
 
 pub loop-i-preserved : goal.loop-i-preserved
 loop-i-preserved c =
     let a = c.args in
-    let f = has a.s.now a.at a.k in (
-      omega arith,
-      rw add-one (sym (miss f c.loop-i.i a.n (omega arith) (ne_eqb (word_at a.s.now a.at c.loop-i.i) a.k (λ e. c.if-get_u32-k.false (c.get_u32.ensures ∙ e)))) ∙ c.loop-i.invariant.1),
-    )
+    let f = has a.s.now a.at a.k in
+    rw add-one (sym (miss f c.loop-i.i a.n (omega arith) (ne_eqb (word_at a.s.now a.at c.loop-i.i) a.k (λ e. c.if-get_u32-k.false (c.get_u32.ensures ∙ e)))) ∙ c.loop-i.invariant)
 
 pub returns : goal.returns
 returns c =
     let a = c.args in
-    sym (none (has a.s.now a.at a.k) c.loop-i.i a.n (omega arith)) ∙ c.loop-i.invariant.1
+    let e : a.n ≡ c.loop-i.i = omega arith in
+    e ∙ sym (none (has a.s.now a.at a.k) c.loop-i.i a.n (omega arith)) ∙ c.loop-i.invariant

@@ -1,12 +1,12 @@
 -- `load` meets its contract. The invariant: the first i keys are in hand.
-use mathlib.Core.Path.{◌≡◌, refl, sym, ap, ◌∙◌}
+use mathlib.Core.Path.{◌≡◌, refl}
 use mathlib.Core.List.{List}
 use Prim.Native.Nat.{ℕ, suc, ◌<◌}
 use native.Mathlib.Nat.{zero-add}
 use native.Mathlib.Numerals.{add-one}
 use native.Mathlib.Omega.{arith}
-use lib.ListN.{length, take, set, length-set}
-use lib.Seq.{take-suc-set, take_all}
+use lib.ListN.{length, take, set}
+use lib.Seq.{take-suc-set}
 use Rattle.bits.specs.Tabulate.{tabulate}
 use Rattle.bits.proofs.Tabulate.{tab-snoc}
 use Rattle.keys.specs.inside.Keys.{word_at}
@@ -17,42 +17,9 @@ turn f table i k l e q = rw (take-suc-set table i, tab-snoc f 0 i, zero-add, e, 
 
 pub loop-i-init : goal.loop-i-init
 unfolding tabulate
-loop-i-init c = (omega arith, (refl, refl))
-
-pub overflow_mul-i : goal.overflow_mul-i
-overflow_mul-i c = omega arith
-
-pub overflow_add-at : goal.overflow_add-at
-overflow_add-at c = omega arith
-
-pub get_u32-requires : goal.get_u32-requires
-get_u32-requires c = omega arith
-
-pub offset_bounds-table-i : goal.offset_bounds-table-i
-offset_bounds-table-i c = omega arith
-
-pub bounds-table-i : goal.bounds-table-i
-bounds-table-i c = omega arith
-
-pub overflow_add-i : goal.overflow_add-i
-overflow_add-i c = omega arith
-
-pub loop-i-smaller : goal.loop-i-smaller
-loop-i-smaller c = omega arith
+loop-i-init c = refl
 
 pub loop-i-preserved : goal.loop-i-preserved
 loop-i-preserved c =
     let a = c.args in
-    let v = c.loop-i.invariant.1 in (
-      simp length-set (omega arith),
-      (simp length-set v.0, rw add-one (turn (word_at a.s.now a.at) c.loop-i.table c.loop-i.i c.get_u32.result (omega arith) v.1 c.get_u32.ensures)),
-    )
-
-pub shape_of-table : goal.shape_of-table
-shape_of-table c = omega arith
-
-pub returns : goal.returns
-returns c =
-    let a = c.args in
-    let e : c.loop-i.i ≡ length a.table.now = omega arith in
-    sym (take_all c.loop-i.i c.loop-i.table (omega arith)) ∙ c.loop-i.invariant.1.1 ∙ ap (tabulate (word_at a.s.now a.at) 0) e
+    rw add-one (turn (word_at a.s.now a.at) c.loop-i.table c.loop-i.i c.get_u32.result (omega arith) c.loop-i.invariant c.get_u32.ensures)

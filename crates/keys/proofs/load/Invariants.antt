@@ -1,12 +1,8 @@
 use mathlib.Core.Path.{◌≡◌}
-use Prim.Native.Nat.{◌-◌, ◌≤◌}
-use lib.ListN.{length, take}
+use lib.ListN.{take}
 use Rattle.bits.specs.Tabulate.{tabulate}
 use Rattle.keys.specs.inside.Keys.{word_at}
 use Rattle.keys.proofs.load.Given as goal
 
 abbrev pub invariant-loop-i : goal.invariant-loop-i
-invariant-loop-i l = (l.i ≤ length l.table) × ((length l.table ≡ length l.initial.table) × (take l.i l.table ≡ tabulate (word_at l.s l.at) 0 l.i))
-
-abbrev pub decreases-loop-i : goal.decreases-loop-i
-decreases-loop-i l = length l.initial.table - l.i
+invariant-loop-i l = take l.i l.table ≡ tabulate (word_at l.s l.at) 0 l.i

@@ -2,12 +2,11 @@
 use mathlib.Core.Path.{◌≡◌, sym, ap, ◌∙◌}
 use Prim.Native.Nat.{ℕ, suc, ◌+◌, ◌*◌, ◌-◌, ◌/◌, ◌%◌, ◌^◌, ◌≤◌, ◌<◌}
 use native.Mathlib.Omega.{arith}
-use borrow.Author.Rules.{rules}
 use lib.Bits.{bit_xor}
 use lib.Pow.{shr-shr}
 use Rattle.checksum.specs.Crc.{shift}
 use Rattle.checksum.specs.Crc16.{ccitt}
-use Rattle.checksum.proofs.Xor.{bit-cases, odd-lt}
+use Rattle.checksum.proofs.Xor.{bit-cases}
 use Rattle.patch.specs.inside.Powers.{product_of}
 use Rattle.patch.proofs.product.Goals as goal
 
@@ -37,19 +36,9 @@ small : (x w : ℕ) → x < 2 → w < 65536 → x * w < 65536
 small x w l h = bit-cases (λ (x : ℕ). x * w < 65536) (omega arith) (omega arith) x l
 
 pub loop-k-init : goal.loop-k-init
-loop-k-init c = let a = c.args in (omega arith, begin a.bits (a.v / 2 ^ a.bits) a.w)
-
-pub overflow_mul-r : goal.overflow_mul-r
-overflow_mul-r c =
-    let a = c.args in
-    record { fits = small _ a.w (odd-lt (a.v / 2 ^ (c.loop-k.k - 1))) (search rules) }
+loop-k-init c = let a = c.args in begin a.bits (a.v / 2 ^ a.bits) a.w
 
 pub loop-k-preserved : goal.loop-k-preserved
 loop-k-preserved c =
     let a = c.args in
-    (omega arith, turn a.bits a.v a.w c.loop-k.k c.loop-k.r c.up.result c.loop-k.invariant.0 (omega arith) c.loop-k.invariant.1 c.up.ensures)
-
-pub returns : goal.returns
-returns c =
-    let a = c.args in
-    done a.bits a.v a.w c.loop-k.k c.loop-k.r (omega arith) c.loop-k.invariant.1
+    turn a.bits a.v a.w c.loop-k.k c.loop-k.r c.up.result (omega arith) (omega arith) c.loop-k.invariant c.up.ensures

@@ -1,10 +1,7 @@
 use mathlib.Core.Path.{◌≡◌}
-use Prim.Native.Nat.{◌-◌, ◌/◌, ◌^◌, ◌≤◌}
+use Prim.Native.Nat.{◌-◌, ◌/◌, ◌^◌}
 use Rattle.patch.specs.inside.Powers.{product_of}
 use Rattle.patch.proofs.product.Given as goal
 
 abbrev pub invariant-loop-k : goal.invariant-loop-k
-invariant-loop-k l = (l.k ≤ l.bits) × (l.r ≡ product_of (l.bits - l.k) (l.v / 2 ^ l.k) l.w)
-
-abbrev pub decreases-loop-k : goal.decreases-loop-k
-decreases-loop-k l = l.k
+invariant-loop-k l = l.r ≡ product_of (l.bits - l.k) (l.v / 2 ^ l.k) l.w

@@ -1,5 +1,9 @@
 -- `put` meets its contract.
+use mathlib.Core.Path.{ap}
+use mathlib.Core.List.{List, ◌++◌}
+use Prim.Native.Nat.{ℕ}
 use native.Mathlib.Omega.{arith}
+use lib.ListN.{length, drop}
 use Rattle.row.proofs.Rows.{row-short, row-placed}
 use Rattle.row.proofs.put.Goals as goal
 
@@ -9,4 +13,4 @@ returns-then-fields-words c = let a = c.args in row-short a.words.now a.fields.n
 pub returns : goal.returns
 returns c =
     let a = c.args in
-    row-placed a.words.now a.fields.now c.copy.new.fields (omega arith) c.copy.ensures
+    row-placed a.words.now a.fields.now _ (omega arith) (ap (λ (ws : List ℕ). ws ++ drop (length a.words.now) a.fields.now) c.copy_from_slice.ensures.after)

@@ -1,16 +1,6 @@
 -- `pattern::rounded` meets its contract: adding and cutting off rounds to the nearest, a tie to the even one.
-use native.Mathlib.Omega.{arith}
-use Rattle.binary16.proofs.Steps.{half_is, half_le, half_pos, rounded-le, rounded-by}
+use Rattle.binary16.proofs.Steps.{rounded-le, rounded-by}
 use Rattle.binary16.proofs.pattern.rounded.Goals as goal
-
-pub overflow_sub-result-2 : goal.overflow_sub-result-2
-overflow_sub-result-2 c = omega (arith, half_is c.args.d c.requires.1 c.requires.2, half_pos c.args.d c.requires.1 c.requires.2)
-
-pub overflow_add-result : goal.overflow_add-result
-overflow_add-result c = omega (arith, half_is c.args.d c.requires.1 c.requires.2, half_le c.args.d c.requires.1 c.requires.2)
-
-pub overflow_add-result-2 : goal.overflow_add-result-2
-overflow_add-result-2 c = omega (arith, half_is c.args.d c.requires.1 c.requires.2, half_le c.args.d c.requires.1 c.requires.2)
 
 pub returns : goal.returns
 returns c =

@@ -24,5 +24,5 @@ returns c =
     let a = c.args in
     let i = a.at / 8 in
     let s = a.s.now in
-    let b : get_or s (suc i) 0 < 256 = omega (arith, c.shared_slice_known-1.given (suc i)) in
+    let b : get_or s (suc i) 0 < 256 = omega (arith, c.type_inv.s (suc i)) in
     c.lowest-2.ensures ∙ ap (λ (b : ℕ). b / 2 ^ (16 - (a.at % 8 + a.k)) % 2 ^ a.k) (c.pair.ensures ∙ ap (λ (n : ℕ). get_or s i 0 * 256 + get_or s n 0) (add-one i)) ∙ read-two s a.at a.k (omega arith) (omega arith) (omega arith) b

@@ -6,7 +6,7 @@ use Rattle.bits.proofs.Octets.{octets-all}
 use Rattle.bits.proofs.Digits.{digits-mod-pow}
 use Rattle.bits.specs.Order.{Octets, digits, store}
 use Rattle.bits.specs.inside.Window.{patched}
-use lib.ListN.{length, get_or, set, length-set, take-append-drop}
+use lib.ListN.{length, get_or, set, take-append-drop}
 use Prim.Native.Nat.{ℕ, suc, ◌+◌, ◌-◌, ◌*◌, ◌/◌, ◌^◌, ◌<◌, ◌%◌}
 use lib.Pow.{pow_pos}
 use native.Mathlib.Nat.{mod-lt, add-zero}
@@ -32,11 +32,6 @@ returns-then-k-eq0 c =
     let a = c.args in
     none a.s.now a.at a.k a.v (octets-all a.s.now (λ i. omega (arith, c.slice_known-1.given i))) c.if-k-eq0.true
 
-pub patch-x-requires : goal.patch-x-requires
-patch-x-requires c =
-    let a = c.args in
-    (omega (arith, c.wide.ensures, c.slice_known-1.given (a.at / 8)), (omega arith, low c.lowest-low.result a.v a.k c.lowest-low.ensures))
-
 pub returns-then-end-le8 : goal.returns-then-end-le8
 returns-then-end-le8 c =
     let a = c.args in
@@ -45,15 +40,6 @@ returns-then-end-le8 c =
     patch-one s a.at a.k c.lowest-low.result o (omega arith) (omega arith) (omega arith) (low c.lowest-low.result a.v a.k c.lowest-low.ensures) c.patch-x.result
     (c.patch-x.ensures ∙ ap (λ (b : ℕ). patched b (8 - (a.at % 8 + a.k)) a.k c.lowest-low.result) c.wide.ensures)
     ∙ ap (λ (d : List Bool). store s a.at d) (digits_low c.lowest-low.result a.v a.k c.lowest-low.ensures)
-
-pub patch-x-requires-2 : goal.patch-x-requires-2
-patch-x-requires-2 c =
-    let a = c.args in
-    let g = c.slice_known-1.given in
-    (omega (arith, c.pair.ensures, g (a.at / 8), g (a.at / 8 + 1)), (omega arith, low c.lowest-low.result a.v a.k c.lowest-low.ensures))
-
-pub bounds-s-j : goal.bounds-s-j
-bounds-s-j c = simp length-set (omega arith)
 
 pub returns : goal.returns
 returns c =

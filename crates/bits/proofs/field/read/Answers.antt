@@ -47,55 +47,31 @@ end u at w i v z e =
     let b : at + i * 8 ≡ at = omega arith in
     rw (← b, ← a) e
 
-pub overflow_mul-q : goal.overflow_mul-q
-overflow_mul-q c = omega arith
-
-pub overflow_add-at : goal.overflow_add-at
-overflow_add-at c = omega arith
-
-pub octet-v-requires : goal.octet-v-requires
-octet-v-requires c = omega arith
-
 pub loop-i-init : goal.loop-i-init
 loop-i-init c =
     let a = c.args in
-    (omega arith, start (a.w / 8) (a.w % 8) c.octet-v.result (drop (a.at + a.w / 8 * 8) (unpack a.s.now)) c.octet-v.ensures)
-
-pub overflow_sub-i : goal.overflow_sub-i
-overflow_sub-i c = omega arith
+    start (a.w / 8) (a.w % 8) c.octet-v.result (drop (a.at + a.w / 8 * 8) (unpack a.s.now)) c.octet-v.ensures
 
 pub overflow_mul-v : goal.overflow_mul-v
 overflow_mul-v c =
     let a = c.args in
-    let b : c.loop-i.v < 2 ^ 56 = below (unpack a.s.now) a.at (a.w / 8) c.loop-i.i (a.w % 8) c.loop-i.v (omega arith) (omega arith) (omega arith) (rw length-unpack (omega arith)) c.loop-i.invariant.1 in
+    let b : c.loop-i.v < 2 ^ 56 = below (unpack a.s.now) a.at (a.w / 8) c.loop-i.i (a.w % 8) c.loop-i.v (omega arith) (omega arith) (omega arith) (rw length-unpack (omega arith)) c.loop-i.invariant in
     omega arith
-
-pub overflow_mul-i : goal.overflow_mul-i
-overflow_mul-i c = omega arith
-
-pub overflow_add-at-in-loop-i : goal.overflow_add-at-in-loop-i
-overflow_add-at-in-loop-i c = omega arith
-
-pub octet-requires : goal.octet-requires
-octet-requires c = omega arith
 
 pub overflow_add-v : goal.overflow_add-v
 overflow_add-v c =
     let a = c.args in
     let u = unpack a.s.now in
-    let b : c.loop-i.v < 2 ^ 56 = below u a.at (a.w / 8) c.loop-i.i (a.w % 8) c.loop-i.v (omega arith) (omega arith) (omega arith) (rw length-unpack (omega arith)) c.loop-i.invariant.1 in
+    let b : c.loop-i.v < 2 ^ 56 = below u a.at (a.w / 8) c.loop-i.i (a.w % 8) c.loop-i.v (omega arith) (omega arith) (omega arith) (rw length-unpack (omega arith)) c.loop-i.invariant in
     let o : c.octet.result < 256 = octet-lt u (a.at + (c.loop-i.i - 1) * 8) c.octet.result (rw length-unpack (omega arith)) c.octet.ensures in
     omega arith
-
-pub loop-i-smaller : goal.loop-i-smaller
-loop-i-smaller c = omega arith
 
 pub loop-i-preserved : goal.loop-i-preserved
 loop-i-preserved c =
     let a = c.args in
-    (omega arith, turn (unpack a.s.now) a.at (a.w / 8) c.loop-i.i (a.w % 8) c.loop-i.v (omega arith) (omega arith) (omega arith) (rw length-unpack (omega arith)) c.loop-i.invariant.1 c.octet.result c.octet.ensures)
+    turn (unpack a.s.now) a.at (a.w / 8) c.loop-i.i (a.w % 8) c.loop-i.v (omega arith) (omega arith) (omega arith) (rw length-unpack (omega arith)) c.loop-i.invariant c.octet.result c.octet.ensures
 
 pub returns : goal.returns
 returns c =
     let a = c.args in
-    end (unpack a.s.now) a.at a.w c.loop-i.i c.loop-i.v (omega arith) c.loop-i.invariant.1
+    end (unpack a.s.now) a.at a.w c.loop-i.i c.loop-i.v (omega arith) c.loop-i.invariant

@@ -5,7 +5,7 @@ use Rattle.bits.specs.Order.{digits, octets, to_bits, store}
 use lib.ListN.{length}
 use Prim.Native.Nat.{ℕ, suc, ◌+◌, ◌-◌, ◌*◌, ◌/◌, ◌≤◌, ◌<◌, ◌%◌}
 use mathlib.Core.List.{List}
-use mathlib.Core.Path.{◌≡◌, refl, sym, ap, ◌∙◌}
+use mathlib.Core.Path.{◌≡◌, sym, ap, ◌∙◌}
 use native.Mathlib.Omega.{arith}
 use Rattle.bits.proofs.field.write.Goals as goal
 
@@ -33,54 +33,17 @@ begin m at q r v =
     let b : q - 0 ≡ q = omega arith in
     rw (a, b)
 
-pub loop-i-init : goal.loop-i-init
-loop-i-init c =
-    let a = c.args in
-    (omega arith, (refl, begin a.s.now a.at (a.w / 8) (a.w % 8) a.v))
-
-pub overflow_mul-i : goal.overflow_mul-i
-overflow_mul-i c = omega arith
-
-pub overflow_add-at : goal.overflow_add-at
-overflow_add-at c = omega arith
-
-pub put_octet-requires : goal.put_octet-requires
-put_octet-requires c = omega arith
-
-pub overflow_add-i : goal.overflow_add-i
-overflow_add-i c = omega arith
-
-pub loop-i-smaller : goal.loop-i-smaller
-loop-i-smaller c = omega arith
-
 pub loop-i-preserved : goal.loop-i-preserved
 loop-i-preserved c =
     let a = c.args in
-    let n = c.loop-i.invariant.1 in
+    let n = c.loop-i.invariant in
     let e = c.put_octet.ensures in (
-      omega arith,
-      (
-        ap (λ (z : List ℕ). length z) e ∙ length-store c.loop-i.s (a.at + c.loop-i.i * 8) (digits 8 c.loop-i.x) ∙ n.0,
-        turn c.loop-i.s c.put_octet.new.s (store a.s.now a.at (octets (a.w / 8) (a.w % 8) a.v)) a.at (a.w / 8) c.loop-i.i (a.w % 8) c.loop-i.x (omega arith) (omega arith) e n.1,
-      ),
+      ap (λ (z : List ℕ). length z) e ∙ length-store c.loop-i.s (a.at + c.loop-i.i * 8) (digits 8 c.loop-i.x) ∙ n.0,
+      turn c.loop-i.s c.put_octet.new.s (store a.s.now a.at (octets (a.w / 8) (a.w % 8) a.v)) a.at (a.w / 8) c.loop-i.i (a.w % 8) c.loop-i.x (omega arith) (omega arith) e n.1,
     )
-
-pub overflow_mul-q : goal.overflow_mul-q
-overflow_mul-q c = omega arith
-
-pub overflow_add-at-2 : goal.overflow_add-at-2
-overflow_add-at-2 c = omega arith
-
-pub put_octet-requires-2 : goal.put_octet-requires-2
-put_octet-requires-2 c = omega arith
-
-pub shape_of-s : goal.shape_of-s
-shape_of-s c =
-    let a = c.args in
-    ap (λ (z : List ℕ). length z) c.put_octet-2.ensures ∙ length-store c.loop-i.s (a.at + a.w / 8 * 8) (digits (a.w % 8) c.loop-i.x) ∙ c.loop-i.invariant.1.0
 
 pub returns : goal.returns
 unfolding to_bits
 returns c =
     let a = c.args in
-    last c.loop-i.s c.put_octet-2.new.s (store a.s.now a.at (octets (a.w / 8) (a.w % 8) a.v)) a.at (a.w / 8) c.loop-i.i (a.w % 8) c.loop-i.x (omega arith) c.put_octet-2.ensures c.loop-i.invariant.1.1
+    last c.loop-i.s c.put_octet-2.new.s (store a.s.now a.at (octets (a.w / 8) (a.w % 8) a.v)) a.at (a.w / 8) c.loop-i.i (a.w % 8) c.loop-i.x (omega arith) c.put_octet-2.ensures c.loop-i.invariant.1

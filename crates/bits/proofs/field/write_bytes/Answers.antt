@@ -9,4 +9,4 @@ pub returns : goal.returns
 returns c =
     let a = c.args in
     c.copy_at.ensures ∙ splice-store a.s.now a.at a.src.now (octets-all a.s.now (λ i. omega (arith, c.slice_known-1.given i)))
-    (octets-all a.src.now (λ i. omega (arith, c.shared_slice_known-1.given i))) (omega arith)
+    (octets-all a.src.now (λ i. omega (arith, c.type_inv.src i))) (omega arith)

@@ -38,42 +38,25 @@ module _ (p : List ℕ) (i v b : ℕ) (pos : 0 < i) (in_p : i ≤ length p) (sma
       rw d (omega arith)
 
 pub loop-i-init : goal.loop-i-init
-loop-i-init c = (omega arith, start c.args.s.now)
-
-pub overflow_sub-i : goal.overflow_sub-i
-overflow_sub-i c = omega arith
+loop-i-init c = start c.args.s.now
 
 pub overflow_mul-v : goal.overflow_mul-v
 overflow_mul-v c =
     let p = c.args.s.now in
-    let r : c.loop-i.v * 256 + 0 < 2 ^ 64 = room p c.loop-i.i c.loop-i.v 0 (omega arith) (omega arith) c.loop-i.invariant.1.1 (lit< tt) (omega arith) in
+    let r : c.loop-i.v * 256 + 0 < 2 ^ 64 = room p c.loop-i.i c.loop-i.v 0 (omega arith) (omega arith) c.loop-i.invariant.1 (lit< tt) (omega arith) in
     omega arith
-
-pub bounds-s-i : goal.bounds-s-i
-bounds-s-i c = omega arith
 
 pub overflow_add-v : goal.overflow_add-v
 overflow_add-v c =
     let p = c.args.s.now in
-    let b : c.wide.result < 256 = omega (arith, c.wide.ensures, c.shared_slice_known-in-loop-i-1.given (c.loop-i.i - 1)) in
-    let r : c.loop-i.v * 256 + c.wide.result < 2 ^ 64 = room p c.loop-i.i c.loop-i.v c.wide.result (omega arith) (omega arith) c.loop-i.invariant.1.1 b (omega arith) in
+    let b : c.wide.result < 256 = omega (arith, c.wide.ensures, c.type_inv.s (c.loop-i.i - 1)) in
+    let r : c.loop-i.v * 256 + c.wide.result < 2 ^ 64 = room p c.loop-i.i c.loop-i.v c.wide.result (omega arith) (omega arith) c.loop-i.invariant.1 b (omega arith) in
     omega arith
-
-pub loop-i-smaller : goal.loop-i-smaller
-loop-i-smaller c = omega arith
 
 pub loop-i-preserved : goal.loop-i-preserved
 loop-i-preserved c =
     let p = c.args.s.now in
-    let b : c.wide.result < 256 = omega (arith, c.wide.ensures, c.shared_slice_known-in-loop-i-1.given (c.loop-i.i - 1)) in (
-      omega arith,
-      (
-        number p c.loop-i.i c.loop-i.v c.wide.result (omega arith) (omega arith) c.loop-i.invariant.1.1 b c.loop-i.invariant.1.0 c.wide.ensures,
-        below p c.loop-i.i c.loop-i.v c.wide.result (omega arith) (omega arith) c.loop-i.invariant.1.1 b,
-      ),
+    let b : c.wide.result < 256 = omega (arith, c.wide.ensures, c.type_inv.s (c.loop-i.i - 1)) in (
+      number p c.loop-i.i c.loop-i.v c.wide.result (omega arith) (omega arith) c.loop-i.invariant.1 b c.loop-i.invariant.0 c.wide.ensures,
+      below p c.loop-i.i c.loop-i.v c.wide.result (omega arith) (omega arith) c.loop-i.invariant.1 b,
     )
-
-pub returns : goal.returns
-returns c =
-    let z : c.loop-i.i ≡ 0 = omega arith in
-    c.loop-i.invariant.1.0 ∙ ap (λ (n : ℕ). le (drop n c.args.s.now)) z

@@ -1,11 +1,10 @@
 -- `le::put` meets its contract. The invariant: what was written, with the bytes that x still has to give, is all the bytes of v.
-use mathlib.Core.Path.{◌≡◌, refl, sym, ap, ◌∙◌}
+use mathlib.Core.Path.{◌≡◌, sym, ap, ◌∙◌}
 use mathlib.Core.List.{List, [], ◌++◌, append-nil}
 use Prim.Native.Nat.{ℕ, suc, ◌-◌, ◌/◌, ◌%◌, ◌≤◌, ◌<◌}
 use native.Mathlib.Numerals.{add-one}
-use native.Mathlib.Nat.{sub-zero}
 use native.Mathlib.Omega.{arith}
-use lib.ListN.{length, take, set, length-set}
+use lib.ListN.{length, take, set}
 use lib.Seq.{take-suc-set, take_all, append_snoc}
 use Rattle.bits.specs.Little.{le_bytes}
 use Rattle.bits.proofs.le.put.Goals as goal
@@ -27,33 +26,10 @@ last p n i x v h e inv =
     let inv' : take i p ++ [] ≡ le_bytes n v = rw z at inv in
     sym (append-nil p) ∙ ap (λ (q : List ℕ). q ++ []) (sym (take_all i p l)) ∙ inv'
 
-pub loop-i-init : goal.loop-i-init
-loop-i-init c = (omega arith, (refl, rw sub-zero))
-
-pub overflow_cast-s : goal.overflow_cast-s
-overflow_cast-s c = omega arith
-
-pub bounds-s-i : goal.bounds-s-i
-bounds-s-i c = omega arith
-
-pub overflow_add-i : goal.overflow_add-i
-overflow_add-i c = omega arith
-
-pub loop-i-smaller : goal.loop-i-smaller
-loop-i-smaller c = omega arith
-
-pub loop-i-preserved : goal.loop-i-preserved
-loop-i-preserved c = (
-  omega arith,
-  (
-    simp length-set c.loop-i.invariant.1.0,
-    rw add-one (turn c.loop-i.s (length c.args.s.now) c.loop-i.i c.loop-i.x (omega arith) c.loop-i.invariant.1.0 ∙ c.loop-i.invariant.1.1),
-  ),
-)
-
-pub shape_of-s : goal.shape_of-s
-shape_of-s c = c.loop-i.invariant.1.0
+pub loop-b-preserved : goal.loop-b-preserved
+loop-b-preserved c =
+    rw add-one (turn c.loop-b.s (length c.args.s.now) c.loop-b.b-index c.loop-b.x (omega arith) (omega arith) ∙ c.loop-b.invariant)
 
 pub returns : goal.returns
 returns c =
-    last c.loop-i.s (length c.args.s.now) c.loop-i.i c.loop-i.x c.args.v (omega arith) c.loop-i.invariant.1.0 c.loop-i.invariant.1.1
+    last c.loop-b.s (length c.args.s.now) c.loop-b.b-index c.loop-b.x c.args.v (omega arith) (omega arith) c.loop-b.invariant

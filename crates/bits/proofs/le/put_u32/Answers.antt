@@ -31,14 +31,5 @@ four-stored m at v h =
     let y : v / 16777216 ≡ v / 256 / 256 / 256 = omega arith in
     rw (x, y) four
 
-pub bounds-s-at-2 : goal.bounds-s-at-2
-bounds-s-at-2 c = simp length-set (omega arith)
-
-pub bounds-s-at-3 : goal.bounds-s-at-3
-bounds-s-at-3 c = simp length-set (omega arith)
-
-pub bounds-s-at-4 : goal.bounds-s-at-4
-bounds-s-at-4 c = simp length-set (omega arith)
-
 pub returns : goal.returns
 returns c = four-stored c.args.s.now c.args.at c.args.v (omega arith)

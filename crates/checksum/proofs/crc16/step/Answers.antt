@@ -10,9 +10,6 @@ use Rattle.checksum.proofs.crc16.step.Goals as goal
 small : (c b : ℕ) → c < 65536 → b < 256 → bit_xor (c / 256) b < 256
 small c b hc hb = xor_lt 8 (c / 256) b (omega arith) hb
 
-pub overflow_cast-x-2 : goal.overflow_cast-x-2
-overflow_cast-x-2 c = let s = small c.args.c c.args.b (search rules) (search rules) in omega arith
-
 pub returns : goal.returns
 returns c =
     let a = c.args in

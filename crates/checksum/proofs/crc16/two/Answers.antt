@@ -11,15 +11,6 @@ use Rattle.checksum.proofs.crc16.two.Goals as goal
 small : (x : ℕ) → x < 256 → bit_xor (x % 16) (x / 16) < 16
 small x h = xor_lt 4 (x % 16) (x / 16) (omega arith) (omega arith)
 
-pub bounds-t-h : goal.bounds-t-h
-bounds-t-h c = omega arith
-
-pub overflow_cast-result-2 : goal.overflow_cast-result-2
-overflow_cast-result-2 c = let s = small c.args.x (search rules) in omega arith
-
-pub offset_bounds-t-l : goal.offset_bounds-t-l
-offset_bounds-t-l c = let s = small c.args.x (search rules) in omega arith
-
 pub bounds-t-l : goal.bounds-t-l
 bounds-t-l c = small c.args.x (search rules)
 

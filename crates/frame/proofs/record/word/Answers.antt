@@ -44,42 +44,24 @@ module _ (p : List ℕ) (k tail i v b : ℕ) (pos : 0 < i) (in-k : i ≤ k) (in_
 
 pub loop-i-init : goal.loop-i-init
 loop-i-init c =
-    (omega arith, start c.args.p.now c.args.k c.args.tail c.wide-v.result (omega arith) (omega arith) c.wide-v.ensures)
-
-pub overflow_sub-i : goal.overflow_sub-i
-overflow_sub-i c = omega arith
+    start c.args.p.now c.args.k c.args.tail c.wide-v.result (omega arith) (omega arith) c.wide-v.ensures
 
 pub overflow_mul-v : goal.overflow_mul-v
 overflow_mul-v c =
-    let r : c.loop-i.v * 256 + 0 < 2 ^ 64 = room c.args.p.now c.args.k c.args.tail c.loop-i.i c.loop-i.v 0 (omega arith) (omega arith) (omega arith) c.loop-i.invariant.1.1 (omega arith) (omega arith) in
+    let r : c.loop-i.v * 256 + 0 < 2 ^ 64 = room c.args.p.now c.args.k c.args.tail c.loop-i.i c.loop-i.v 0 (omega arith) (omega arith) (omega arith) c.loop-i.invariant.1 (omega arith) (omega arith) in
     omega arith
-
-pub bounds-p-i : goal.bounds-p-i
-bounds-p-i c = omega arith
 
 pub overflow_add-v : goal.overflow_add-v
 overflow_add-v c =
-    let b : c.wide.result < 256 = omega (arith, c.wide.ensures, c.shared_slice_known-in-loop-i-1.given (c.loop-i.i - 1)) in
+    let b : c.wide.result < 256 = omega (arith, c.wide.ensures, c.type_inv.p (c.loop-i.i - 1)) in
     let r : c.loop-i.v * 256 + c.wide.result < 2 ^ 64 =
-    room c.args.p.now c.args.k c.args.tail c.loop-i.i c.loop-i.v c.wide.result (omega arith) (omega arith) (omega arith) c.loop-i.invariant.1.1 b (omega arith) in
+    room c.args.p.now c.args.k c.args.tail c.loop-i.i c.loop-i.v c.wide.result (omega arith) (omega arith) (omega arith) c.loop-i.invariant.1 b (omega arith) in
     omega arith
-
-pub loop-i-smaller : goal.loop-i-smaller
-loop-i-smaller c = omega arith
 
 pub loop-i-preserved : goal.loop-i-preserved
 loop-i-preserved c =
     let a = c.args in
-    let b : c.wide.result < 256 = omega (arith, c.wide.ensures, c.shared_slice_known-in-loop-i-1.given (c.loop-i.i - 1)) in (
-      omega arith,
-      (
-        number a.p.now a.k a.tail c.loop-i.i c.loop-i.v c.wide.result (omega arith) (omega arith) (omega arith) c.loop-i.invariant.1.1 b c.loop-i.invariant.1.0 c.wide.ensures,
-        below a.p.now a.k a.tail c.loop-i.i c.loop-i.v c.wide.result (omega arith) (omega arith) (omega arith) c.loop-i.invariant.1.1 b,
-      ),
+    let b : c.wide.result < 256 = omega (arith, c.wide.ensures, c.type_inv.p (c.loop-i.i - 1)) in (
+      number a.p.now a.k a.tail c.loop-i.i c.loop-i.v c.wide.result (omega arith) (omega arith) (omega arith) c.loop-i.invariant.1 b c.loop-i.invariant.0 c.wide.ensures,
+      below a.p.now a.k a.tail c.loop-i.i c.loop-i.v c.wide.result (omega arith) (omega arith) (omega arith) c.loop-i.invariant.1 b,
     )
-
-pub returns : goal.returns
-returns c =
-    let a = c.args in
-    let z : c.loop-i.i ≡ 0 = omega arith in
-    c.loop-i.invariant.1.0 ∙ ap (λ (n : ℕ). le (drop n (framed (take a.k a.p.now) a.tail))) z
