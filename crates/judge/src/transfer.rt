@@ -10,7 +10,6 @@ use console::Console;
 use judge_stream::Kept;
 use judge_streams::{Expected, SIZE};
 use rules::limits::GATHERED;
-use subscriptions::Subscribed;
 
 // ---- what was expected ----
 
@@ -146,7 +145,7 @@ fn show_sum(console: &mut Console, sum: u16) {
     text::say(console, b")");
 }
 
-fn subscribed(state: &[u8], f: Fault) -> Subscribed
+fn subscribed(state: &[u8], f: Fault) -> Option<u64>
     requires { size ≤ length state.now }
 {
     if f.head.transfer_type == 0 {
@@ -159,8 +158,8 @@ fn show_signature(console: &mut Console, state: &[u8], f: Fault)
     requires { size ≤ length state.now }
 {
     match subscribed(state, f) {
-        Subscribed::Not => text::say(console, b"no signature"),
-        Subscribed::Under(signature) => {
+        None => text::say(console, b"no signature"),
+        Some(signature) => {
             text::say(console, b"signature ");
             text::hex(console, signature, 16);
         }

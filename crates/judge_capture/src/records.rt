@@ -11,7 +11,6 @@ ghost use Rattle.state.specs.Layout.{size, setup_of};
 
 use judge_stream::Seen;
 use judge_streams::{SIZE, Turn};
-use subscriptions::Subscribed;
 
 // What a block of records does: nothing is wrong so far, or the number of a failure and which record of the block it is for, counted from 0.
 #[derive(Drop)]
@@ -25,15 +24,17 @@ fn admit(state: &[u8], table: &mut [u64; SIZE], v: Seen, p: &[u8]) -> Turn
     requires { (size ≤ length state.now) × (Table table.old × Admits v p.now) }
     ensures { Turns (admitting (setup_of state.now) (stream_of v) (entries_of table.old) (seen_of v p.now)) table.old result table.new }
 {
-    match subscriptions::find(state, frame::check::kind(v.head), v.head.type_id as u32) {
-        Subscribed::Not => Turn::Off(7),
-        Subscribed::Under(signature) => {
-            if frame::check::is_anonymous(v.head) {
-                return Turn::On;
-            }
-            judge_streams::enter(table, signature, v, p)
-        }
+    let Some(signature) = subscriptions::find(
+        state,
+        frame::check::kind(v.head),
+        v.head.type_id as u32,
+    ) else {
+        return Turn::Off(7);
+    };
+    if frame::check::is_anonymous(v.head) {
+        return Turn::On;
     }
+    judge_streams::enter(table, signature, v, p)
 }
 
 // One record, of 21 bytes. Its data are read where they stand.

@@ -52,6 +52,7 @@ fn counted(c: Counts, handed: bool) -> Counts
     }
 }
 
+// By the number and not by the case: so `is_handed` of specs/Replay.antt has it, for any number that a refusal may hold.
 fn is_handed(a: Answer) -> bool
     ensures { result ≡ is_handed a }
 {

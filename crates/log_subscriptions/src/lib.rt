@@ -7,19 +7,17 @@ ghost use Rattle.log_subscriptions.specs.Subscriptions.{record13, subscriptions 
 
 const COUNT: usize = 9;
 
-const SERVICE: u32 = 65536;
-
-// The data type ID of each, a service's with `SERVICE` added.
-const TYPES: [u32; COUNT] = [
-    341, // NodeStatus
-    SERVICE + 1, // GetNodeInfo
-    1, // Allocation
-    16370, // KeyValue
-    16383, // LogMessage
-    1092, // BatteryInfo
-    1030, // RawCommand
-    SERVICE + 11, // GetSet
-    SERVICE + 10, // ExecuteOpcode
+// Kind (0 message, 1 service) and data type ID of each.
+const TYPES: [(u32, u32); COUNT] = [
+    (0, 341), // NodeStatus
+    (1, 1), // GetNodeInfo
+    (0, 1), // Allocation
+    (0, 16370), // KeyValue
+    (0, 16383), // LogMessage
+    (0, 1092), // BatteryInfo
+    (0, 1030), // RawCommand
+    (1, 11), // GetSet
+    (1, 10), // ExecuteOpcode
 ];
 
 // A type as a record for a receiver's setup (RULES 3.3): kind (1), type ID (4), signature (8), low byte first.
@@ -36,12 +34,9 @@ fn put(out: &mut [u8], j: usize, kind: u32, type_id: u32)
 pub fn subscriptions() -> [u8; 117]
     ensures { result ≡ subscriptions_of }
 {
-    let types = TYPES;
     let mut out = [0u8; 117];
-    let mut j = 0;
-    while j < COUNT {
-        put(&mut out, j, types[j] / SERVICE, types[j] % SERVICE);
-        j += 1;
+    for (j, (kind, type_id)) in TYPES.iter().enumerate() {
+        put(&mut out, j, *kind, *type_id);
     }
     out
 }

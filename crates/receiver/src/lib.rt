@@ -15,7 +15,6 @@ ghost use Rattle.state.specs.Sound.{sound_state};
 use answers::Answer;
 use rules::limits::PAYLOAD;
 use session::Incoming;
-use subscriptions::Subscribed;
 
 // A frame that passed the checks: an anonymous one is handed out at once, others go to their session.
 fn accept(state: &mut [u8], f: Incoming, frame: &[u8], out: &mut [u8]) -> Answer
@@ -51,25 +50,23 @@ pub fn receive_sound(
     if 0 < refused {
         return Answer::Refused(refused);
     }
-    match subscriptions::find(state, frame::check::kind(h), h.type_id as u32) {
-        Subscribed::Not => Answer::Refused(7),
-        Subscribed::Under(signature) => {
-            if out.len() < PAYLOAD {
-                return Answer::Refused(8);
-            }
-            accept(
-                state,
-                Incoming {
-                    head: h,
-                    signature,
-                    time,
-                    interface: (interface % 256) as u8,
-                },
-                frame,
-                out,
-            )
-        }
+    let Some(signature) = subscriptions::find(state, frame::check::kind(h), h.type_id as u32) else {
+        return Answer::Refused(7);
+    };
+    if out.len() < PAYLOAD {
+        return Answer::Refused(8);
     }
+    accept(
+        state,
+        Incoming {
+            head: h,
+            signature,
+            time,
+            interface: (interface % 256) as u8,
+        },
+        frame,
+        out,
+    )
 }
 
 // One frame with its interface and time: the answer, the state after and the output buffer (RULES 4.9, 5.6). A state at fault answers 20.

@@ -65,8 +65,9 @@ impl Session {
         ensures { result ≡ taken self start time n }
     {
         self.len = self.len + n;
-        let since = started(start, time, self.time);
-        self.time = since;
+        if start {
+            self.time = time;
+        }
         self.toggle = !self.toggle;
         self
     }
@@ -91,16 +92,6 @@ pub fn expects(f: Incoming) -> u8
         return f.head.transfer;
     }
     (f.head.transfer + 1) % 32
-}
-
-// The time of the last start.
-fn started(start: bool, time: u64, before: u64) -> u64
-    ensures { result ≡ pick start time before }
-{
-    if start {
-        return time;
-    }
-    before
 }
 
 // The age is above a limit. An earlier time counts as age 0.

@@ -10,19 +10,18 @@ use native.Mathlib.Omega.{arith}
 use borrow.Author.Tests.{ltb-true}
 use lib.Dec.{ltb, eqb}
 use lib.ListN.{length, get_or, take, drop}
-use lib.Seq.{take-add}
+use lib.Seq.{take-suc}
+use Rattle.std.proofs.lemmas.List.{take-append-drop}
 use Rattle.bits.proofs.Tabulate.{tab-append, tab-snoc}
-use Rattle.bits.specs.Part.{span}
 use Rattle.bits.specs.Tabulate.{tabulate}
 use Rattle.blocks.specs.inside.Bit.{bit_at, including}
 use Rattle.rules.specs.Blocks.{blocks_in, used}
 use Rattle.rules.specs.Limits.{blocks_max}
 use Rattle.rules.specs.Table.{Place, Places}
 use Rattle.rules.specs.Tests.{pick}
-use Rattle.sessions.specs.declared.sound.Claimed.TheVariants.{Blocks, Fault}
+use Rattle.std.specs.Prelude.{None, Some}
 use Rattle.sessions.specs.inside.Blocks.{new_to}
 use Rattle.sessions.specs.inside.Sound.{claimed, told}
-use Rattle.sessions.proofs.Stored.{span-suc}
 
 pub claim-none : (r : ℕ) → claimed r [] ≡ some r
 unfolding claimed
@@ -61,20 +60,20 @@ single-old : (s b : ℕ) → new_to s b ≡ false → claimed s (b ∷ []) ≡ n
 unfolding claimed
 single-old s b e = rw e
 
-module _ (m : List ℕ) (a j r s : ℕ) where
-  pub claim-more : (x : ℕ) → a + j < length m → claimed r (span m a j) ≡ some s → new_to s (get_or m (a + j) 0) ≡ true → x ≡ including s (get_or m (a + j) 0)
-      → claimed r (span m a (j + 1)) ≡ some x
-  claim-more x h e n q =
-      ap (claimed r) (span-suc m a j h) ∙ both (span m a j) (get_or m (a + j) 0 ∷ []) r s e ∙ single-new s (get_or m (a + j) 0) n ∙ ap (λ (y : ℕ). some y) (sym q)
+-- the first of those listed, and one more
+module _ (bs : List ℕ) (j r s : ℕ) (h : j < length bs) (e : claimed r (take j bs) ≡ some s) where
+  front : take (j + 1) bs ≡ take j bs ++ (get_or bs j 0 ∷ [])
+  front = let k : j + 1 ≡ suc j = omega arith in ap (λ (i : ℕ). take i bs) k ∙ take-suc bs j 0 h
 
-pub claim-fault : (m : List ℕ) (a j n r s : ℕ) → a + j < length m → j < n → claimed r (span m a j) ≡ some s → new_to s (get_or m (a + j) 0) ≡ false
-    → Fault ≡ told (claimed r (span m a n))
-claim-fault m a j n r s h l e f =
-    let k : n ≡ (j + 1) + (n - (j + 1)) = omega arith in
-    let c : span m a n ≡ span m a (j + 1) ++ take (n - (j + 1)) (drop (j + 1) (drop a m)) = ap (span m a) k ∙ take-add (j + 1) (n - (j + 1)) (drop a m) in
-    let o : claimed r (span m a (j + 1)) ≡ none =
-    ap (claimed r) (span-suc m a j h) ∙ both (span m a j) (get_or m (a + j) 0 ∷ []) r s e ∙ single-old s (get_or m (a + j) 0) f in
-    sym (ap told (ap (claimed r) c ∙ fails (span m a (j + 1)) (take (n - (j + 1)) (drop (j + 1) (drop a m))) r o))
+  pub claim-more : (x : ℕ) → new_to s (get_or bs j 0) ≡ true → x ≡ including s (get_or bs j 0) → claimed r (take (j + 1) bs) ≡ some x
+  claim-more x n q =
+      ap (claimed r) front ∙ both (take j bs) (get_or bs j 0 ∷ []) r s e ∙ single-new s (get_or bs j 0) n ∙ ap (λ (y : ℕ). some y) (sym q)
+
+  pub claim-fault : new_to s (get_or bs j 0) ≡ false → None ≡ told (claimed r bs)
+  claim-fault f =
+      let o : claimed r (take (j + 1) bs) ≡ none =
+      ap (claimed r) front ∙ both (take j bs) (get_or bs j 0 ∷ []) r s e ∙ single-old s (get_or bs j 0) f in
+      sym (ap told (ap (claimed r) (sym (take-append-drop (j + 1) bs)) ∙ fails (take (j + 1) bs) (drop (j + 1) bs) r o))
 
 -- ── place by place ──
 
@@ -124,10 +123,10 @@ module _ (f : ℕ → Place) (r : ℕ) where
 
 -- ── as the code tells it ──
 
-pub told-fault : (o : Option ℕ) → Fault ≡ told o → o ≡ none
+pub told-fault : (o : Option ℕ) → None ≡ told o → o ≡ none
 told-fault none e = refl
 told-fault (some x) e = let z : ◌≡◌ {A = ℕ} 0 1 = cc in absurd (omega arith)
 
-pub told_blocks : (o : Option ℕ) (x : ℕ) → Blocks x ≡ told o → o ≡ some x
+pub told_blocks : (o : Option ℕ) (x : ℕ) → Some x ≡ told o → o ≡ some x
 told_blocks none x e = let z : ◌≡◌ {A = ℕ} 0 1 = cc in absurd (omega arith)
 told_blocks (some y) x e = cc

@@ -14,7 +14,7 @@ use Rattle.rules.specs.Blocks.{need, blocks_in, used}
 use Rattle.rules.specs.Limits.{sessions_max, gathered_max, blocks_each}
 use Rattle.rules.specs.Sound.{stream_fits}
 use Rattle.rules.specs.Tests.{pick}
-use Rattle.sessions.specs.declared.sound.Claimed.TheVariants.{Blocks, Fault}
+use Rattle.std.specs.Prelude.{None, Some}
 use Rattle.sessions.specs.inside.Sound.{control_fits, empty_or_fits, claimed, told, shares}
 use Rattle.state.proofs.Bools.{and_left}
 use Rattle.state.specs.Layout.{block_lists_at, free_of, key_at, count_at, blocks_of, place_at, places_of}
@@ -22,11 +22,11 @@ use Rattle.sessions.proofs.Claims.{told-fault, told_blocks, seen-fault, seen_end
 
 -- the session in place i
 module _ (m : List ℕ) (i seen : ℕ) where
-  pub unfit-claimed : control_fits m i ≡ false → Fault ≡ told (pick (control_fits m i) (claimed seen (blocks_of m i)) none)
+  pub unfit-claimed : control_fits m i ≡ false → None ≡ told (pick (control_fits m i) (claimed seen (blocks_of m i)) none)
   unfit-claimed f = ap (λ (b : Bool). told (pick b (claimed seen (blocks_of m i)) none)) (sym f)
 
   module _ (n : ℕ) (e : n ≡ count_at m i) where
-    pub idle-claimed : n ≡ 0 → control_fits m i ≡ true → Blocks seen ≡ told (pick (control_fits m i) (claimed seen (blocks_of m i)) none)
+    pub idle-claimed : n ≡ 0 → control_fits m i ≡ true → Some seen ≡ told (pick (control_fits m i) (claimed seen (blocks_of m i)) none)
     unfolding claimed blocks_of
     idle-claimed z f =
         let d : need (count_at m i) ≡ 0 = omega (arith, e, z) in
@@ -43,12 +43,12 @@ few-claimed n b f = leb-true n gathered_max (and_left (leb n gathered_max) b f)
 
 -- place i
 module _ (m : List ℕ) (i k seen : ℕ) (is : k ≡ key_at m i) where
-  pub none-claimed : k ≡ 0 → Blocks seen ≡ told (pick (empty_or_fits m i) (claimed seen (blocks_in (place_at m i))) none)
+  pub none-claimed : k ≡ 0 → Some seen ≡ told (pick (empty_or_fits m i) (claimed seen (blocks_in (place_at m i))) none)
   unfolding empty_or_fits place_at claimed
   none-claimed z = rw (eq-eqb (key_at m i) 0 (sym is ∙ z))
 
   module _ (some : k ≡ 0 → ⊥) where
-    pub no_stream : stream_fits (stream_of_key k) ≡ false → Fault ≡ told (pick (empty_or_fits m i) (claimed seen (blocks_in (place_at m i))) none)
+    pub no_stream : stream_fits (stream_of_key k) ≡ false → None ≡ told (pick (empty_or_fits m i) (claimed seen (blocks_in (place_at m i))) none)
     unfolding empty_or_fits
     no_stream s = rw (← is, ne_eqb k 0 some, s)
 
@@ -58,7 +58,7 @@ module _ (m : List ℕ) (i k seen : ℕ) (is : k ≡ key_at m i) where
     in-stream s = rw (← is, ne_eqb k 0 some, s)
 
 -- both tests of a place passed, or one of them not
-pub both-passed : (b : Bool) (o : Option ℕ) (x : ℕ) → Blocks x ≡ told (pick b o none) → (b ≡ true) × (o ≡ some x)
+pub both-passed : (b : Bool) (o : Option ℕ) (x : ℕ) → Some x ≡ told (pick b o none) → (b ≡ true) × (o ≡ some x)
 both-passed true o x e = (refl, told_blocks o x e)
 both-passed false o x e = let z = told_blocks none x e in let y : ◌≡◌ {A = ℕ} 0 1 = cc in absurd (omega arith)
 
@@ -77,17 +77,17 @@ module _ (m : List ℕ) where
   unfolding place_at
   empty-blocks j z = rw (eq-eqb (key_at m j) 0 z)
 
-  fault-share : (x : Bool) (i s : ℕ) → i < sessions_max → claimed (free_of m) (used (tabulate (place_at m) 0 i)) ≡ some s → Fault ≡ told (claimed s (blocks_in (place_at m i)))
+  fault-share : (x : Bool) (i s : ℕ) → i < sessions_max → claimed (free_of m) (used (tabulate (place_at m) 0 i)) ≡ some s → None ≡ told (claimed s (blocks_in (place_at m i)))
       → false ≡ (x && shares m)
   unfolding places_of
   fault-share x i s h e f = no-share x (seen-fault (place_at m) (free_of m) sessions_max i s h e (told-fault (claimed s (blocks_in (place_at m i))) f))
 
   -- where place i is at fault, by its fields or by its blocks
   pub fault-place : (x : Bool) (i s : ℕ) → i < sessions_max → claimed (free_of m) (used (tabulate (place_at m) 0 i)) ≡ some s
-      → Fault ≡ told (pick (empty_or_fits m i) (claimed s (blocks_in (place_at m i))) none) → (empty_or_fits m i ≡ false → false ≡ x) → false ≡ (x && shares m)
+      → None ≡ told (pick (empty_or_fits m i) (claimed s (blocks_in (place_at m i))) none) → (empty_or_fits m i ≡ false → false ≡ x) → false ≡ (x && shares m)
   fault-place x i s h e f u = go (empty_or_fits m i) refl f
     where
-      go : (b : Bool) → empty_or_fits m i ≡ b → Fault ≡ told (pick b (claimed s (blocks_in (place_at m i))) none) → false ≡ (x && shares m)
+      go : (b : Bool) → empty_or_fits m i ≡ b → None ≡ told (pick b (claimed s (blocks_in (place_at m i))) none) → false ≡ (x && shares m)
       go true d g = fault-share x i s h e g
       go false d g = ap (λ (b : Bool). b && shares m) (u d)
 

@@ -115,9 +115,11 @@ two-tails m m₁ m₂ i n p h s e₂ e₁ =
     ∙ rw (lt-leb (n % 64 + length p) 64 h)
 
 -- one more block in the set
-pub one_more : (m : List ℕ) (a j free all : ℕ) → a + j < length m → all ≡ including_all free (span m a j) → including all (get_or m (a + j) 0) ≡ including_all free (span m a (j + 1))
-one_more m a j free all h e =
-    ap (λ (x : ℕ). including x (get_or m (a + j) 0)) e ∙ all_append free (span m a j) (get_or m (a + j) 0) ∙ ap (including_all free) (sym (span-suc m a j h))
+pub one_more : (bs : List ℕ) (j free all : ℕ) → j < length bs → all ≡ including_all free (take j bs) → including all (get_or bs j 0) ≡ including_all free (take (j + 1) bs)
+one_more bs j free all h e =
+    let k : j + 1 ≡ suc j = omega arith in
+    ap (λ (x : ℕ). including x (get_or bs j 0)) e ∙ all_append free (take j bs) (get_or bs j 0)
+    ∙ ap (including_all free) (sym (ap (λ (i : ℕ). take i bs) k ∙ take-suc bs j 0 h))
 
 -- ── gathering ──
 

@@ -55,10 +55,8 @@ pub fn free_with(state: &[u8], i: usize, n: usize) -> u64
 {
     let at = BLOCK_LISTS_AT + i * BLOCKS_EACH;
     let mut all = free(state);
-    let mut j = 0;
-    while j < n {
-        all = set::include(all, state[at + j] as u32);
-        j += 1;
+    for b in &state[at..at + n] {
+        all = set::include(all, *b as u32);
     }
     all
 }
@@ -107,10 +105,8 @@ pub fn gather(state: &[u8], i: usize, n: usize, all: &mut [u8])
     ensures { all.new ≡ splice all.old 0 (take n (joined state.now (span state.now (block_lists_at + i * blocks_each) (need n)))) }
 {
     let at = BLOCK_LISTS_AT + i * BLOCKS_EACH;
-    let mut j = 0;
-    while j * BLOCK < n {
+    for j in 0..needed(n) {
         let from = BLOCKS_AT + state[at + j] as usize * BLOCK;
         bits::part::copy_span(all, j * BLOCK, state, from, chunk(n - j * BLOCK));
-        j += 1;
     }
 }

@@ -39,10 +39,8 @@ fn relieve(state: &mut [u8], t: u64)
     requires { Ready state.old }
     ensures { state.new ≡ written state.old (map (relieved t) (places_of state.old)) }
 {
-    let mut i = 0;
-    while i < SESSIONS {
+    for i in 0..SESSIONS {
         relieve_one(state, t, i);
-        i += 1;
     }
 }
 

@@ -36,17 +36,15 @@ fn lowest_old(state: &[u8], t: u64) -> usize
     requires { size ≤ length state.now }
     ensures { result ≡ lowest (old_at state.now t) 0 sessions_max }
 {
-    let mut i = 0;
-    while i < SESSIONS {
+    for i in 0..SESSIONS {
         if is_old(state, t, i) {
             return i;
         }
-        i += 1;
     }
-    i
+    SESSIONS
 }
 
-// Internal. The lowest place that fits, or 32.
+// Internal. The lowest place that fits, or 32. A number and no Option: it is what `keys::find` gives and `lowest` says, and one test of it does.
 pub fn scan(state: &[u8], w: Want) -> usize
     requires { size ≤ length state.now }
     ensures { result ≡ lowest (fits_at state.now w) 0 sessions_max }

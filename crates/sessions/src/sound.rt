@@ -66,35 +66,25 @@ fn busy_fits(n: usize, x: u32) -> bool
     false
 }
 
-// Blocks that are free or in a session.
-#[derive(Drop)]
-enum Claimed {
-    Blocks(u64),
-    Fault,
-}
-
-// These blocks and the first n of place i; a fault where one of them is no block, or there before.
-fn claim(state: &[u8], i: usize, n: usize, seen: u64) -> Claimed
+// The blocks seen, which are free or in a session, and the first n of place i. None, a fault, where one of them is no block, or there before.
+fn claim(state: &[u8], i: usize, n: usize, seen: u64) -> Option<u64>
     requires { ((i < sessions_max) × (size ≤ length state.now)) × (n ≤ blocks_each) }
     ensures { result ≡ told (claimed seen (span state.now (block_lists_at + i * blocks_each) n)) }
 {
     let at = BLOCK_LISTS_AT + i * BLOCKS_EACH;
     let mut all = seen;
-    let mut j = 0;
-    while j < n {
-        let b = state[at + j] as u32;
-        if gathered::is_new(all, b) {
-            all = set::include(all, b);
-            j += 1;
-        } else {
-            return Claimed::Fault;
+    for b in &state[at..at + n] {
+        let b = *b as u32;
+        if !gathered::is_new(all, b) {
+            return None;
         }
+        all = set::include(all, b);
     }
-    Claimed::Blocks(all)
+    Some(all)
 }
 
 // These blocks and those of the session in place i; a fault too where its control fields are not in range. One with nothing in hand is done first.
-fn claim_session(state: &[u8], i: usize, seen: u64) -> Claimed
+fn claim_session(state: &[u8], i: usize, seen: u64) -> Option<u64>
     requires { (i < sessions_max) × (size ≤ length state.now) }
     ensures { result ≡ told (pick (control_fits state.now i) (claimed seen (blocks_of state.now i)) none) }
 {
@@ -103,28 +93,28 @@ fn claim_session(state: &[u8], i: usize, seen: u64) -> Claimed
     let x = bits::le::get_u16(state, at + 2);
     if n == 0 {
         if idle_fits(x) {
-            return Claimed::Blocks(seen);
+            return Some(seen);
         }
-        return Claimed::Fault;
+        return None;
     }
     if busy_fits(n, x) {
         return claim(state, i, gathered::needed(n), seen);
     }
-    Claimed::Fault
+    None
 }
 
 // These blocks and those of place i, whose key is k; a fault too where the place is not empty and its stream or its control fields are not in range.
-fn claim_place(state: &[u8], i: usize, k: u32, seen: u64) -> Claimed
+fn claim_place(state: &[u8], i: usize, k: u32, seen: u64) -> Option<u64>
     requires { ((i < sessions_max) × (size ≤ length state.now)) × (k ≡ key_at state.now i) }
     ensures { result ≡ told (pick (empty_or_fits state.now i) (claimed seen (blocks_in (place_at state.now i))) none) }
 {
     if k == 0 {
-        return Claimed::Blocks(seen);
+        return Some(seen);
     }
     if stream_fits(k) {
         return claim_session(state, i, seen);
     }
-    Claimed::Fault
+    None
 }
 
 // Place by place, up to the last session: each fits, no key is there twice, and every block is free or in one session. One walk for all, since it
@@ -137,23 +127,19 @@ fn places_sound(state: &[u8], table: &[u32]) -> bool
     let mut left = table.len() as u32 - keys::count(table, 0);
     let mut seen = gathered::free(state);
     let mut i = 0;
+    // A while: it ends after the last session, wherever that is.
     while 0 < left {
         let k = table[i];
         let first = keys::mark(&mut marks, k);
-        match claim_place(state, i, k, seen) {
-            Claimed::Fault => {
-                return false;
-            }
-            Claimed::Blocks(all) => {
-                if keys::is_alone(table, k, first) {
-                    seen = all;
-                    left -= (k != 0) as u32;
-                    i += 1;
-                } else {
-                    return false;
-                }
-            }
+        let Some(all) = claim_place(state, i, k, seen) else {
+            return false;
+        };
+        if !keys::is_alone(table, k, first) {
+            return false;
         }
+        seen = all;
+        left -= (k != 0) as u32;
+        i += 1;
     }
     seen == ALL
 }

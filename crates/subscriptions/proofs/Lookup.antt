@@ -15,7 +15,7 @@ use Rattle.rules.specs.Setup.{subscribed}
 use Rattle.rules.specs.Tests.{pick}
 use Rattle.state.specs.Layout.{signatures_at, subscription_keys_at, subscription_key_at, subscription_at}
 use Rattle.subscriptions.specs.inside.Subscription.{asked}
-use Rattle.subscriptions.specs.declared.Subscribed.TheVariants.{Under, Not}
+use Rattle.std.specs.Prelude.{None, Some}
 
 -- two numbers are equal exactly if their halves are
 halves : (k x y : ℕ) → y < 65536 → (eqb (k / 65536) x && eqb (k % 65536) y) ≡ eqb k (x * 65536 + y)
@@ -62,10 +62,10 @@ module _ (m : List ℕ) (kind type : ℕ) (h : type < 65536) where
 
 -- ── what an answer tells ──
 
-pub under : (o : Option ℕ) (g : ℕ) → asked o ≡ Under g → o ≡ some g
-under none g e = let z : ◌≡◌ {A = ℕ} 0 1 = cc in absurd (omega arith)
+pub under : (o : Option ℕ) (g : ℕ) → asked o ≡ Some g → o ≡ some g
+under none g e = cc
 under (some n) g e = cc
 
-pub not-asked : (o : Option ℕ) → asked o ≡ Not → o ≡ none
+pub not-asked : (o : Option ℕ) → asked o ≡ None → o ≡ none
 not-asked none e = refl
-not-asked (some n) e = let z : ◌≡◌ {A = ℕ} 0 1 = cc in absurd (omega arith)
+not-asked (some n) e = cc

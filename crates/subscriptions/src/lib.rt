@@ -10,27 +10,20 @@ ghost use Rattle.subscriptions.specs.inside.Subscription.{asked, key_fits, with_
 use keys::MARKS;
 use state::layout::{SIGNATURES_AT, SUBSCRIPTION_COUNT_AT, SUBSCRIPTION_KEYS_AT};
 
-// What a subscription gives: the signature of its type.
-#[derive(Drop)]
-pub enum Subscribed {
-    Under(u64),
-    Not,
-}
-
 // Above the last key of a kind and a type in range: kind 1 has types below 256.
 const KEYS_END: u32 = 65536 + 256;
 
-// Internal. The lowest subscription of this kind and type.
-pub fn find(state: &[u8], kind: u32, type_id: u32) -> Subscribed
+// Internal. The signature that the lowest subscription of this kind and type gives.
+pub fn find(state: &[u8], kind: u32, type_id: u32) -> Option<u64>
     requires { (size ≤ length state.now) × ((kind < 2) × (type_id < 65536)) }
     ensures { result ≡ asked (subscribed kind type_id (setup_of state.now).subscriptions) }
 {
     let n = state[SUBSCRIPTION_COUNT_AT] as usize;
     let j = keys::find(state, SUBSCRIPTION_KEYS_AT, n, kind * 65536 + type_id);
     if j < n {
-        return Subscribed::Under(bits::le::get_u64(state, SIGNATURES_AT + j * 8));
+        return Some(bits::le::get_u64(state, SIGNATURES_AT + j * 8));
     }
-    Subscribed::Not
+    None
 }
 
 // The key k is in range, and none of the first j subscriptions has it; `first`: it is known that none has it.
@@ -55,13 +48,10 @@ pub fn all_fit(state: &[u8]) -> bool
 {
     let n = state[SUBSCRIPTION_COUNT_AT] as usize;
     let mut marks = [0u8; MARKS];
-    let mut j = 0;
-    while j < n {
+    for j in 0..n {
         let k = bits::le::get_u32(state, SUBSCRIPTION_KEYS_AT + j * 4);
         let first = keys::mark(&mut marks, k);
-        if key_fits(state, k, j, first) {
-            j += 1;
-        } else {
+        if !key_fits(state, k, j, first) {
             return false;
         }
     }

@@ -4,7 +4,8 @@
 ghost use Rattle.std.specs.Prelude.{◌≡◌};
 ghost use Rattle.types.specs.Types.{signature_of};
 
-// The signature of a standard type, of kind 0 (message) or 1 (service); 0 of any other.
+// The signature of a standard type, of kind 0 (message) or 1 (service); 0 of any other. Numbers, for the C call that passes them on
+// (`tecelume_signature`) and `signature_of` have them.
 pub fn signature(kind: u32, type_id: u32) -> u64
     ensures { result ≡ signature_of kind type_id }
 {

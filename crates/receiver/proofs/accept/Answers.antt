@@ -20,6 +20,7 @@ use Rattle.rules.specs.Table.{seek, holds}
 use Rattle.session.specs.inside.Session.{stream_of, parsed_of}
 use Rattle.session.specs.declared.Incoming.{Incoming}
 use Rattle.state.specs.Layout.{places_of}
+use borrow.Author.Rules.{rules}
 use Rattle.receiver.proofs.accept.Goals as goal
 
 -- the part of the frame before its tail
@@ -52,7 +53,7 @@ returns-then-is_anonymous c =
     let bs = a.frame.now in
     let v = parsed_of a.f (payload_of bs) in
     let q = c.hand_out.ensures in
-    untouched m c.requires.sound (octets-all m (λ i. omega (arith, c.slice_known-1.given i))) out (step_anonymous true (places_of m) v) c.hand_out.result refl
+    untouched m c.requires.sound (octets-all m (search rules)) out (step_anonymous true (places_of m) v) c.hand_out.result refl
     (q.answer ∙ ap (λ p. told (rules.handed p (stream_of a.f) a.f.head.priority a.f.head.transfer)) (before-tail bs)) _
     (q.out ∙ ap (λ p. splice out 0 p) (before-tail bs))
     ∙ ap (λ (x : Bool). lent m out (step_anonymous x (places_of m) v)) (sym (sym c.is_anonymous.ensures ∙ c.if-is_anonymous.true))

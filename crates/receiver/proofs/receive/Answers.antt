@@ -4,9 +4,6 @@ use mathlib.Core.Bool.{Bool}
 use Rattle.receiver.specs.Receive.{arrival_of, received_if, received}
 use Rattle.receiver.proofs.receive.Goals as goal
 
-pub receive_sound-requires : goal.receive_sound-requires
-receive_sound-requires c = sym c.is_sound.ensures ∙ c.if-is_sound.true
-
 pub returns-then-is_sound : goal.returns-then-is_sound
 unfolding received received_if
 returns-then-is_sound c =

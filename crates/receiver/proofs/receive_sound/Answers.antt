@@ -34,8 +34,9 @@ use Rattle.state.specs.Layout.{setup_of, places_of}
 use Rattle.state.specs.Sound.{sound_state}
 use Rattle.subscriptions.proofs.Lookup.{under, not-asked}
 use Rattle.subscriptions.specs.inside.Subscription.{asked}
-use Rattle.subscriptions.specs.declared.Subscribed.{Subscribed}
+use Rattle.std.specs.declared.option.Option as rust
 use Rattle.state.proofs.Faultless.{long}
+use borrow.Author.Rules.{rules}
 use Rattle.receiver.proofs.receive_sound.Goals as goal
 use Rattle.receiver.proofs.receive_sound.Goals.{After-find, After-refusal-refused, Else-unreadable-gt0, Start}
 
@@ -47,7 +48,7 @@ refusing m out fine b f n e =
     ∙ ap (lent m out) (sym (step-refused (setup_of m) (places_of m) (arriving f out) n e))
 
 -- what the look-up found is the signature that the frame is checked under
-looked-up : (m : List ℕ) (id tail k : ℕ) (h : Head) (r : Subscribed) → h ≡ head_of id tail → k ≡ kind_of (head.stream_of h)
+looked-up : (m : List ℕ) (id tail k : ℕ) (h : Head) (r : rust.Option ℕ) → h ≡ head_of id tail → k ≡ kind_of (head.stream_of h)
     → r ≡ asked (subscribed k h.type_id (setup_of m).subscriptions) → asked (signature_for (setup_of m) id) ≡ r
 unfolding head_of
 looked-up m id tail k h r d e g =
@@ -113,7 +114,7 @@ accepts s h g i e k r f z room by pass =
 pub returns-then-unreadable-gt0 : goal.returns-then-unreadable-gt0
 returns-then-unreadable-gt0 c =
     let a = c.args in
-    refusing a.state.now a.out.now c.requires (octets-all c.args.state.now (λ i. omega (arith, c.slice_known-1.given i))) (arrival_of a.id a.frame.now a.interface a.time) c.unreadable-unreadable.result
+    refusing a.state.now a.out.now c.requires (octets-all c.args.state.now (search rules)) (arrival_of a.id a.frame.now a.interface a.time) c.unreadable-unreadable.result
     (read-refuses (setup_of a.state.now) a.id a.interface a.time a.frame.now a.out.now c.unreadable-unreadable.result c.unreadable-unreadable.ensures c.if-unreadable-gt0.true)
 
 pub overflow_sub-n : goal.overflow_sub-n
@@ -131,7 +132,7 @@ bounds-state-0 c = omega (arith, long c.args.state.now c.requires)
 pub returns-then-refused-gt0 : goal.returns-then-refused-gt0
 returns-then-refused-gt0 c =
     let a = c.args in
-    refusing a.state.now a.out.now c.requires (octets-all c.args.state.now (λ i. omega (arith, c.slice_known-1.given i))) (arrival_of a.id a.frame.now a.interface a.time) c.refusal-refused.result
+    refusing a.state.now a.out.now c.requires (octets-all c.args.state.now (search rules)) (arrival_of a.id a.frame.now a.interface a.time) c.refusal-refused.result
     (head-refuses (setup_of a.state.now) a.id a.interface a.time a.frame.now a.out.now c.unreadable-unreadable.result c.unreadable-unreadable.ensures c.if-unreadable-gt0.false
     c.refusal-refused.result (heads-number (goal.at.returns-then-refused-gt0 c).After-refusal-refused) c.if-refused-gt0.true)
 
@@ -148,39 +149,39 @@ pub returns-then-out-lt-PAYLOAD : goal.returns-then-out-lt-PAYLOAD
 returns-then-out-lt-PAYLOAD c =
     let a = c.args in
     let u = setup_of a.state.now in
-    refusing a.state.now a.out.now c.requires (octets-all c.args.state.now (λ i. omega (arith, c.slice_known-1.given i))) (arrival_of a.id a.frame.now a.interface a.time) 8
+    refusing a.state.now a.out.now c.requires (octets-all c.args.state.now (search rules)) (arrival_of a.id a.frame.now a.interface a.time) 8
     (no-room u a.id a.interface a.time a.frame.now a.out.now c.unreadable-unreadable.result c.unreadable-unreadable.ensures c.if-unreadable-gt0.false
-    c.refusal-refused.result (heads-number (goal.at.returns-then-out-lt-PAYLOAD c).After-refusal-refused) c.if-refused-gt0.false _ (under (signature_for u a.id) _ (found (goal.at.returns-then-out-lt-PAYLOAD c).After-find ∙ c.in-Under.is)) c.if-out-lt-PAYLOAD.true)
+    c.refusal-refused.result (heads-number (goal.at.returns-then-out-lt-PAYLOAD c).After-refusal-refused) c.if-refused-gt0.false _ (under (signature_for u a.id) _ (found (goal.at.returns-then-out-lt-PAYLOAD c).After-find ∙ c.in-Some.is)) c.if-out-lt-PAYLOAD.true)
 
 pub accept-requires : goal.accept-requires
 accept-requires c =
     let u = setup_of c.args.state.now in
     accepts (goal.at.accept-requires c).Start c.read-h.result _ _ c.read-h.ensures (read_ok (goal.at.accept-requires c).Else-unreadable-gt0) c.refusal-refused.result (heads-number (goal.at.accept-requires c).After-refusal-refused) c.if-refused-gt0.false c.if-out-lt-PAYLOAD.false (omega (arith, (read_ok (goal.at.accept-requires c).Else-unreadable-gt0).interface))
     (all-passed u c.args.id c.args.interface c.args.time c.args.frame.now c.args.out.now c.unreadable-unreadable.result c.unreadable-unreadable.ensures c.if-unreadable-gt0.false
-    c.refusal-refused.result (heads-number (goal.at.accept-requires c).After-refusal-refused) c.if-refused-gt0.false _ (under (signature_for u c.args.id) _ (found (goal.at.accept-requires c).After-find ∙ c.in-Under.is)))
+    c.refusal-refused.result (heads-number (goal.at.accept-requires c).After-refusal-refused) c.if-refused-gt0.false _ (under (signature_for u c.args.id) _ (found (goal.at.accept-requires c).After-find ∙ c.in-Some.is)))
 
-pub returns-in-Not : goal.returns-in-Not
-returns-in-Not c =
+pub returns-in_default : goal.returns-in_default
+returns-in_default c =
     let a = c.args in
     let u = setup_of a.state.now in
-    refusing a.state.now a.out.now c.requires (octets-all c.args.state.now (λ i. omega (arith, c.slice_known-1.given i))) (arrival_of a.id a.frame.now a.interface a.time) 7
+    refusing a.state.now a.out.now c.requires (octets-all c.args.state.now (search rules)) (arrival_of a.id a.frame.now a.interface a.time) 7
     (not-subscribed u a.id a.interface a.time a.frame.now a.out.now c.unreadable-unreadable.result c.unreadable-unreadable.ensures c.if-unreadable-gt0.false
-    c.refusal-refused.result (heads-number (goal.at.returns-in-Not c).After-refusal-refused) c.if-refused-gt0.false (not-asked (signature_for u a.id) (found (goal.at.returns-in-Not c).After-find ∙ c.in-Not.is)))
+    c.refusal-refused.result (heads-number (goal.at.returns-in_default c).After-refusal-refused) c.if-refused-gt0.false (not-asked (signature_for u a.id) (found (goal.at.returns-in_default c).After-find ∙ c.in_default.is)))
 
-pub returns-else-out-lt-PAYLOAD : goal.returns-else-out-lt-PAYLOAD
+pub returns : goal.returns
 unfolding head_of
-returns-else-out-lt-PAYLOAD c =
+returns c =
     let a = c.args in
     let m = a.state.now in
     let out = a.out.now in
     let bs = a.frame.now in
     let u = setup_of m in
-    let q = under (signature_for u a.id) _ (found (goal.at.returns-else-out-lt-PAYLOAD c).After-find ∙ c.in-Under.is) in
-    let small : a.interface % 256 ≡ a.interface = omega (arith, (read_ok (goal.at.returns-else-out-lt-PAYLOAD c).Else-unreadable-gt0).interface) in
+    let q = under (signature_for u a.id) _ (found (goal.at.returns c).After-find ∙ c.in-Some.is) in
+    let small : a.interface % 256 ≡ a.interface = omega (arith, (read_ok (goal.at.returns c).Else-unreadable-gt0).interface) in
     c.accept.ensures
-    ∙ ap (λ (h : Head). lent m out (step_anonymous (rules.unnamed (head.stream_of h)) (places_of m) (parsed_of (record { head = h; signature = c.in-Under.signature; time = a.time; interface = a.interface % 256 }) (payload_of bs)))) c.read-h.ensures
+    ∙ ap (λ (h : Head). lent m out (step_anonymous (rules.unnamed (head.stream_of h)) (places_of m) (parsed_of (record { head = h; signature = c.in-Some.signature; time = a.time; interface = a.interface % 256 }) (payload_of bs)))) c.read-h.ensures
     ∙ ap (λ (v : Parsed). lent m out (step_anonymous (is_anonymous a.id) (places_of m) v))
-    (ap (λ (i : ℕ). parsed_of (record { head = head_of a.id (tail_of bs); signature = c.in-Under.signature; time = a.time; interface = i }) (payload_of bs)) small
-    ∙ parsed-is u a.id a.interface a.time c.in-Under.signature bs q)
+    (ap (λ (i : ℕ). parsed_of (record { head = head_of a.id (tail_of bs); signature = c.in-Some.signature; time = a.time; interface = i }) (payload_of bs)) small
+    ∙ parsed-is u a.id a.interface a.time c.in-Some.signature bs q)
     ∙ ap (lent m out) (sym (step-accepted u (places_of m) (arriving (arrival_of a.id bs a.interface a.time) out)
-    (accepted u a.id a.interface a.time bs out c.unreadable-unreadable.result c.unreadable-unreadable.ensures c.if-unreadable-gt0.false c.refusal-refused.result (heads-number (goal.at.returns-else-out-lt-PAYLOAD c).After-refusal-refused) c.if-refused-gt0.false _ q c.if-out-lt-PAYLOAD.false)))
+    (accepted u a.id a.interface a.time bs out c.unreadable-unreadable.result c.unreadable-unreadable.ensures c.if-unreadable-gt0.false c.refusal-refused.result (heads-number (goal.at.returns c).After-refusal-refused) c.if-refused-gt0.false _ q c.if-out-lt-PAYLOAD.false)))

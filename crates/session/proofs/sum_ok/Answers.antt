@@ -13,12 +13,6 @@ returns-then-len-lt2 c =
     let l : length (take a.len s) ≡ a.len = length-take-le a.len s (omega arith) in
     sum-short a.signature (take a.len s) (omega arith)
 
-pub overflow_mul-result : goal.overflow_mul-result
-overflow_mul-result c = let byte = c.shared_slice_known-3-1.given in omega (arith, byte 0, byte 1)
-
-pub overflow_add-result : goal.overflow_add-result
-overflow_add-result c = let byte = c.shared_slice_known-3-1.given in omega (arith, byte 0, byte 1)
-
 pub returns : goal.returns
 returns c =
     let a = c.args in

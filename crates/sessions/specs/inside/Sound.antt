@@ -1,6 +1,7 @@
 -- RULES 5.4: the test for faults as the code goes: each place by itself, the keys of all, and the blocks of all.
-use Rattle.std.specs.Prelude.{Bool, false, not, ◌&&◌, ◌||◌, List, [], ◌∷◌, ℕ, ◌/◌, ◌%◌, ltb, leb, eqb}
+use Rattle.std.specs.Prelude.{None, Some, Bool, false, not, ◌&&◌, ◌||◌, List, [], ◌∷◌, ℕ, ◌/◌, ◌%◌, ltb, leb, eqb}
 use Rattle.std.proofs.Math.Option.{Option, none, some}
+use Rattle.std.specs.declared.option.Option as rust
 use Rattle.bits.specs.Tabulate.{tabulate}
 use Rattle.blocks.specs.inside.Bit.{including}
 use Rattle.rules.specs.Blocks.{used}
@@ -8,8 +9,6 @@ use Rattle.rules.specs.Limits.{sessions_max, gathered_max, interfaces_max}
 use Rattle.rules.specs.Sound.{stream_fits}
 use Rattle.rules.specs.Tests.{pick}
 use Rattle.sessions.specs.inside.Blocks.{new_to}
-use Rattle.sessions.specs.declared.sound.Claimed.{Claimed}
-use Rattle.sessions.specs.declared.sound.Claimed.TheVariants.{Blocks, Fault}
 use Rattle.state.specs.Layout.{free_of, key_at, count_at, expected_at, flags_at, places_of}
 use Rattle.frame.specs.Key.{stream_of_key}
 
@@ -32,9 +31,9 @@ claimed all [] = some all
 claimed all (b ∷ bs) = pick (new_to all b) (claimed (including all b) bs) none
 
 -- as the code tells it
-abbrev pub told : Option ℕ → Claimed
-told none = Fault
-told (some all) = Blocks all
+abbrev pub told : Option ℕ → rust.Option ℕ
+told none = None
+told (some all) = Some all
 
 abbrev pub is_all : Option ℕ → Bool
 is_all none = false

@@ -2,11 +2,11 @@
 use mathlib.Core.Path.{◌≡◌, refl, sym, ap, subst, ◌∙◌}
 use mathlib.Core.Bool.{Bool, true, false, false≢true, ◌&&◌, ◌||◌}
 use mathlib.Core.List.{List}
-use Prim.Native.Nat.{ℕ, suc, ◌+◌, ◌≤◌, ◌<◌}
+use Prim.Native.Nat.{ℕ, suc, ◌+◌, ◌<◌}
 use native.Mathlib.Numerals.{add-one}
 use native.Mathlib.Omega.{arith}
 use borrow.Author.Count.{below_more}
-use borrow.Author.Tests.{eqb-true, eqb-false, ltb-true, ltb-false}
+use borrow.Author.Tests.{eqb-true, eqb-false}
 use lib.Dec.{eqb, ltb}
 use lib.ListN.{length, get_or, set, length-set}
 use Rattle.keys.specs.inside.Keys.{word_at, lowest, marks_max, mark_at}
@@ -75,14 +75,8 @@ module _ (m : List ℕ) (j k : ℕ) (is : k ≡ subscription_key_at m j) where
     go true p false t =
         let l = lowest-le (λ i. eqb (word_at m subscription_keys_at i) k) j 0 in
         let w = eqb-false place j t in
-        let o = old (below place j (omega arith) w) in
+        let o = old (omega arith) in
         twice-unfit (subscription_at m) n place j o.0 h (own-entry m place ∙ ap (λ (x : ℕ). x + 1) o.1 ∙ sym (own-entry m j))
-      where
-        below : (a b : ℕ) → a ≤ b → (a ≡ b → ⊥) → a < b
-        below a b l d = by (ltb a b) refl where
-          by : (t : Bool) → ltb a b ≡ t → a < b
-          by true q = ltb-true a b q
-          by false q = absurd (d (let r = ltb-false a b q in omega arith))
     go false p b t = one-unfit (subscription_at m) n 0 j (omega arith) (omega arith) (in-range false p)
 
 -- at last all are passed
@@ -92,35 +86,11 @@ whole m all =
     first-fit (subscription_at m) (get_or m subscription_count_at 0) (λ l h. (all l h).fit)
     (λ i h a b e. (all i h).first a b (let p = own-entry m a in let q = own-entry m i in omega arith))
 
-pub bounds-state-1 : goal.bounds-state-1
-bounds-state-1 c = omega arith
-
-pub overflow_cast-n : goal.overflow_cast-n
-overflow_cast-n c = omega (arith, c.shared_slice_known-2-1.given subscription_count_at)
-
 pub loop-j-init : goal.loop-j-init
-loop-j-init c = ((omega (arith, c.shared_slice_known-2-1.given subscription_count_at), omega arith), (refl, (λ a h. absurd (omega arith), λ l h. absurd (omega arith))))
-
-pub overflow_mul-j : goal.overflow_mul-j
-overflow_mul-j c = omega arith
-
-pub overflow_add-j : goal.overflow_add-j
-overflow_add-j c = omega arith
-
-pub get_u32-k-requires : goal.get_u32-k-requires
-get_u32-k-requires c = omega arith
+loop-j-init c = (refl, (λ a h. absurd (omega arith), λ l h. absurd (omega arith)))
 
 pub mark-first-requires : goal.mark-first-requires
-mark-first-requires c = c.loop-j.invariant.1.0
-
-pub key_fits-requires : goal.key_fits-requires
-key_fits-requires c = omega arith
-
-pub overflow_add-j-then-key_fits : goal.overflow_add-j-then-key_fits
-overflow_add-j-then-key_fits c = omega arith
-
-pub loop-j-smaller : goal.loop-j-smaller
-loop-j-smaller c = omega arith
+mark-first-requires c = c.loop-j.invariant.0
 
 pub loop-j-preserved : goal.loop-j-preserved
 unfolding subscription_key_at
@@ -128,28 +98,21 @@ loop-j-preserved c =
     let k = c.get_u32-k in
     let m = c.mark-first in
     let s = c.args.state.now in
-    let v = c.loop-j.invariant.1 in
-    let t = sym c.key_fits.ensures ∙ c.if-key_fits.true in (
-      (omega arith, omega arith),
+    let v = c.loop-j.invariant in
+    let t = sym c.key_fits.ensures ∙ c.if-not-key_fits.false in (
+      ap length m.ensures.1 ∙ simp length-set v.0,
       (
-        ap length m.ensures.1 ∙ simp length-set v.0,
-        (
-          rw add-one (marks-more s c.loop-j.j k.result k.ensures c.loop-j.marks v.0 v.1.0 _ m.ensures.1),
-          below_more _ _ v.1.1 (good s c.loop-j.j k.result k.ensures c.loop-j.marks v.0 v.1.0 m.result m.ensures.0 t),
-        ),
+        rw add-one (marks-more s c.loop-j.j k.result k.ensures c.loop-j.marks v.0 v.1.0 _ m.ensures.1),
+        below_more _ _ v.1.1 (good s c.loop-j.j k.result k.ensures c.loop-j.marks v.0 v.1.0 m.result m.ensures.0 t),
       ),
     )
 
-pub returns-else-key_fits : goal.returns-else-key_fits
+pub returns-then-not-key_fits : goal.returns-then-not-key_fits
 unfolding subscription_key_at
-returns-else-key_fits c =
+returns-then-not-key_fits c =
     let k = c.get_u32-k in
     let s = c.args.state.now in
-    sym (refused s c.loop-j.j k.result k.ensures (omega arith) c.mark-first.result (sym c.key_fits.ensures ∙ c.if-key_fits.false))
+    sym (refused s c.loop-j.j k.result k.ensures (omega arith) c.mark-first.result (sym c.key_fits.ensures ∙ c.if-not-key_fits.true))
 
 pub returns : goal.returns
-returns c =
-    let s = c.args.state.now in
-    let e : c.loop-j.j ≡ get_or s subscription_count_at 0 = omega arith in
-    let all = c.loop-j.invariant.1.1.1 in
-    sym (whole s (subst (λ (n : ℕ). (i : ℕ) → i < n → Good s i) e all))
+returns c = sym (whole c.args.state.now (λ i h. c.loop-j.invariant.1.1 i (omega arith)))

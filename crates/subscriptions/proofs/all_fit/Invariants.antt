@@ -1,6 +1,6 @@
 use mathlib.Core.Path.{◌≡◌}
 use mathlib.Core.List.{List}
-use Prim.Native.Nat.{ℕ, ◌-◌, ◌≤◌, ◌<◌}
+use Prim.Native.Nat.{ℕ, ◌<◌}
 use lib.ListN.{length}
 use Rattle.keys.specs.inside.Keys.{marks_max}
 use Rattle.keys.proofs.Distinct.{First}
@@ -15,7 +15,4 @@ pub record Good (m : List ℕ) (j : ℕ) : Type 0 where
   pub first : First (subscription_key_at m) j
 
 abbrev pub invariant-loop-j : goal.invariant-loop-j
-invariant-loop-j l = ((l.n < 256) × (l.j ≤ l.n)) × ((length l.marks ≡ marks_max) × (Marked (subscription_key_at l.state) l.j l.marks × ((i : ℕ) → i < l.j → Good l.state i)))
-
-abbrev pub decreases-loop-j : goal.decreases-loop-j
-decreases-loop-j l = l.n - l.j
+invariant-loop-j l = (length l.marks ≡ marks_max) × (Marked (subscription_key_at l.state) l.j l.marks × ((i : ℕ) → i < l.j → Good l.state i))

@@ -10,7 +10,7 @@ use Rattle.keys.specs.inside.Keys.{lowest}
 use Rattle.rules.specs.Setup.{subscribed}
 use Rattle.state.specs.Layout.{signatures_at, subscription_count_at, setup_of}
 use Rattle.subscriptions.specs.inside.Subscription.{asked}
-use Rattle.subscriptions.specs.declared.Subscribed.TheVariants.{Under, Not}
+use Rattle.std.specs.Prelude.{None, Some}
 use Rattle.subscriptions.proofs.Lookup.{has, found, missing}
 use Rattle.subscriptions.proofs.find.Goals as goal
 
@@ -18,29 +18,14 @@ module _ (m : List ℕ) (kind type : ℕ) (h : type < 65536) (j : ℕ) (e : j �
   abbrev n : ℕ
   n = get_or m subscription_count_at 0
 
-  under : j < n → (g : ℕ) → g ≡ le (span m (signatures_at + j * 8) 8) → Under g ≡ asked (subscribed kind type (setup_of m).subscriptions)
+  under : j < n → (g : ℕ) → g ≡ le (span m (signatures_at + j * 8) 8) → Some g ≡ asked (subscribed kind type (setup_of m).subscriptions)
   unfolding setup_of
   under l g q =
-      sym (ap asked (found m kind type h n 0 (omega arith)) ∙ ap Under (ap (λ (x : ℕ). le (span m (signatures_at + x * 8) 8)) (sym e) ∙ sym q))
+      sym (ap asked (found m kind type h n 0 (omega arith)) ∙ ap Some (ap (λ (x : ℕ). le (span m (signatures_at + x * 8) 8)) (sym e) ∙ sym q))
 
-  not_listed : n ≤ j → Not ≡ asked (subscribed kind type (setup_of m).subscriptions)
+  not_listed : n ≤ j → None ≡ asked (subscribed kind type (setup_of m).subscriptions)
   unfolding setup_of
   not_listed l = sym (ap asked (missing m kind type h n 0 (omega arith)))
-
-pub overflow_cast-n : goal.overflow_cast-n
-overflow_cast-n c = omega (arith, c.shared_slice_known-2-1.given subscription_count_at)
-
-pub find-j-requires : goal.find-j-requires
-find-j-requires c = omega (arith, c.shared_slice_known-2-1.given subscription_count_at)
-
-pub overflow_mul-j : goal.overflow_mul-j
-overflow_mul-j c = omega (arith, c.shared_slice_known-2-1.given subscription_count_at)
-
-pub overflow_add-j : goal.overflow_add-j
-overflow_add-j c = omega (arith, c.shared_slice_known-2-1.given subscription_count_at)
-
-pub get_u64-requires : goal.get_u64-requires
-get_u64-requires c = omega (arith, c.shared_slice_known-2-1.given subscription_count_at)
 
 pub returns-then-j-n : goal.returns-then-j-n
 returns-then-j-n c =

@@ -1,16 +1,16 @@
 -- RULES 3.4, 3.6: what a look-up gives, the test of one key, and one subscription written into the state.
-use Rattle.std.specs.Prelude.{Bool, ◌&&◌, ◌||◌, List, ℕ, ◌+◌, ◌*◌, ltb, eqb}
+use Rattle.std.specs.Prelude.{None, Some, Bool, ◌&&◌, ◌||◌, List, ℕ, ◌+◌, ◌*◌, ltb, eqb}
 use Rattle.std.proofs.Math.Option.{Option, none, some}
+use Rattle.std.specs.declared.option.Option as rust
 use Rattle.bits.specs.Little.{le_bytes}
 use Rattle.bits.specs.Part.{splice}
 use Rattle.keys.specs.inside.Keys.{word_at, lowest}
 use Rattle.state.specs.Layout.{signatures_at, subscription_keys_at}
-use Rattle.subscriptions.specs.declared.Subscribed.{Subscribed}
-use Rattle.subscriptions.specs.declared.Subscribed.TheVariants.{Under, Not}
 
-abbrev pub asked : Option ℕ → Subscribed
-asked none = Not
-asked (some signature) = Under signature
+-- as the code tells it
+abbrev pub asked : Option ℕ → rust.Option ℕ
+asked none = None
+asked (some signature) = Some signature
 
 -- a key is kind × 65536 + type. This is above the last one in range: kind 1 has types below 256
 abbrev pub keys_end : ℕ

@@ -41,7 +41,7 @@ returns-then-is_anonymous c =
     record {
       next =
           λ i.
-          anonymous (setup_of a.state.now) (stream_of a.v) (entries_of a.table.now) (seen_of a.v a.p.now) i _ (under _ _ (found (goal.at.returns-then-is_anonymous c).After-find ∙ c.in-Under.is))
+          anonymous (setup_of a.state.now) (stream_of a.v) (entries_of a.table.now) (seen_of a.v a.p.now) i _ (under _ _ (found (goal.at.returns-then-is_anonymous c).After-find ∙ c.in-Some.is))
           (sym c.is_anonymous.ensures ∙ c.if-is_anonymous.true);
       table = c.requires.1.0;
       stays = tt;
@@ -58,26 +58,26 @@ enter-requires c =
       },
     )
 
-pub returns-in-Not : goal.returns-in-Not
-returns-in-Not c =
+pub returns-in_default : goal.returns-in_default
+returns-in_default c =
     let a = c.args in
     record {
       next =
           λ i.
-          not_found (setup_of a.state.now) (stream_of a.v) (entries_of a.table.now) (seen_of a.v a.p.now) i (not-asked _ (found (goal.at.returns-in-Not c).After-find ∙ c.in-Not.is));
+          not_found (setup_of a.state.now) (stream_of a.v) (entries_of a.table.now) (seen_of a.v a.p.now) i (not-asked _ (found (goal.at.returns-in_default c).After-find ∙ c.in_default.is));
       table = c.requires.1.0;
       stays = refl;
     }
 
-pub returns-else-is_anonymous : goal.returns-else-is_anonymous
-returns-else-is_anonymous c =
+pub returns : goal.returns
+returns c =
     let a = c.args in
     let w = c.enter.ensures in
     record {
       next =
           λ i.
           w.next i
-          ∙ enters (setup_of a.state.now) (stream_of a.v) (entries_of a.table.now) (seen_of a.v a.p.now) i _ (under _ _ (found (goal.at.returns-else-is_anonymous c).After-find ∙ c.in-Under.is))
+          ∙ enters (setup_of a.state.now) (stream_of a.v) (entries_of a.table.now) (seen_of a.v a.p.now) i _ (under _ _ (found (goal.at.returns c).After-find ∙ c.in-Some.is))
           (sym c.is_anonymous.ensures ∙ c.if-is_anonymous.false);
       table = w.table;
       stays = w.stays;

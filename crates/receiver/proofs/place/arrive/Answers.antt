@@ -17,6 +17,7 @@ use Rattle.state.proofs.Faultless.{long}
 use Rattle.state.proofs.Table as table
 use Rattle.receiver.proofs.Lent.{head-key, key-some, key-word, untouched}
 use Rattle.receiver.proofs.Seek.{place_of, no-place-of, key-found}
+use borrow.Author.Rules.{rules}
 use Rattle.receiver.proofs.place.arrive.Goals as goal
 
 -- the step at the place that was found
@@ -33,7 +34,7 @@ known-requires c =
     let q = c.requires in
     let d = stream_of a.f in
     let f : c.key-k.result ≡ key_of d = c.key-k.ensures in
-    let o = octets-all m (λ i. omega (arith, c.slice_known-1.given i)) in
+    let o = octets-all m (search rules) in
     let z : c.key-k.result ≡ 0 → ⊥ = λ e. key-some d q.named (sym f ∙ e) in
     let w : c.key-k.result < 4294967296 = omega (arith, f, key-word d q.transfer_type q.type q.source q.destination) in
     let g : stream_of_key c.key-k.result ≡ d = ap stream_of_key f ∙ head-key d q.transfer_type q.type q.source q.destination in
@@ -47,7 +48,7 @@ returns-then-i-lt-SESSIONS c =
     let q = c.requires in
     let d = stream_of a.f in
     let f : c.key-k.result ≡ key_of d = c.key-k.ensures in
-    let o = octets-all m (λ i. omega (arith, c.slice_known-1.given i)) in
+    let o = octets-all m (search rules) in
     let z : c.key-k.result ≡ 0 → ⊥ = λ e. key-some d q.named (sym f ∙ e) in
     let w : c.key-k.result < 4294967296 = omega (arith, f, key-word d q.transfer_type q.type q.source q.destination) in
     let g : stream_of_key c.key-k.result ≡ d = ap stream_of_key f ∙ head-key d q.transfer_type q.type q.source q.destination in
@@ -67,7 +68,7 @@ returns-then-f c =
     let q = c.requires in
     let d = stream_of a.f in
     let f : c.key-k.result ≡ key_of d = c.key-k.ensures in
-    let o = octets-all m (λ i. omega (arith, c.slice_known-1.given i)) in
+    let o = octets-all m (search rules) in
     let z : c.key-k.result ≡ 0 → ⊥ = λ e. key-some d q.named (sym f ∙ e) in
     let w : c.key-k.result < 4294967296 = omega (arith, f, key-word d q.transfer_type q.type q.source q.destination) in
     let g : stream_of_key c.key-k.result ≡ d = ap stream_of_key f ∙ head-key d q.transfer_type q.type q.source q.destination in
@@ -83,7 +84,7 @@ returns c =
     let q = c.requires in
     let d = stream_of a.f in
     let f : c.key-k.result ≡ key_of d = c.key-k.ensures in
-    let o = octets-all m (λ i. omega (arith, c.slice_known-1.given i)) in
+    let o = octets-all m (search rules) in
     let z : c.key-k.result ≡ 0 → ⊥ = λ e. key-some d q.named (sym f ∙ e) in
     let w : c.key-k.result < 4294967296 = omega (arith, f, key-word d q.transfer_type q.type q.source q.destination) in
     let g : stream_of_key c.key-k.result ≡ d = ap stream_of_key f ∙ head-key d q.transfer_type q.type q.source q.destination in

@@ -1,14 +1,10 @@
 -- `place::over` meets its contract.
 use mathlib.Core.Path.{sym, ap, ◌∙◌}
 use mathlib.Core.Bool.{Bool}
-use native.Mathlib.Omega.{arith}
 use Rattle.rules.specs.Session.{next}
 use Rattle.rules.specs.Tests.{pick}
 use Rattle.session.specs.inside.Session.{idle}
 use Rattle.receiver.proofs.place.over.Goals as goal
-
-pub overflow_add-next : goal.overflow_add-next
-overflow_add-next c = omega (arith, c.requires.0)
 
 pub returns-then-f : goal.returns-then-f
 returns-then-f c =

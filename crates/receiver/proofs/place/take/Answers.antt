@@ -19,14 +19,14 @@ pub over-requires : goal.over-requires
 over-requires c =
     let a = c.args in
     let q = c.requires in
-    let o = octets-all a.state.now (λ i. omega (arith, c.slice_known-1.given i)) in
+    let o = octets-all a.state.now (search rules) in
     over-ready a.state.now a.i a.k a.c a.f a.p.now a.out.now q.0 o
 
 pub wait-requires : goal.wait-requires
 wait-requires c =
     let a = c.args in
     let q = c.requires in
-    let o = octets-all a.state.now (λ i. omega (arith, c.slice_known-1.given i)) in
+    let o = octets-all a.state.now (search rules) in
     over-waits a.state.now a.i a.k a.c a.f a.p.now a.out.now q.0 o c.over.result c.over.ensures
 
 pub finish-requires : goal.finish-requires
@@ -38,7 +38,7 @@ pub returns-then-is_single : goal.returns-then-is_single
 returns-then-is_single c =
     let a = c.args in
     let q = c.requires in
-    let o = octets-all a.state.now (λ i. omega (arith, c.slice_known-1.given i)) in
+    let o = octets-all a.state.now (search rules) in
     single-ended a.state.now a.i a.k a.c a.f a.p.now a.out.now q.0 o q.1.awaited q.1.few (sym c.is_single.ensures ∙ c.if-is_single.true) c.finish.result _ c.finish.ensures
     c.over.result c.over.ensures _ c.wait.ensures
 
@@ -46,43 +46,43 @@ pub lacks_block-requires : goal.lacks_block-requires
 lacks_block-requires c =
     let a = c.args in
     let q = c.requires in
-    let o = octets-all a.state.now (λ i. omega (arith, c.slice_known-1.given i)) in
+    let o = octets-all a.state.now (search rules) in
     (q.0.ready, omega (arith, len_is a.state.now a.i a.k a.c a.f a.p.now a.out.now q.0 o q.1.awaited q.1.few, q.1.few))
 
 pub over-requires-then-lacks_block : goal.over-requires-then-lacks_block
 over-requires-then-lacks_block c =
     let a = c.args in
     let q = c.requires in
-    let o = octets-all a.state.now (λ i. omega (arith, c.slice_known-1.given i)) in
+    let o = octets-all a.state.now (search rules) in
     over-ready a.state.now a.i a.k a.c a.f a.p.now a.out.now q.0 o
 
 pub wait-requires-then-lacks_block : goal.wait-requires-then-lacks_block
 wait-requires-then-lacks_block c =
     let a = c.args in
     let q = c.requires in
-    let o = octets-all a.state.now (λ i. omega (arith, c.slice_known-1.given i)) in
-    let o₁ = octets-all c.lacks_block.new.state (λ i. omega (arith, c.slice_known-3-1.given i)) in
-    over-waits c.lacks_block.new.state a.i a.k a.c a.f a.p.now a.out.now (met₂ a.state.now a.i a.k a.c a.f a.p.now a.out.now q.0 o q.1 c.lacks_block.new.state c.lacks_block.result c.lacks_block.ensures.0 c.lacks_block.ensures.1 (octets-all c.lacks_block.new.state (λ i. omega (arith, c.slice_known-3-1.given i)))) o₁ c.over-then-lacks_block.result c.over-then-lacks_block.ensures
+    let o = octets-all a.state.now (search rules) in
+    let o₁ = octets-all c.lacks_block.new.state (search rules) in
+    over-waits c.lacks_block.new.state a.i a.k a.c a.f a.p.now a.out.now (met₂ a.state.now a.i a.k a.c a.f a.p.now a.out.now q.0 o q.1 c.lacks_block.new.state c.lacks_block.result c.lacks_block.ensures.0 c.lacks_block.ensures.1 (octets-all c.lacks_block.new.state (search rules))) o₁ c.over-then-lacks_block.result c.over-then-lacks_block.ensures
 
 pub returns-then-lacks_block : goal.returns-then-lacks_block
 returns-then-lacks_block c =
     let a = c.args in
     let q = c.requires in
-    let o = octets-all a.state.now (λ i. omega (arith, c.slice_known-1.given i)) in
-    left_out a.state.now a.i a.k a.c a.f a.p.now a.out.now q.0 o q.1 c.lacks_block.new.state c.lacks_block.result c.lacks_block.ensures.0 c.lacks_block.ensures.1 (octets-all c.lacks_block.new.state (λ i. omega (arith, c.slice_known-3-1.given i))) (frame-time (goal.at.returns-then-lacks_block c).Start) (session-time (goal.at.returns-then-lacks_block c).Start) (sym c.is_single.ensures ∙ c.if-is_single.false)
+    let o = octets-all a.state.now (search rules) in
+    left_out a.state.now a.i a.k a.c a.f a.p.now a.out.now q.0 o q.1 c.lacks_block.new.state c.lacks_block.result c.lacks_block.ensures.0 c.lacks_block.ensures.1 (octets-all c.lacks_block.new.state (search rules)) (frame-time (goal.at.returns-then-lacks_block c).Start) (session-time (goal.at.returns-then-lacks_block c).Start) (sym c.is_single.ensures ∙ c.if-is_single.false)
     c.if-lacks_block.true c.over-then-lacks_block.result c.over-then-lacks_block.ensures _ c.wait-then-lacks_block.ensures
 
 pub enter-requires : goal.enter-requires
 enter-requires c =
     let a = c.args in
     let q = c.requires in
-    let o = octets-all a.state.now (λ i. omega (arith, c.slice_known-1.given i)) in
-    (met₂ a.state.now a.i a.k a.c a.f a.p.now a.out.now q.0 o q.1 c.lacks_block.new.state c.lacks_block.result c.lacks_block.ensures.0 c.lacks_block.ensures.1 (octets-all c.lacks_block.new.state (λ i. omega (arith, c.slice_known-3-1.given i))), (takes₂ a.state.now a.i a.k a.c a.f a.p.now a.out.now q.0 o q.1 c.lacks_block.new.state c.lacks_block.result c.lacks_block.ensures.0 c.lacks_block.ensures.1 (octets-all c.lacks_block.new.state (λ i. omega (arith, c.slice_known-3-1.given i))), some₂ a.state.now a.i a.k a.c a.f a.p.now a.out.now q.0 o q.1 c.lacks_block.new.state c.lacks_block.result c.lacks_block.ensures.0 c.lacks_block.ensures.1 (octets-all c.lacks_block.new.state (λ i. omega (arith, c.slice_known-3-1.given i))) c.if-lacks_block.false))
+    let o = octets-all a.state.now (search rules) in
+    (met₂ a.state.now a.i a.k a.c a.f a.p.now a.out.now q.0 o q.1 c.lacks_block.new.state c.lacks_block.result c.lacks_block.ensures.0 c.lacks_block.ensures.1 (octets-all c.lacks_block.new.state (search rules)), (takes₂ a.state.now a.i a.k a.c a.f a.p.now a.out.now q.0 o q.1 c.lacks_block.new.state c.lacks_block.result c.lacks_block.ensures.0 c.lacks_block.ensures.1 (octets-all c.lacks_block.new.state (search rules)), some₂ a.state.now a.i a.k a.c a.f a.p.now a.out.now q.0 o q.1 c.lacks_block.new.state c.lacks_block.result c.lacks_block.ensures.0 c.lacks_block.ensures.1 (octets-all c.lacks_block.new.state (search rules)) c.if-lacks_block.false))
 
 pub returns : goal.returns
 returns c =
     let a = c.args in
     let q = c.requires in
-    let o = octets-all a.state.now (λ i. omega (arith, c.slice_known-1.given i)) in
+    let o = octets-all a.state.now (search rules) in
     c.enter.ensures
-    ∙ entered a.state.now a.i a.k a.c a.f a.p.now a.out.now q.0 o q.1 c.lacks_block.new.state c.lacks_block.result c.lacks_block.ensures.0 c.lacks_block.ensures.1 (octets-all c.lacks_block.new.state (λ i. omega (arith, c.slice_known-3-1.given i))) (frame-time (goal.at.returns c).Start) (session-time (goal.at.returns c).Start) (sym c.is_single.ensures ∙ c.if-is_single.false) c.if-lacks_block.false
+    ∙ entered a.state.now a.i a.k a.c a.f a.p.now a.out.now q.0 o q.1 c.lacks_block.new.state c.lacks_block.result c.lacks_block.ensures.0 c.lacks_block.ensures.1 (octets-all c.lacks_block.new.state (search rules)) (frame-time (goal.at.returns c).Start) (session-time (goal.at.returns c).Start) (sym c.is_single.ensures ∙ c.if-is_single.false) c.if-lacks_block.false

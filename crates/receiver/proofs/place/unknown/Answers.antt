@@ -3,7 +3,6 @@ use mathlib.Core.Path.{◌≡◌, refl, sym, ap, subst, ◌∙◌}
 use mathlib.Core.List.{List, []}
 use mathlib.Core.Option.{Option, none, some}
 use Prim.Native.Nat.{ℕ}
-use native.Mathlib.Omega.{arith}
 use Rattle.bits.proofs.Octets.{octets-all}
 use Rattle.receiver.specs.Receive.{lent}
 use Rattle.receiver.proofs.Begun.{Idle}
@@ -17,6 +16,7 @@ use Rattle.session.specs.declared.Session.{Session}
 use Rattle.session.specs.inside.Session.{idle, parsed_of}
 use Rattle.state.proofs.Faultless.{long}
 use Rattle.state.specs.Layout.{places_of}
+use borrow.Author.Rules.{rules}
 use Rattle.receiver.proofs.place.unknown.Goals as goal
 
 -- the step at the place that was found
@@ -64,7 +64,7 @@ unfolding step_new
 returns c =
     let a = c.args in
     let q = c.requires in
-    let o = octets-all a.state.now (λ i. omega (arith, c.slice_known-1.given i)) in
+    let o = octets-all a.state.now (search rules) in
     let v = parsed_of a.f a.p.now in
     untouched a.state.now q.called.sound o a.out.now (step_new none (places_of a.state.now) v) _ refl refl a.out.now refl
     ∙ ap (λ (x : Option ℕ). lent a.state.now a.out.now (step_new x (places_of a.state.now) v))

@@ -7,21 +7,6 @@ use Rattle.sessions.proofs.Waited.{waited}
 use borrow.Author.Rules.{rules}
 use Rattle.sessions.proofs.place.wait.Goals as goal
 
-pub free_after-free-requires : goal.free_after-free-requires
-free_after-free-requires c = (c.requires.ready, c.requires.place)
-
-pub put_u64-requires : goal.put_u64-requires
-put_u64-requires c = omega (arith, c.requires.ready.long)
-
-pub overflow_mul-i : goal.overflow_mul-i
-overflow_mul-i c = omega (arith, c.requires.place)
-
-pub overflow_add-i : goal.overflow_add-i
-overflow_add-i c = omega (arith, c.requires.place)
-
-pub put_u32-requires : goal.put_u32-requires
-put_u32-requires c = omega (arith, c.requires.ready.long, c.requires.place, c.put_u64.auto.s)
-
 pub write-requires : goal.write-requires
 write-requires c =
     let p = c.requires in
@@ -31,6 +16,6 @@ pub returns : goal.returns
 returns c =
     let a = c.args in
     let p = c.requires in
-    let o = octets-all a.state.now (λ i. omega (arith, c.slice_known-1.given i)) in
+    let o = octets-all a.state.now (search rules) in
     waits a.state.now _ _ _ a.i a.k a.c c.free_after-free.result c.free_after-free.ensures c.put_u64.ensures c.put_u32.ensures c.write.ensures
     ∙ waited a.state.now a.i a.k a.c o (search rules) (search rules) p

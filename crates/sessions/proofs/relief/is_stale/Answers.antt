@@ -2,12 +2,6 @@
 use Rattle.sessions.proofs.Stale.{stale-yes, stale-no}
 use Rattle.sessions.proofs.relief.is_stale.Goals as goal
 
-pub is_old-requires : goal.is_old-requires
-is_old-requires c = (c.requires.1, c.requires.0.long)
-
-pub count-requires : goal.count-requires
-count-requires c = (c.requires.1, c.requires.0.long)
-
 pub returns-then-is_old : goal.returns-then-is_old
 returns-then-is_old c =
     let a = c.args in

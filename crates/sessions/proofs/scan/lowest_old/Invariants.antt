@@ -1,12 +1,9 @@
 use mathlib.Core.Path.{◌≡◌}
-use Prim.Native.Nat.{◌-◌, ◌≤◌}
+use Prim.Native.Nat.{◌-◌}
 use Rattle.keys.specs.inside.Keys.{lowest}
 use Rattle.rules.specs.Limits.{sessions_max}
 use Rattle.sessions.specs.inside.Scan.{old_at}
 use Rattle.sessions.proofs.scan.lowest_old.Given as goal
 
 abbrev pub invariant-loop-i : goal.invariant-loop-i
-invariant-loop-i l = (l.i ≤ sessions_max) × (lowest (old_at l.state l.t) l.i (sessions_max - l.i) ≡ lowest (old_at l.state l.t) 0 sessions_max)
-
-abbrev pub decreases-loop-i : goal.decreases-loop-i
-decreases-loop-i l = sessions_max - l.i
+invariant-loop-i l = lowest (old_at l.state l.t) l.i (sessions_max - l.i) ≡ lowest (old_at l.state l.t) 0 sessions_max

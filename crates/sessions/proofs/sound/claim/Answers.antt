@@ -1,52 +1,33 @@
--- `sound::claim` meets its contract. The invariant: the first j blocks were new.
+-- `sound::claim` meets its contract. The invariant: the blocks passed were new.
 use mathlib.Core.Path.{◌≡◌, sym, ap, ◌∙◌}
-use Prim.Native.Nat.{ℕ, ◌+◌, ◌*◌}
+use Prim.Native.Nat.{ℕ, ◌+◌, ◌*◌, ◌-◌}
 use native.Mathlib.Omega.{arith}
-use Rattle.bits.specs.Part.{span}
+use lib.ListN.{take, drop}
+use lib.Seq.{take_all}
 use Rattle.sessions.specs.inside.Sound.{claimed, told}
 use Rattle.state.specs.Layout.{block_lists_at}
 use Rattle.sessions.proofs.Claims.{claim-none, claim-more, claim-fault, new-small}
 use Rattle.sessions.proofs.sound.claim.Goals as goal
 
-pub overflow_mul-at : goal.overflow_mul-at
-overflow_mul-at c = omega arith
-
-pub overflow_add-at : goal.overflow_add-at
-overflow_add-at c = omega arith
-
-pub loop-j-init : goal.loop-j-init
-loop-j-init c = (omega arith, claim-none c.args.seen)
-
-pub overflow_add-b : goal.overflow_add-b
-overflow_add-b c = omega arith
-
-pub bounds-state-at : goal.bounds-state-at
-bounds-state-at c = omega arith
-
-pub overflow_cast-b : goal.overflow_cast-b
-overflow_cast-b c = omega (arith, c.shared_slice_known-in-loop-j-1.given (block_lists_at + c.args.i * 9 + c.loop-j.j))
+pub loop-b-init : goal.loop-b-init
+loop-b-init c = claim-none c.args.seen
 
 pub include-all-requires : goal.include-all-requires
-include-all-requires c = new-small _ _ (sym c.is_new.ensures ∙ c.if-is_new.true)
+include-all-requires c = new-small _ _ (sym c.is_new.ensures ∙ c.if-not-is_new.false)
 
-pub overflow_add-j : goal.overflow_add-j
-overflow_add-j c = omega arith
+pub loop-b-preserved : goal.loop-b-preserved
+loop-b-preserved c =
+    claim-more _ c.loop-b.b-index c.args.seen c.loop-b.all c.loop-b-test.true c.loop-b.invariant _ (sym c.is_new.ensures ∙ c.if-not-is_new.false) c.include-all.ensures
 
-pub loop-j-smaller : goal.loop-j-smaller
-loop-j-smaller c = omega arith
-
-pub loop-j-preserved : goal.loop-j-preserved
-loop-j-preserved c =
-    let a = c.args in
-    (omega arith, claim-more a.state.now (block_lists_at + a.i * 9) c.loop-j.j a.seen c.loop-j.all _ (omega arith) c.loop-j.invariant.1 (sym c.is_new.ensures ∙ c.if-is_new.true) c.include-all.ensures)
-
-pub returns-else-is_new : goal.returns-else-is_new
-returns-else-is_new c =
-    let a = c.args in
-    claim-fault a.state.now (block_lists_at + a.i * 9) c.loop-j.j a.n a.seen c.loop-j.all (omega arith) (omega arith) c.loop-j.invariant.1 (sym c.is_new.ensures ∙ c.if-is_new.false)
+pub returns-then-not-is_new : goal.returns-then-not-is_new
+returns-then-not-is_new c =
+    let at : ℕ = block_lists_at + c.args.i * 9 in
+    let e : at + c.args.n - at ≡ c.args.n = omega arith in
+    claim-fault _ c.loop-b.b-index c.args.seen c.loop-b.all c.loop-b-test.true c.loop-b.invariant (sym c.is_new.ensures ∙ c.if-not-is_new.true)
+    ∙ ap (λ (k : ℕ). told (claimed c.args.seen (take k (drop at c.args.state.now)))) e
 
 pub returns : goal.returns
 returns c =
-    let a = c.args in
-    let e : c.loop-j.j ≡ a.n = omega arith in
-    sym (ap told (ap (λ (j : ℕ). claimed a.seen (span a.state.now (block_lists_at + a.i * 9) j)) (sym e) ∙ c.loop-j.invariant.1))
+    let at : ℕ = block_lists_at + c.args.i * 9 in
+    let e : at + c.args.n - at ≡ c.args.n = omega arith in
+    sym (ap told (ap (claimed c.args.seen) (sym (take_all _ _ c.loop-b-test.false ∙ ap (λ (k : ℕ). take k (drop at c.args.state.now)) e)) ∙ c.loop-b.invariant))

@@ -1,13 +1,8 @@
 use mathlib.Core.Path.{◌≡◌}
 use mathlib.Core.Option.{some}
-use Prim.Native.Nat.{◌+◌, ◌*◌, ◌-◌, ◌≤◌}
-use Rattle.bits.specs.Part.{span}
+use lib.ListN.{take}
 use Rattle.sessions.specs.inside.Sound.{claimed}
-use Rattle.state.specs.Layout.{block_lists_at}
 use Rattle.sessions.proofs.sound.claim.Given as goal
 
-abbrev pub invariant-loop-j : goal.invariant-loop-j
-invariant-loop-j l = (l.j ≤ l.n) × (claimed l.seen (span l.state (block_lists_at + l.i * 9) l.j) ≡ some l.all)
-
-abbrev pub decreases-loop-j : goal.decreases-loop-j
-decreases-loop-j l = l.n - l.j
+abbrev pub invariant-loop-b : goal.invariant-loop-b
+invariant-loop-b l = claimed l.seen (take l.b-index l.b-items) ≡ some l.all

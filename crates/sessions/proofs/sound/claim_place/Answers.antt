@@ -6,9 +6,6 @@ use Rattle.sessions.proofs.sound.claim_place.Goals as goal
 pub returns-then-k-eq0 : goal.returns-then-k-eq0
 returns-then-k-eq0 c = none-claimed c.args.state.now c.args.i c.args.k c.args.seen c.requires.1 c.if-k-eq0.true
 
-pub claim_session-requires : goal.claim_session-requires
-claim_session-requires c = c.requires.0
-
 pub returns-then-stream_fits : goal.returns-then-stream_fits
 returns-then-stream_fits c =
     c.claim_session.ensures

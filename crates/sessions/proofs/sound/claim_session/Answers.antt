@@ -8,6 +8,7 @@ use Rattle.bits.proofs.Octets.{octets-all}
 use Rattle.state.specs.Layout.{count_at}
 use Rattle.sessions.proofs.Fits.{idle-is, busy-is}
 use Rattle.sessions.proofs.Listed.{idle-claimed, unfit-claimed, some-claimed, few-claimed}
+use borrow.Author.Rules.{rules}
 use Rattle.sessions.proofs.sound.claim_session.Goals as goal
 
 pub returns-then-idle_fits : goal.returns-then-idle_fits
@@ -15,7 +16,7 @@ unfolding count_at
 returns-then-idle_fits c =
     let a = c.args in
     let m = a.state.now in
-    let o = octets-all m (λ j. omega (arith, c.shared_slice_known-1.given j)) in
+    let o = octets-all m (search rules) in
     let g = c.get_u16-n in
     let h = c.get_u16-x in
     idle-claimed m a.i a.seen g.result g.ensures c.if-n-eq0.true (sym (idle-is m a.i g.result h.result o (omega arith) (omega arith) g.ensures h.ensures c.if-n-eq0.true) ∙ sym c.idle_fits.ensures ∙ c.if-idle_fits.true)
@@ -25,7 +26,7 @@ unfolding count_at
 returns-then-n-eq0 c =
     let a = c.args in
     let m = a.state.now in
-    let o = octets-all m (λ j. omega (arith, c.shared_slice_known-1.given j)) in
+    let o = octets-all m (search rules) in
     let g = c.get_u16-n in
     let h = c.get_u16-x in
     unfit-claimed m a.i a.seen (sym (idle-is m a.i g.result h.result o (omega arith) (omega arith) g.ensures h.ensures c.if-n-eq0.true) ∙ sym c.idle_fits.ensures ∙ c.if-idle_fits.false)
@@ -44,7 +45,7 @@ unfolding count_at
 returns-then-busy_fits c =
     let a = c.args in
     let m = a.state.now in
-    let o = octets-all m (λ j. omega (arith, c.shared_slice_known-1.given j)) in
+    let o = octets-all m (search rules) in
     let g = c.get_u16-n in
     let h = c.get_u16-x in
     c.claim.ensures
@@ -56,7 +57,7 @@ unfolding count_at
 returns c =
     let a = c.args in
     let m = a.state.now in
-    let o = octets-all m (λ j. omega (arith, c.shared_slice_known-1.given j)) in
+    let o = octets-all m (search rules) in
     let g = c.get_u16-n in
     let h = c.get_u16-x in
     unfit-claimed m a.i a.seen (sym (busy-is m a.i g.result h.result o (omega arith) (omega arith) g.ensures h.ensures c.if-n-eq0.false) ∙ sym c.busy_fits.ensures ∙ c.if-busy_fits.false)

@@ -18,6 +18,7 @@ use Rattle.sessions.proofs.Soundness.{whole}
 use Rattle.state.specs.Layout.{own_at, subscription_count_at, size, key_at, setup_of, subscription_at}
 use Rattle.bits.specs.Tabulate.{every}
 use Rattle.state.specs.Sound.{sound_state}
+use borrow.Author.Rules.{rules}
 use Rattle.sessions.proofs.sound.is_sound.Goals as goal
 
 module _ (m : List ℕ) where
@@ -53,9 +54,6 @@ returns-then-state-lt-SIZE c = short _ c.if-state-lt-SIZE.true
 pub returns-then-state-gt127 : goal.returns-then-state-gt127
 returns-then-state-gt127 c = large-own _ c.if-state-lt-SIZE.false c.if-state-gt127.true
 
-pub overflow_cast-state : goal.overflow_cast-state
-overflow_cast-state c = omega (arith, c.shared_slice_known-3-1.given subscription_count_at)
-
 pub returns-then-state-gt-SUBSCRIPTIONS : goal.returns-then-state-gt-SUBSCRIPTIONS
 returns-then-state-gt-SUBSCRIPTIONS c = too_many _ c.if-state-lt-SIZE.false c.if-state-gt127.false c.if-state-gt-SUBSCRIPTIONS.true
 
@@ -67,12 +65,12 @@ pub returns-then-all_fit : goal.returns-then-all_fit
 unfolding key_at
 returns-then-all_fit c =
     let m = c.args.state.now in
-    let bytes = octets-all m (λ i. omega (arith, c.shared_slice_known-1.given i)) in
+    let bytes = octets-all m (search rules) in
     c.places_sound.ensures ∙ ap (λ x. (every (empty_or_fits m) 0 sessions_max && distinct x) && shares m) c.load.ensures
     ∙ tested m c.if-state-lt-SIZE.false c.if-state-gt127.false c.if-state-gt-SUBSCRIPTIONS.false true (sym c.all_fit.ensures ∙ c.if-all_fit.true) bytes
 
 pub returns : goal.returns
 returns c =
     let m = c.args.state.now in
-    let bytes = octets-all m (λ i. omega (arith, c.shared_slice_known-1.given i)) in
+    let bytes = octets-all m (search rules) in
     tested m c.if-state-lt-SIZE.false c.if-state-gt127.false c.if-state-gt-SUBSCRIPTIONS.false false (sym c.all_fit.ensures ∙ c.if-all_fit.false) bytes

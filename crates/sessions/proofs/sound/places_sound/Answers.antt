@@ -35,43 +35,31 @@ count-requires c = omega (arith, as_long _ _ _ c.requires.1)
 pub overflow_sub-left : goal.overflow_sub-left
 overflow_sub-left c = omega (arith, as_long _ _ _ c.requires.1, count-le 0 c.args.table.now)
 
-pub free-seen-requires : goal.free-seen-requires
-free-seen-requires c = c.requires.0
-
 pub loop-left-init : goal.loop-left-init
 loop-left-init c =
     let a = c.args in
     let t = a.table.now in
     (begins _ t _ _ refl (omega (arith, count-le 0 t)), seen_none (place_at a.state.now) (free_of a.state.now) ∙ ap (λ (x : ℕ). some x) (sym c.free-seen.ensures))
 
-pub offset_bounds-table-i : goal.offset_bounds-table-i
-offset_bounds-table-i c = omega arith
-
 pub bounds-table-i : goal.bounds-table-i
 bounds-table-i c = here _ _ _ _ c.loop-left.invariant.0.walk (omega arith)
-
-pub mark-first-requires : goal.mark-first-requires
-mark-first-requires c = c.loop-left.invariant.0.walk.marks-long
 
 pub claim_place-requires : goal.claim_place-requires
 claim_place-requires c =
     let b = place _ _ _ c.requires.1 _ _ _ _ c.loop-left.invariant.0 (omega arith) in
     ((b, c.requires.0), table_at (key_at c.args.state.now) sessions_max c.args.table.now c.requires.1 c.loop-left.i b)
 
-pub returns-in-Fault : goal.returns-in-Fault
-returns-in-Fault c =
+pub returns-in_default : goal.returns-in_default
+returns-in_default c =
     let b = place _ _ _ c.requires.1 _ _ _ _ c.loop-left.invariant.0 (omega arith) in
     fault-place c.args.state.now (every (empty_or_fits c.args.state.now) 0 sessions_max && distinct c.args.table.now) c.loop-left.i c.loop-left.seen b c.loop-left.invariant.1
-    (sym c.in-Fault.is ∙ c.claim_place.ensures) (unfit _ _ _ c.requires.1 _ _ _ _ c.loop-left.invariant.0 (omega arith))
+    (sym c.in_default.is ∙ c.claim_place.ensures) (unfit _ _ _ c.requires.1 _ _ _ _ c.loop-left.invariant.0 (omega arith))
 
 pub is_alone-requires : goal.is_alone-requires
 is_alone-requires c = omega (arith, as_long _ _ _ c.requires.1)
 
-pub overflow_cast-left-then-is_alone : goal.overflow_cast-left-then-is_alone
-overflow_cast-left-then-is_alone c = tt
-
-pub overflow_sub-left-then-is_alone : goal.overflow_sub-left-then-is_alone
-overflow_sub-left-then-is_alone c = left-ok _ _ _ _ c.loop-left.invariant.0.walk (omega arith)
+pub overflow_sub-left-in-loop-left : goal.overflow_sub-left-in-loop-left
+overflow_sub-left-in-loop-left c = left-ok _ _ _ _ c.loop-left.invariant.0.walk (omega arith)
 
 pub overflow_add-i : goal.overflow_add-i
 overflow_add-i c = omega (arith, here _ _ _ _ c.loop-left.invariant.0.walk (omega arith))
@@ -82,16 +70,16 @@ loop-left-smaller c = omega (arith, here _ _ _ _ c.loop-left.invariant.0.walk (o
 pub loop-left-preserved : goal.loop-left-preserved
 loop-left-preserved c =
     let m = c.mark-first in
-    let d = both-passed _ _ _ (sym c.in-Blocks.is ∙ c.claim_place.ensures) in (
+    let d = both-passed _ _ _ (sym c.in-Some.is ∙ c.claim_place.ensures) in (
       again _ _ _ c.requires.1 _ _ _ _ c.loop-left.invariant.0 (omega arith) d.0
-          m.result m.ensures.0 (sym c.is_alone.ensures ∙ c.if-is_alone.true) _ m.ensures.1,
+          m.result m.ensures.0 (sym c.is_alone.ensures ∙ c.if-not-is_alone.false) _ m.ensures.1,
       seen_more (place_at c.args.state.now) (free_of c.args.state.now) c.loop-left.i c.loop-left.seen _ c.loop-left.invariant.1 d.1,
     )
 
-pub returns-else-is_alone : goal.returns-else-is_alone
-returns-else-is_alone c =
+pub returns-then-not-is_alone : goal.returns-then-not-is_alone
+returns-then-not-is_alone c =
     let m = c.mark-first in
-    fails (shares _) (alike _ _ _ c.requires.1 _ _ _ _ c.loop-left.invariant.0 (omega arith) m.result (sym c.is_alone.ensures ∙ c.if-is_alone.false))
+    fails (shares _) (alike _ _ _ c.requires.1 _ _ _ _ c.loop-left.invariant.0 (omega arith) m.result (sym c.is_alone.ensures ∙ c.if-not-is_alone.true))
 
 pub returns : goal.returns
 returns c =

@@ -1,5 +1,0 @@
--- `expects` meets its contract.
-use Rattle.session.proofs.expects.Goals as goal
-
-pub returns : goal.returns
-returns c = rw c.if-f.false
