@@ -11,7 +11,7 @@ ghost use Rattle.setup.specs.Setup.{record_at, given, state_of, after_setup, ret
 ghost use Rattle.setup.specs.inside.Record.{Keyed, written};
 ghost use Rattle.state.specs.Layout.{size};
 
-use answers::Outcome;
+use answers::SetupError;
 use blocks::set::ALL;
 use rules::limits::{SUBSCRIPTION_RECORD, SUBSCRIPTIONS};
 use state::layout::{FREE_AT, OWN_AT, SIZE, SUBSCRIPTION_COUNT_AT};
@@ -122,26 +122,26 @@ fn write(state: &mut [u8], own: u32, records: &[u8], n: usize)
 
 // Sets a receiver up with its own node ID (0: none yet) and subscriptions: records of 13 bytes, the kind (0 message, 1 service), the
 // type ID (4, low byte first) and the signature (8, low byte first).
-pub fn setup(state: &mut [u8], own: u32, subscriptions: &[u8]) -> Outcome
+pub fn setup(state: &mut [u8], own: u32, subscriptions: &[u8]) -> Result<(), SetupError>
     ensures { returned result state.new ≡ after_setup state.old own subscriptions.now }
 {
     let len = subscriptions.len();
     let n = len / SUBSCRIPTION_RECORD;
     if state.len() < SIZE {
-        return Outcome::Short;
+        return Err(SetupError::Short);
     }
     if 0 < len % SUBSCRIPTION_RECORD {
-        return Outcome::Unacceptable;
+        return Err(SetupError::Unacceptable);
     }
     if 127 < own {
-        return Outcome::Unacceptable;
+        return Err(SetupError::Unacceptable);
     }
     if SUBSCRIPTIONS < n {
-        return Outcome::Unacceptable;
+        return Err(SetupError::Unacceptable);
     }
     if all_fit(subscriptions, n) {
         write(state, own, subscriptions, n);
-        return Outcome::Done;
+        return Ok(());
     }
-    Outcome::Unacceptable
+    Err(SetupError::Unacceptable)
 }

@@ -7,6 +7,7 @@ use native.Mathlib.Omega.{arith}
 use borrow.Author.Tests.{le-ltb}
 use lib.ListN.{length, take, drop}
 use lib.Seq.{drop-length}
+use Rattle.std.specs.declared.result.Result.TheVariants.{Ok}
 use Rattle.bits.specs.Little.{le, le_bytes}
 use Rattle.bits.specs.Order.{Octets}
 use Rattle.bits.specs.Tabulate.{tabulate}
@@ -15,8 +16,7 @@ use Rattle.bits.proofs.Splice.{take-splice}
 use Rattle.rules.specs.Setup.{acceptable, subscribed}
 use Rattle.setup.specs.Setup as setup
 use Rattle.setup.specs.Setup.{record_at, given, accepted, state_of, after_setup}
-use Rattle.answers.specs.declared.Outcome.{Outcome}
-use Rattle.answers.specs.declared.Outcome.TheVariants.{Done}
+use Rattle.answers.specs.Setup.{Outcome}
 use Rattle.setup.proofs.Fresh.{fresh}
 use Rattle.state.specs.Layout.{size}
 use Rattle.state.specs.Sound.{sound_state}
@@ -42,7 +42,7 @@ unfolding accepted given record_at tabulate acceptable records record13 signatur
 fine = refl
 
 module _ (m m' r : List ℕ) (o : Outcome) (h : length m ≡ size) (t : r ≡ subscriptions) (e : setup.returned o m' ≡ after_setup m 1 r) where
-  after : after_setup m 1 subscriptions ≡ setup.returned Done (state_of (given 1 subscriptions) ++ drop size m)
+  after : after_setup m 1 subscriptions ≡ setup.returned (Ok tt) (state_of (given 1 subscriptions) ++ drop size m)
   unfolding after_setup
   after = rw (le-ltb (length m) size (omega arith), fine)
 
