@@ -47,7 +47,7 @@ fn answer(rt: &impl Print, map: &mut [u8; 416], time: u64, payload: &[u8]) -> io
 
 pub fn run(rt: &impl Print) -> io::Result<()> {
     let mut map = [0u8; 416];
-    id_map::setup(&mut map);
+    id_map::setup(&mut map).unwrap();
     println!(rt; "003 allocator's answers")?;
     answer(rt, &mut map, 1_117_000, b"\x00\x44\xC0\x8B\x63\x5E\x05")?;
     answer(

@@ -1,5 +1,5 @@
 -- `start` meets its contract.
-use mathlib.Core.Path.{◌≡◌, refl, sym, ap, ◌∙◌}
+use mathlib.Core.Path.{◌≡◌, refl, sym, ap, subst, ◌∙◌}
 use mathlib.Core.Bool.{true}
 use mathlib.Core.List.{List, [], ◌∷◌, ◌++◌, append-nil}
 use Prim.Native.Nat.{ℕ}
@@ -7,6 +7,7 @@ use native.Mathlib.Omega.{arith}
 use borrow.Author.Tests.{le-ltb}
 use lib.ListN.{length, take, drop}
 use lib.Seq.{drop-length}
+use Rattle.std.specs.Result.{IsOk}
 use Rattle.std.specs.declared.result.Result.TheVariants.{Ok}
 use Rattle.bits.specs.Little.{le, le_bytes}
 use Rattle.bits.specs.Order.{Octets}
@@ -46,6 +47,9 @@ module _ (m m' r : List ℕ) (o : Outcome) (h : length m ≡ size) (t : r ≡ su
   unfolding after_setup
   after = rw (le-ltb (length m) size (omega arith), fine)
 
+  is-done : o ≡ Ok tt
+  is-done = ap (λ (x : setup.Result). x.answer) (e ∙ ap (after_setup m 1) t ∙ after)
+
   is_state : m' ≡ state_of (given 1 subscriptions) ++ []
   is_state =
       ap (λ (x : setup.Result). x.state) (e ∙ ap (after_setup m 1) t ∙ after)
@@ -56,6 +60,11 @@ module _ (m m' r : List ℕ) (o : Outcome) (h : length m ≡ size) (t : r ≡ su
 
   is-sound : sound_state m' ≡ true
   is-sound = ap sound_state is_state ∙ (fresh 1 subscriptions [] fine (octets types)).sound
+
+pub unwrap-requires : goal.unwrap-requires
+unwrap-requires c =
+    let a = c.args in
+    subst IsOk (sym (is-done a.state.now c.setup.new.state _ c.setup.result c.requires.0 c.subscriptions-types.ensures c.setup.ensures)) refl
 
 pub returns : goal.returns
 returns c =
