@@ -52,12 +52,10 @@ fn key_is_new(records: &[u8], j: usize, n: usize) -> bool
     ensures { result ≡ unlike (record_at records.now j) (tabulate (record_at records.now) (j + 1) (n - (j + 1))) }
 {
     let k = key(records, j);
-    let mut i = j + 1;
-    while i < n {
+    for i in j + 1..n {
         if key(records, i) == k {
             return false;
         }
-        i += 1;
     }
     true
 }
@@ -67,15 +65,11 @@ fn all_fit(records: &[u8], n: usize) -> bool
     requires { n * subscription_record ≤ length records.now }
     ensures { result ≡ all_fit (tabulate (record_at records.now) 0 n) }
 {
-    let mut j = 0;
-    while j < n {
-        if type_fits(key(records, j)) {
-            if key_is_new(records, j, n) {
-                j += 1;
-            } else {
-                return false;
-            }
-        } else {
+    for j in 0..n {
+        if !type_fits(key(records, j)) {
+            return false;
+        }
+        if !key_is_new(records, j, n) {
             return false;
         }
     }
@@ -87,10 +81,8 @@ fn clear(state: &mut [u8], n: usize)
     requires { n ≤ length state.old }
     ensures { state.new ≡ replicate n 0 ++ drop n state.old }
 {
-    let mut i = 0;
-    while i < n {
+    for i in 0..n {
         state[i] = 0;
-        i += 1;
     }
 }
 
@@ -113,10 +105,8 @@ fn write(state: &mut [u8], own: u32, records: &[u8], n: usize)
     bits::le::put_at(state, FREE_AT, 8, ALL);
     state[OWN_AT] = own as u8;
     state[SUBSCRIPTION_COUNT_AT] = n as u8;
-    let mut j = 0;
-    while j < n {
+    for j in 0..n {
         put(state, records, j);
-        j += 1;
     }
 }
 

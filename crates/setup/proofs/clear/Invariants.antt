@@ -6,6 +6,3 @@ use Rattle.setup.proofs.clear.Given as goal
 
 abbrev pub invariant-loop-i : goal.invariant-loop-i
 invariant-loop-i l = (l.i ≤ l.n) × ((length l.state ≡ length l.initial.state) × (l.state ≡ replicate l.i 0 ++ drop l.i l.initial.state))
-
-abbrev pub decreases-loop-i : goal.decreases-loop-i
-decreases-loop-i l = l.n - l.i
