@@ -139,11 +139,12 @@ at_first records n m results out fine =
 
 module _ (records : List ℕ) (n : ℕ) (m₀ results₀ out₀ m results out : List ℕ) (i past : ℕ) (g : Going records n m₀ results₀ out₀ m results out i past) where
   -- the records are used up
-  pub at_last : i ≡ n → returned (Ok i) m results out ≡ told (batch m₀ (tabulate (arrival_at records) 0 n) out₀) results₀
+  pub at_last : i ≡ n → returned (Ok n) m results out ≡ told (batch m₀ (tabulate (arrival_at records) 0 n) out₀) results₀
   unfolding batch tabulate
   at_last e =
       let z : n - i ≡ 0 = omega arith in
-      finished (batch m₀ (tabulate (arrival_at records) 0 n) out₀) results₀ m results out g.done i past g.count g.stored (rw z at g.same)
+      ap (λ (k : ℕ). returned (Ok k) m results out) (sym e)
+      ∙ finished (batch m₀ (tabulate (arrival_at records) 0 n) out₀) results₀ m results out g.done i past g.count g.stored (rw z at g.same)
 
   module _ (less : i < n) where
     abbrev pub r : Result

@@ -85,21 +85,20 @@ fn receive_all(
     requires { (sound_state state.old ≡ true) × ((n * arrival_size ≤ length records.now) × (n * result_size ≤ length results.old)) }
     ensures { returned (Ok result) state.new results.new out.new ≡ told (batch state.old (tabulate (arrival_at records.now) 0 n) out.old) results.old }
 {
-    let mut i = 0;
     let mut past = 0;
-    while i < n {
+    for i in 0..n {
         let word = receive_one(state, records, i, &mut out[past..]);
         bits::le::put_u64(results, i * RESULT, word);
-        i += 1;
         let len = (word / 256 % 1024) as usize;
         past += len;
         if is_full(len, past, out.len()) {
-            return i;
+            return i + 1;
         }
     }
-    i
+    n
 }
 
+// Not `min` of the library: the translation to C takes no generic function.
 fn least(a: usize, b: usize) -> usize
     ensures { result ≡ min a b }
 {
