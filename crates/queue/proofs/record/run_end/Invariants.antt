@@ -7,6 +7,3 @@ use Rattle.queue.proofs.record.run_end.Given as goal
 
 abbrev pub invariant-loop-e : goal.invariant-loop-e
 invariant-loop-e l = (l.own ≡ id_of (given l.records l.i)) × Run (given l.records) l.i l.e l.k
-
-abbrev pub decreases-loop-e : goal.decreases-loop-e
-decreases-loop-e l = l.k - l.e

@@ -8,6 +8,3 @@ use Rattle.queue.proofs.sound.records_sound.Given as goal
 
 abbrev pub invariant-loop-i : goal.invariant-loop-i
 invariant-loop-i l = (l.i ≤ l.n) × ((in_order (queued l.queue l.i) ≡ true) × Below l.last (queued l.queue l.i))
-
-abbrev pub decreases-loop-i : goal.decreases-loop-i
-decreases-loop-i l = l.n - l.i
