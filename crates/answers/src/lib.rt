@@ -1,5 +1,5 @@
-// What the calls of the transport answer (RULES 13.1): an enum for each, with its number. What a reader has to tell apart is the number and, of a
-// reception, the transfer that was handed out.
+// What the calls of the transport answer (RULES 13.1), with the number of each: of a setup and a send what refuses it, of a reception an enum, since most
+// of its cases refuse nothing. What a reader has to tell apart is the number and, of a reception, the transfer that was handed out.
 #![tactic(auto)]
 
 pub mod word;
@@ -31,7 +31,7 @@ pub enum Reason {
     OtherInterface,
 }
 
-// The receiver's answers. `Refused` holds the number of the frame check: 2 to 8 or 19.
+// The receiver's answers. `Refused` holds the number of the frame check, 2 to 8 or 19: one case, as `refused` of the rules' answer is (rules/specs/Answer.antt).
 #[derive(Clone, Copy)]
 pub enum Answer {
     Taken,

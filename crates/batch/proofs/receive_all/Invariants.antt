@@ -1,4 +1,3 @@
-use Prim.Native.Nat.{◌-◌}
 use Rattle.batch.proofs.Turns.{Going}
 use Rattle.batch.proofs.receive_all.Given as goal
 

@@ -1,5 +1,4 @@
 use mathlib.Core.Path.{◌≡◌}
-use Prim.Native.Nat.{◌-◌}
 use Rattle.queue.specs.Layout.{given}
 use Rattle.queue.specs.Queue.{id_of}
 use Rattle.queue.specs.inside.Run.{Run}

@@ -1,6 +1,6 @@
 use mathlib.Core.Path.{◌≡◌}
 use mathlib.Core.Bool.{true}
-use Prim.Native.Nat.{◌-◌, ◌≤◌}
+use Prim.Native.Nat.{◌≤◌}
 use Rattle.queue.specs.Layout.{queued}
 use Rattle.queue.specs.Queue.{in_order}
 use Rattle.queue.proofs.Soundness.{Below}
