@@ -1,8 +1,8 @@
 -- RULES 16.10: setting an allocator up.
-use Rattle.std.specs.Prelude.{List, ◌++◌, ℕ, ltb, length, drop, replicate}
+use Rattle.std.specs.Prelude.{List, ◌++◌, ℕ, ltb, length, drop, replicate, Ok, Err}
 use Rattle.allocator_table.specs.Layout.{size}
-use Rattle.answers.specs.declared.Outcome.{Outcome}
-use Rattle.answers.specs.declared.Outcome.TheVariants.{Done, Short}
+use Rattle.answers.specs.Setup.{Outcome}
+use Rattle.answers.specs.declared.SetupError.TheVariants.{Short}
 use Rattle.rules.specs.Tests.{pick}
 
 pub record SetUp : Type 0 where
@@ -14,4 +14,4 @@ set_up a m = record { answer = a; state = m }
 
 -- a buffer that is too short stays as it was; bytes past the layout stay
 unfoldable pub after_setup : List ℕ → SetUp
-after_setup m = pick (ltb (length m) size) (set_up Short m) (set_up Done (replicate size 0 ++ drop size m))
+after_setup m = pick (ltb (length m) size) (set_up (Err Short) m) (set_up (Ok tt) (replicate size 0 ++ drop size m))

@@ -15,7 +15,7 @@ use allocator_table::free::Reserved;
 use allocator_table::layout::SIZE;
 use allocator_table::sound;
 use answer::Answer;
-use answers::Outcome;
+use answers::SetupError;
 use protocol_dynamic_node_id::allocation;
 use protocol_dynamic_node_id::allocation::Read;
 
@@ -35,15 +35,15 @@ pub fn size() -> usize
 }
 
 // Makes the lent bytes an allocator with an empty table.
-pub fn setup(state: &mut [u8]) -> Outcome
+pub fn setup(state: &mut [u8]) -> Result<(), SetupError>
     ensures { set_up result state.new ≡ after_setup state.old }
 {
     if state.len() < SIZE {
-        return Outcome::Short;
+        return Err(SetupError::Short);
     }
     let zeros = [0u8; SIZE];
     bits::part::copy_at(state, 0, &zeros);
-    Outcome::Done
+    Ok(())
 }
 
 // One Allocation message: its payload, and the reply's to the front of `out`.

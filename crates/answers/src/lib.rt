@@ -1,14 +1,13 @@
-// What the calls of the transport answer (RULES 13.1): an enum for each, with its number. What a reader has to tell apart is the number and, of a
-// reception, the transfer that was handed out.
+// What the calls of the transport answer (RULES 13.1), with the number of each: of a setup and a send what refuses it, of a reception an enum, since most
+// of its cases refuse nothing. What a reader has to tell apart is the number and, of a reception, the transfer that was handed out.
 #![tactic(auto)]
 
 pub mod word;
 
-ghost use Rattle.std.specs.Prelude.{◌≡◌, ◌<◌};
+ghost use Rattle.std.specs.Prelude.{◌≡◌, ◌<◌, Err};
 ghost use Rattle.answers.specs.Reception.{reason_number, number_of, no_transfer, transfer_in};
 ghost use Rattle.answers.specs.Sending as sending;
 ghost use Rattle.answers.specs.Setup as setup;
-ghost use Rattle.answers.specs.Sending.{no_dispatch, dispatch_in};
 
 // A transfer that was handed out: its length, stream, the closing frame's priority and transfer ID.
 #[derive(Clone, Copy)]
@@ -32,7 +31,7 @@ pub enum Reason {
     OtherInterface,
 }
 
-// The receiver's answers. `Refused` holds the number of the frame check: 2 to 8 or 19.
+// The receiver's answers. `Refused` holds the number of the frame check, 2 to 8 or 19: one case, as `refused` of the rules' answer is (rules/specs/Answer.antt).
 #[derive(Clone, Copy)]
 pub enum Answer {
     Taken,
@@ -46,10 +45,9 @@ pub enum Answer {
     Faulty,
 }
 
-// What setting up a receiver or a transfer-ID map answers.
-#[derive(Drop)]
-pub enum Outcome {
-    Done,
+// Why a receiver, a transfer-ID map, a queue or an allocator is not set up.
+#[derive(Clone, Copy, Debug, PartialEq, Eq)]
+pub enum SetupError {
     Unacceptable,
     Short,
 }
@@ -61,10 +59,9 @@ pub struct Dispatch {
     pub transfer: u8,
 }
 
-// The sender's answers.
-#[derive(Clone, Copy)]
-pub enum Sent {
-    Done(Dispatch),
+// Why nothing is sent.
+#[derive(Clone, Copy, Debug, PartialEq, Eq)]
+pub enum SendError {
     OutputSmall,
     MapFull,
     TooLong,
@@ -122,65 +119,43 @@ impl Answer {
         ensures { result ≡ transfer_in self }
     {
         match self {
-            Answer::Taken => no_transfer(),
             Answer::Handed(t) => t,
-            Answer::Refused(_) => no_transfer(),
-            Answer::Full => no_transfer(),
-            Answer::Passed(_) => no_transfer(),
-            Answer::TooLong => no_transfer(),
-            Answer::NoBlock => no_transfer(),
-            Answer::BadChecksum => no_transfer(),
-            Answer::Faulty => no_transfer(),
+            _ => no_transfer(),
         }
     }
 }
 
-impl Outcome {
+impl SetupError {
     pub fn number(self) -> u32
-        ensures { result ≡ setup.number_of self }
+        ensures { result ≡ setup.number_of (Err self) }
     {
         match self {
-            Outcome::Done => 0,
-            Outcome::Unacceptable => 13,
-            Outcome::Short => 20,
+            SetupError::Unacceptable => 13,
+            SetupError::Short => 20,
         }
     }
 }
 
-fn no_dispatch() -> Dispatch
-    ensures { result ≡ no_dispatch }
+// The number of a setup's answer.
+pub fn setup_number(answer: Result<(), SetupError>) -> u32
+    ensures { result ≡ setup.number_of answer }
 {
-    Dispatch {
-        frames: 0,
-        transfer: 0,
+    match answer {
+        Ok(()) => 0,
+        Err(e) => e.number(),
     }
 }
 
-impl Sent {
+impl SendError {
     pub fn number(self) -> u64
-        ensures { (result ≡ sending.number_of self) × (result < 256) }
+        ensures { (result ≡ sending.number_of (Err self)) × (result < 256) }
     {
         match self {
-            Sent::Done(_) => 0,
-            Sent::OutputSmall => 8,
-            Sent::MapFull => 9,
-            Sent::TooLong => 11,
-            Sent::NotSendable => 14,
-            Sent::Faulty => 20,
-        }
-    }
-
-    // What was made; all zero under a refusal.
-    pub fn dispatch(self) -> Dispatch
-        ensures { result ≡ dispatch_in self }
-    {
-        match self {
-            Sent::Done(d) => d,
-            Sent::OutputSmall => no_dispatch(),
-            Sent::MapFull => no_dispatch(),
-            Sent::TooLong => no_dispatch(),
-            Sent::NotSendable => no_dispatch(),
-            Sent::Faulty => no_dispatch(),
+            SendError::OutputSmall => 8,
+            SendError::MapFull => 9,
+            SendError::TooLong => 11,
+            SendError::NotSendable => 14,
+            SendError::Faulty => 20,
         }
     }
 }

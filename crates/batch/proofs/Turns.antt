@@ -17,7 +17,7 @@ use Rattle.answers.specs.declared.Answer.{Answer}
 use Rattle.batch.proofs.Fits.{received-fits}
 use Rattle.batch.specs.Layout.{result_size, arrival_at}
 use Rattle.batch.specs.Many.{Batch, handed, rest, full, ended, followed, batch, words, told, returned}
-use Rattle.batch.specs.declared.Progress.TheVariants.{Used}
+use Rattle.std.specs.declared.result.Result.TheVariants.{Ok}
 use Rattle.batch.specs.inside.Turn.{Received}
 use Rattle.bits.proofs.Little.{length-le_bytes}
 use Rattle.bits.proofs.Splice.{splice-next}
@@ -99,11 +99,11 @@ words-stored results₀ results done a i c room e =
 
 -- nothing is left
 finished : (whole : Batch) (results₀ m results out : List ℕ) (done : List Answer) (i past : ℕ) → length done ≡ i → results ≡ splice results₀ 0 (words done)
-    → resumed done (take past out) (ended m (drop past out)) ≡ whole → returned (Used i) m results out ≡ told whole results₀
+    → resumed done (take past out) (ended m (drop past out)) ≡ whole → returned (Ok i) m results out ≡ told whole results₀
 finished whole results₀ m results out done i past c s e =
-    ap (λ (k : ℕ). returned (Used k) m results out) (sym c ∙ ap length (sym (append-nil done)))
-    ∙ ap (λ (x : List ℕ). returned (Used (length (done ++ []))) m x out) (s ∙ ap (λ (l : List Answer). splice results₀ 0 (words l)) (sym (append-nil done)))
-    ∙ ap (λ (x : List ℕ). returned (Used (length (done ++ []))) m (splice results₀ 0 (words (done ++ []))) x) (sym (take-append-drop past out))
+    ap (λ (k : ℕ). returned (Ok k) m results out) (sym c ∙ ap length (sym (append-nil done)))
+    ∙ ap (λ (x : List ℕ). returned (Ok (length (done ++ []))) m x out) (s ∙ ap (λ (l : List Answer). splice results₀ 0 (words l)) (sym (append-nil done)))
+    ∙ ap (λ (x : List ℕ). returned (Ok (length (done ++ []))) m (splice results₀ 0 (words (done ++ []))) x) (sym (take-append-drop past out))
     ∙ ap (λ (b : Batch). told b results₀) e
 
 -- ── a turn ──
@@ -139,11 +139,12 @@ at_first records n m results out fine =
 
 module _ (records : List ℕ) (n : ℕ) (m₀ results₀ out₀ m results out : List ℕ) (i past : ℕ) (g : Going records n m₀ results₀ out₀ m results out i past) where
   -- the records are used up
-  pub at_last : i ≡ n → returned (Used i) m results out ≡ told (batch m₀ (tabulate (arrival_at records) 0 n) out₀) results₀
+  pub at_last : i ≡ n → returned (Ok n) m results out ≡ told (batch m₀ (tabulate (arrival_at records) 0 n) out₀) results₀
   unfolding batch tabulate
   at_last e =
       let z : n - i ≡ 0 = omega arith in
-      finished (batch m₀ (tabulate (arrival_at records) 0 n) out₀) results₀ m results out g.done i past g.count g.stored (rw z at g.same)
+      ap (λ (k : ℕ). returned (Ok k) m results out) (sym e)
+      ∙ finished (batch m₀ (tabulate (arrival_at records) 0 n) out₀) results₀ m results out g.done i past g.count g.stored (rw z at g.same)
 
   module _ (less : i < n) where
     abbrev pub r : Result
@@ -179,7 +180,7 @@ module _ (records : List ℕ) (n : ℕ) (m₀ results₀ out₀ m results out : 
 
     -- the buffer is full
     stops : full r ≡ true → i * result_size + result_size ≤ length results₀
-        → returned (Used (i + 1)) r.state (splice results (i * result_size) (le_bytes result_size (word_of r.answer))) written
+        → returned (Ok (i + 1)) r.state (splice results (i * result_size) (le_bytes result_size (word_of r.answer))) written
         ≡ told (batch m₀ (tabulate (arrival_at records) 0 n) out₀) results₀
     stops f room =
         let e : resumed answered (take (past + handed r) written) (ended r.state (rest r)) ≡ batch m₀ (tabulate (arrival_at records) 0 n) out₀ =
@@ -250,10 +251,10 @@ module _ (records : List ℕ) (n : ℕ) (m₀ results₀ out₀ m results out : 
           go true e x = omega (arith, ltb-false room' (past + k + payload_max) x)
 
       pub stopped : (ltb 0 len && ltb (length out') (past + len + payload_max)) ≡ true
-          → returned (Used (i + 1)) m' results' out' ≡ told (batch m₀ (tabulate (arrival_at records) 0 n) out₀) results₀
+          → returned (Ok (i + 1)) m' results' out' ≡ told (batch m₀ (tabulate (arrival_at records) 0 n) out₀) results₀
       stopped f =
-          ap (λ (x : List ℕ). returned (Used (i + 1)) x results' out') one'.state ∙ ap (λ (x : List ℕ). returned (Used (i + 1)) r.state x out') words-written
-          ∙ ap (λ (x : List ℕ). returned (Used (i + 1)) r.state (splice results (i * result_size) (le_bytes result_size (word_of r.answer))) x) out_written
+          ap (λ (x : List ℕ). returned (Ok (i + 1)) x results' out') one'.state ∙ ap (λ (x : List ℕ). returned (Ok (i + 1)) r.state x out') words-written
+          ∙ ap (λ (x : List ℕ). returned (Ok (i + 1)) r.state (splice results (i * result_size) (le_bytes result_size (word_of r.answer))) x) out_written
           ∙ stops (sym full-same ∙ f) room
 
       pub going : (ltb 0 len && ltb (length out') (past + len + payload_max)) ≡ false → length m' ≡ length m → length results' ≡ length results

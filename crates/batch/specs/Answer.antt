@@ -1,12 +1,15 @@
 -- RULES 13.1, 5.8: the answers of a call on several frames. The number of each case, and the records used up.
-use Rattle.std.specs.Prelude.{ℕ}
-use Rattle.batch.specs.declared.Progress.{Progress}
-use Rattle.batch.specs.declared.Progress.TheVariants.{Used, Faulty}
+use Rattle.std.specs.Prelude.{ℕ, Result, Ok, Err}
+use Rattle.batch.specs.declared.BatchError.{BatchError}
+use Rattle.batch.specs.declared.BatchError.TheVariants.{Faulty}
+
+abbrev pub Progress : Type 0
+Progress = Result ℕ BatchError
 
 abbrev pub number_of : Progress → ℕ
-number_of (Used n) = 0
-number_of Faulty = 20
+number_of (Ok n) = 0
+number_of (Err Faulty) = 20
 
 abbrev pub used_in : Progress → ℕ
-used_in (Used n) = n
-used_in Faulty = 0
+used_in (Ok n) = n
+used_in (Err Faulty) = 0

@@ -1,12 +1,12 @@
 -- RULES 5.8: several frames in one call. Each is received as by a call of its own, on the state that the one before it left, and is lent what is left of
 -- the output buffer.
-use Rattle.std.specs.Prelude.{Bool, true, false, ◌&&◌, List, [], ◌∷◌, ◌++◌, ℕ, min, ◌/◌, ltb, length, take, drop}
+use Rattle.std.specs.Prelude.{Bool, true, false, ◌&&◌, List, [], ◌∷◌, ◌++◌, ℕ, min, ◌/◌, ltb, length, take, drop, Ok, Err}
 use Rattle.answers.specs.Reception.{transfer_in}
 use Rattle.answers.specs.Word.{word_of}
 use Rattle.answers.specs.declared.Answer.{Answer}
+use Rattle.batch.specs.Answer.{Progress}
 use Rattle.batch.specs.Layout.{arrival_size, result_size, records_max, arrival_at}
-use Rattle.batch.specs.declared.Progress.{Progress}
-use Rattle.batch.specs.declared.Progress.TheVariants.{Used, Faulty}
+use Rattle.batch.specs.declared.BatchError.TheVariants.{Faulty}
 use Rattle.bits.specs.Little.{le_bytes}
 use Rattle.bits.specs.Part.{splice}
 use Rattle.bits.specs.Tabulate.{tabulate}
@@ -73,11 +73,11 @@ words (a ∷ more) = le_bytes result_size (word_of a) ++ words more
 
 -- the words are at the front of their buffer
 abbrev pub told : Batch → List ℕ → Called
-told b results = returned (Used (length b.answers)) b.state (splice results 0 (words b.answers)) b.out
+told b results = returned (Ok (length b.answers)) b.state (splice results 0 (words b.answers)) b.out
 
 -- a state at fault answers 20, first of all
 unfoldable pub received_many_if : Bool → List ℕ → List ℕ → List ℕ → List ℕ → Called
-received_many_if false m records results out = returned Faulty m results out
+received_many_if false m records results out = returned (Err Faulty) m results out
 received_many_if true m records results out =
     told (batch m (tabulate (arrival_at records) 0 (at_most (length records) (length results))) out) results
 

@@ -4,11 +4,10 @@
 pub mod laws;
 pub mod layout;
 
-ghost use Rattle.std.specs.Prelude.{true, ◌&&◌, ◌≡◌, min, ◌+◌, ◌*◌, ◌^◌, ◌≤◌, ◌<◌, ltb, length};
-ghost use Rattle.batch.specs.Answer.{number_of, used_in};
+ghost use Rattle.std.specs.Prelude.{true, ◌&&◌, ◌≡◌, min, ◌+◌, ◌*◌, ◌^◌, ◌≤◌, ◌<◌, ltb, length, Ok, Err};
+ghost use Rattle.batch.specs.Answer.{number_of};
 ghost use Rattle.batch.specs.Layout.{arrival_size, result_size, data_length, arrival_at};
 ghost use Rattle.batch.specs.Many.{returned, batch, told, received_many};
-ghost use Rattle.batch.specs.declared.Progress.TheVariants.{Used};
 ghost use Rattle.batch.specs.inside.Turn.{Received};
 ghost use Rattle.bits.specs.Tabulate.{tabulate};
 ghost use Rattle.rules.specs.Limits.{payload_max};
@@ -17,31 +16,19 @@ ghost use Rattle.state.specs.Sound.{sound_state};
 use layout::{ARRIVAL, DATA_AT, ID_AT, INTERFACE_AT, LENGTH_AT, RECORDS, RESULT};
 use rules::limits::{FRAME_DATA, PAYLOAD};
 
-// What a call on several frames answers: how many records were used up, or a state at fault.
-#[derive(Clone, Copy)]
-pub enum Progress {
-    Used(usize),
+// Why no frame of a call on several is received: a state at fault.
+#[derive(Clone, Copy, Debug, PartialEq, Eq)]
+pub enum BatchError {
     Faulty,
 }
 
-impl Progress {
+impl BatchError {
     // The number answered.
     pub fn number(self) -> u32
-        ensures { result ≡ number_of self }
+        ensures { result ≡ number_of (Err self) }
     {
         match self {
-            Progress::Used(_) => 0,
-            Progress::Faulty => 20,
-        }
-    }
-
-    // The records used up; none under a fault.
-    pub fn used(self) -> usize
-        ensures { result ≡ used_in self }
-    {
-        match self {
-            Progress::Used(n) => n,
-            Progress::Faulty => 0,
+            BatchError::Faulty => 20,
         }
     }
 }
@@ -96,23 +83,22 @@ fn receive_all(
     out: &mut [u8],
 ) -> usize
     requires { (sound_state state.old ≡ true) × ((n * arrival_size ≤ length records.now) × (n * result_size ≤ length results.old)) }
-    ensures { returned (Used result) state.new results.new out.new ≡ told (batch state.old (tabulate (arrival_at records.now) 0 n) out.old) results.old }
+    ensures { returned (Ok result) state.new results.new out.new ≡ told (batch state.old (tabulate (arrival_at records.now) 0 n) out.old) results.old }
 {
-    let mut i = 0;
     let mut past = 0;
-    while i < n {
+    for i in 0..n {
         let word = receive_one(state, records, i, &mut out[past..]);
         bits::le::put_u64(results, i * RESULT, word);
-        i += 1;
         let len = (word / 256 % 1024) as usize;
         past += len;
         if is_full(len, past, out.len()) {
-            return i;
+            return i + 1;
         }
     }
-    i
+    n
 }
 
+// Not `min` of the library: the translation to C takes no generic function.
 fn least(a: usize, b: usize) -> usize
     ensures { result ≡ min a b }
 {
@@ -128,7 +114,7 @@ pub fn receive_many(
     records: &[u8],
     results: &mut [u8],
     out: &mut [u8],
-) -> Progress
+) -> Result<usize, BatchError>
     ensures { returned result state.new results.new out.new ≡ received_many state.old records.now results.old out.old }
 {
     if sessions::sound::is_sound(state) {
@@ -136,7 +122,7 @@ pub fn receive_many(
             least(records.len() / ARRIVAL, results.len() / RESULT),
             RECORDS,
         );
-        return Progress::Used(receive_all(state, records, n, results, out));
+        return Ok(receive_all(state, records, n, results, out));
     }
-    Progress::Faulty
+    Err(BatchError::Faulty)
 }

@@ -7,6 +7,7 @@ use native.Mathlib.Omega.{arith}
 use borrow.Author.Tests.{ltb-true}
 use lib.Dec.{ltb}
 use lib.ListN.{replicate, length-replicate}
+use Rattle.std.specs.declared.result.Result.TheVariants.{Ok}
 use Rattle.bits.specs.Little.{le}
 use Rattle.bits.specs.Order.{Octets}
 use Rattle.bits.specs.Tabulate.{tabulate}
@@ -33,7 +34,6 @@ use Rattle.rules.specs.Table.{empty, held, Places, seek, place_for}
 use Rattle.setup.proofs.Fresh.{fresh}
 use Rattle.setup.specs.Laws.{Fresh}
 use Rattle.setup.specs.Setup.{record_at, given, accepted, state_of, after_setup}
-use Rattle.answers.specs.declared.Outcome.TheVariants.{Done}
 use Rattle.state.specs.Layout.{size}
 use Rattle.state.proofs.Bools.{and_left, and_right}
 use Rattle.state.specs.Place.{written}
@@ -134,7 +134,7 @@ records-bytes : bytes_test records ≡ true
 unfolding bytes_test records
 records-bytes = refl
 
-done-is : (after_setup (replicate size 0) 1 records).answer ≡ Done
+done-is : (after_setup (replicate size 0) 1 records).answer ≡ Ok tt
 unfolding after_setup
 done-is = rw accepted-is
 

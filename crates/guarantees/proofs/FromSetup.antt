@@ -7,6 +7,7 @@ use native.Mathlib.Omega.{arith}
 use borrow.Author.Tests.{ltb-true, leb-true}
 use lib.Dec.{ltb, leb, eqb}
 use lib.ListN.{length, drop, replicate}
+use Rattle.std.specs.declared.result.Result.TheVariants.{Ok, Err}
 use Rattle.bits.proofs.Octets.{octets-append, octets-drop, octets-le_bytes}
 use Rattle.bits.specs.Little.{le_bytes}
 use Rattle.bits.specs.Order.{Octets}
@@ -29,7 +30,7 @@ use Rattle.setup.proofs.Fresh.{fresh}
 use Rattle.setup.specs.Setup.{given, accepted, signatures, keys, filled, state_of, Result, returned, after_setup}
 use Rattle.answers.specs.Reception.{told}
 use Rattle.answers.specs.declared.Answer.TheVariants.{NoBlock}
-use Rattle.answers.specs.declared.Outcome.TheVariants.{Done, Unacceptable, Short}
+use Rattle.answers.specs.declared.SetupError.TheVariants.{Unacceptable, Short}
 use Rattle.state.proofs.Bools.{and_left, and_right}
 use Rattle.state.specs.Layout.{size, stream_keys_at, places_of}
 
@@ -81,14 +82,14 @@ module _ (m : List ℕ) (own : ℕ) (r : List ℕ) where
   laid = state_of (given own r) ++ drop size m
 
   abbrev answered : Bool → Bool → Result
-  answered a b = pick a (returned Short m) (pick b (returned Done laid) (returned Unacceptable m))
+  answered a b = pick a (returned (Err Short) m) (pick b (returned (Ok tt) laid) (returned (Err Unacceptable) m))
 
-  succeeds : (a b : Bool) → accepted own r ≡ b → (answered a b).answer ≡ Done → (accepted own r ≡ true) × ((answered a b).state ≡ laid)
+  succeeds : (a b : Bool) → accepted own r ≡ b → (answered a b).answer ≡ Ok tt → (accepted own r ≡ true) × ((answered a b).state ≡ laid)
   succeeds true b k z = let q : ◌≡◌ {A = ℕ} 0 1 = cc in absurd (omega arith)
   succeeds false true k z = (k, refl)
   succeeds false false k z = let q : ◌≡◌ {A = ℕ} 0 1 = cc in absurd (omega arith)
 
-  succeeded : (after_setup m own r).answer ≡ Done → (accepted own r ≡ true) × ((after_setup m own r).state ≡ laid)
+  succeeded : (after_setup m own r).answer ≡ Ok tt → (accepted own r ≡ true) × ((after_setup m own r).state ≡ laid)
   unfolding after_setup
   succeeded e = succeeds (ltb (length m) size) (accepted own r) refl e
 

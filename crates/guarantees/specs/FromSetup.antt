@@ -1,5 +1,5 @@
 -- RULES 5.7, 4.11 and 14.14: from a call of setup to lists of calls of `receive`. This is what an integrator may rely on.
-use Rattle.std.specs.Prelude.{◌≡◌, true, List, map, ℕ}
+use Rattle.std.specs.Prelude.{◌≡◌, true, List, map, ℕ, Ok}
 use Rattle.bits.specs.Order.{Octets}
 use Rattle.guarantees.specs.Condition3.{Lent, receiving}
 use Rattle.guarantees.specs.Received.{Typed}
@@ -12,14 +12,13 @@ use Rattle.rules.specs.Setup.{Setup}
 use Rattle.rules.specs.Table.{begun}
 use Rattle.setup.specs.Setup.{given, after_setup}
 use Rattle.answers.specs.declared.Answer.TheVariants.{NoBlock}
-use Rattle.answers.specs.declared.Outcome.TheVariants.{Done}
 use Rattle.state.specs.Layout.{places_of}
 
 -- a setup call that succeeds: the lent bytes m, the own ID and the subscription records r
 pub record SetUp (m : List ℕ) (own : ℕ) (r : List ℕ) : Type 0 where
   pub bytes : Octets m
   pub records : Octets r
-  pub done : (after_setup m own r).answer ≡ Done
+  pub done : (after_setup m own r).answer ≡ Ok tt
 
 -- the bytes that a setup call left, and what calls of `receive` made of them, one after the other
 pub data Reached (u : Setup) : List ℕ → Type 0 where

@@ -30,17 +30,15 @@ fn lowest_unused(map: &[u8], t: u64) -> usize
     requires { size ≤ length map.now }
     ensures { result ≡ lowest (λ i. is_unused t (slot_at map.now i)) 0 entries_max }
 {
-    let mut i = 0;
-    while i < MAP_ENTRIES {
+    for i in 0..MAP_ENTRIES {
         if is_unused(map, t, i) {
             return i;
         }
-        i += 1;
     }
-    i
+    MAP_ENTRIES
 }
 
-// Internal. The place of the entry of the key k, else the lowest empty one, else the lowest unused for long; or 32.
+// Internal. The place of the entry of the key k, else the lowest empty one, else the lowest unused for long; or 32, as the contract has it (`place_or32`).
 pub fn place(map: &[u8], k: u32, time: u64) -> usize
     requires { (size ≤ length map.now) × (k % 2 ≡ 1) }
     ensures { result ≡ place_or32 (slot_for (topic_of_key k) time (map_of map.now)) }

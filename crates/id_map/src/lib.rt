@@ -11,7 +11,7 @@ ghost use Rattle.std.specs.Prelude.{◌≡◌};
 ghost use Rattle.id_map.specs.Layout as specs;
 ghost use Rattle.id_map.specs.Setup.{returned, after_setup};
 
-use answers::Outcome;
+use answers::SetupError;
 
 // The bytes that a map takes.
 pub fn size() -> usize
@@ -21,13 +21,13 @@ pub fn size() -> usize
 }
 
 // Makes the lent bytes a map without an entry.
-pub fn setup(map: &mut [u8]) -> Outcome
+pub fn setup(map: &mut [u8]) -> Result<(), SetupError>
     ensures { returned result map.new ≡ after_setup map.old }
 {
     if map.len() < layout::SIZE {
-        return Outcome::Short;
+        return Err(SetupError::Short);
     }
     let zeros = [0u8; layout::SIZE];
     bits::part::copy_at(map, 0, &zeros);
-    Outcome::Done
+    Ok(())
 }

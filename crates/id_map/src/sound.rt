@@ -50,6 +50,7 @@ fn places_sound(map: &[u8], table: &[u32]) -> bool
     let mut marks = [0u8; MARKS];
     let mut left = table.len() as u32 - keys::count(table, 0);
     let mut i = 0;
+    // A while: the walk ends at the last entry, which is before the end of the table.
     while 0 < left {
         let k = table[i];
         let first = keys::mark(&mut marks, k);

@@ -1,6 +1,6 @@
 // The list of subscriptions (RULES 19.11) on descriptor 4: a byte that says how many, at most 65, and the records of RULES 3.3. ../../tecelume makes it of
 // the text. Where the descriptor is not open, the list is that of the log program.
-use answers::Outcome;
+use answers::SetupError;
 use console::Console;
 use rules::limits::{SUBSCRIPTION_RECORD, SUBSCRIPTIONS};
 use std::fs;
@@ -12,16 +12,16 @@ use std::rt::Files;
 const ROOM: usize = (SUBSCRIPTIONS + 1) * SUBSCRIPTION_RECORD;
 
 // Whether a setup took the list; if not, a line on standard error.
-fn taken(console: &Console, outcome: Outcome) -> bool {
+fn taken(console: &Console, outcome: Result<(), SetupError>) -> bool {
     match outcome {
-        Outcome::Done => true,
-        Outcome::Unacceptable => {
+        Ok(()) => true,
+        Err(SetupError::Unacceptable) => {
             console.say(
                 "13: the list has more than 64 subscriptions, a type twice, or a type ID above 65535 (messages) or 255 (services)\n",
             );
             false
         }
-        Outcome::Short => {
+        Err(SetupError::Short) => {
             console.cannot_read();
             false
         }

@@ -6,8 +6,9 @@ use Prim.Native.Nat.{ℕ, zero, suc, ◌+◌, ◌*◌, ◌-◌, ◌^◌, ◌<◌
 use native.Mathlib.Omega.{arith}
 use borrow.Author.Tests.{le-ltb}
 use lib.ListN.{length, take, drop, replicate}
-use Rattle.answers.specs.declared.Outcome.{Outcome}
-use Rattle.answers.specs.declared.Outcome.TheVariants.{Done, Unacceptable}
+use Rattle.std.specs.declared.result.Result.TheVariants.{Ok, Err}
+use Rattle.answers.specs.Setup.{Outcome}
+use Rattle.answers.specs.declared.SetupError.TheVariants.{Unacceptable}
 use Rattle.bits.specs.Order.{Octets}
 use Rattle.bits.specs.Part.{span}
 use Rattle.bits.proofs.Octets.{octets-take, octets-drop, octets-append, octets-span}
@@ -100,27 +101,27 @@ module _ (u : Setup) (c : List ℕ) (r : place.Place) where
 
 module _ (m s m' : List ℕ) (a : Outcome) (long : length m ≡ size) (e : setting.returned a m' ≡ after_setup m 0 s) where
   abbrev by : Bool → setting.Result
-  by b = pick b (setting.returned Done (state_of (given 0 s) ++ drop size m)) (setting.returned Unacceptable m)
+  by b = pick b (setting.returned (Ok tt) (state_of (given 0 s) ++ drop size m)) (setting.returned (Err Unacceptable) m)
 
   after : setting.returned a m' ≡ by (accepted 0 s)
   unfolding after_setup
   after = e ∙ (rw (le-ltb (length m) size (omega arith)))
 
-  pub taken : a ≡ Done → (accepted 0 s ≡ true) × (m' ≡ state_of (given 0 s) ++ drop size m)
+  pub taken : a ≡ Ok tt → (accepted 0 s ≡ true) × (m' ≡ state_of (given 0 s) ++ drop size m)
   taken d = go (accepted 0 s) after
     where
       go : (b : Bool) → setting.returned a m' ≡ by b → (b ≡ true) × (m' ≡ state_of (given 0 s) ++ drop size m)
       go true q = (refl, ap (λ (x : setting.Result). x.state) q)
       go false q = let k = ap (λ (x : setting.Result). x.answer) q in let z : ◌≡◌ {A = ℕ} 0 1 = cc in absurd (omega arith)
 
-  pub refused : (a ≡ Done → ⊥) → accepted 0 s ≡ false
+  pub refused : (a ≡ Ok tt → ⊥) → accepted 0 s ≡ false
   refused d = go (accepted 0 s) after
     where
       go : (b : Bool) → setting.returned a m' ≡ by b → b ≡ false
       go true q = absurd (d (ap (λ (x : setting.Result). x.answer) q))
       go false q = refl
 
-  pub subscribes : a ≡ Done → Octets s → setup_of m' ≡ given 0 s
+  pub subscribes : a ≡ Ok tt → Octets s → setup_of m' ≡ given 0 s
   subscribes d o = rw (taken d).1 (fresh 0 s (drop size m) (taken d).0 o).setup
 
 pub not-acceptable : (s c : List ℕ) → accepted 0 s ≡ false → answer.Unacceptable ≡ judges s c

@@ -10,7 +10,6 @@ ghost use Rattle.judge_capture.specs.Answer.{frame_of};
 ghost use Rattle.judge_capture.specs.Judge.{captured, judges};
 ghost use Rattle.state.specs.Layout.{size, setup_of};
 
-use answers::Outcome;
 use capture_convert::trailer;
 use records::Fed;
 use verdict::Verdict;
@@ -41,8 +40,7 @@ pub fn judge(subscriptions: &[u8], capture: &[u8]) -> Verdict
 {
     let mut state = [0u8; state::layout::SIZE];
     match setup::setup(&mut state, 0, subscriptions) {
-        Outcome::Done => of_capture(&state, capture),
-        Outcome::Unacceptable => Verdict::Unacceptable,
-        Outcome::Short => Verdict::Unacceptable,
+        Ok(()) => of_capture(&state, capture),
+        Err(_) => Verdict::Unacceptable,
     }
 }

@@ -37,7 +37,7 @@ pub fn start(state: &mut [u8], out: &mut [u8]) -> usize
     ensures state_after { (sound_state state.new ≡ true) × (result ≤ 43) }
 {
     let types = log_subscriptions::subscriptions();
-    setup::setup(state, 1, &types);
+    setup::setup(state, 1, &types).unwrap();
     bits::part::copy_at(out, 0, &HEADING);
     43
 }

@@ -1,7 +1,6 @@
 // RULES 15.3: the allocator's three answers in the log, through the sender on a map that was set up.
 ghost use Rattle.std.specs.Prelude.{◌≤◌};
 
-use answers::Sent;
 use sender::Outgoing;
 use std::io;
 
@@ -26,11 +25,11 @@ fn answer(rt: &impl Print, map: &mut [u8; 416], time: u64, payload: &[u8]) -> io
         destination: 0,
         priority: 30,
         signature: types::signature(0, 1),
-        time: time,
+        time,
         transfer_id: 0,
         discriminator: 0,
     };
-    let Sent::Done(d) = sender::send(map, c, payload, &mut out) else {
+    let Ok(d) = sender::send(map, c, payload, &mut out) else {
         return Ok(());
     };
     let n = d.frames;
@@ -48,7 +47,7 @@ fn answer(rt: &impl Print, map: &mut [u8; 416], time: u64, payload: &[u8]) -> io
 
 pub fn run(rt: &impl Print) -> io::Result<()> {
     let mut map = [0u8; 416];
-    id_map::setup(&mut map);
+    id_map::setup(&mut map).unwrap();
     println!(rt; "003 allocator's answers")?;
     answer(rt, &mut map, 1_117_000, b"\x00\x44\xC0\x8B\x63\x5E\x05")?;
     answer(

@@ -14,7 +14,8 @@ use Rattle.rules.specs.Limits.{payload_max}
 use Rattle.rules.specs.Tests.{pick}
 use Rattle.patch.specs.Answer.{number_of, checksum_in}
 use Rattle.patch.specs.Patch.{patched, patches}
-use Rattle.patch.specs.declared.Patched.TheVariants.{Corrected, TooLong}
+use Rattle.patch.specs.declared.PatchError.TheVariants.{TooLong}
+use Rattle.std.specs.declared.result.Result.TheVariants.{Ok, Err}
 
 patched-lt : (c old new n : ℕ) → c < 65536 → patched c old new n < 65536
 unfolding patched
@@ -26,7 +27,7 @@ pub number-range : (c old new n : ℕ) → number_of (patches c old new n) ≤ 1
 unfolding patches
 number-range c old new n = go (leb payload_max n)
   where
-    go : (b : Bool) → number_of (pick b TooLong (Corrected (patched c old new n))) ≤ 11
+    go : (b : Bool) → number_of (pick b (Err TooLong) (Ok (patched c old new n))) ≤ 11
     go true = omega arith
     go false = omega arith
 
@@ -34,6 +35,6 @@ pub checksum-range : (c old new n : ℕ) → c < 65536 → checksum_in (patches 
 unfolding patches
 checksum-range c old new n h = go (leb payload_max n)
   where
-    go : (b : Bool) → checksum_in (pick b TooLong (Corrected (patched c old new n))) < 65536
+    go : (b : Bool) → checksum_in (pick b (Err TooLong) (Ok (patched c old new n))) < 65536
     go true = omega arith
     go false = patched-lt c old new n h

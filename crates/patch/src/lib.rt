@@ -3,37 +3,25 @@
 
 pub mod laws;
 
-ghost use Rattle.std.specs.Prelude.{◌≡◌, ◌∷◌, ◌≤◌, ◌<◌, replicate};
+ghost use Rattle.std.specs.Prelude.{◌≡◌, ◌∷◌, ◌≤◌, ◌<◌, replicate, Err};
 ghost use Rattle.checksum.specs.Crc.{shift, crc_over};
 ghost use Rattle.checksum.specs.Crc16.{ccitt};
-ghost use Rattle.patch.specs.Answer.{number_of, checksum_in};
+ghost use Rattle.patch.specs.Answer.{number_of};
 ghost use Rattle.patch.specs.Patch.{patches};
 ghost use Rattle.patch.specs.inside.Powers.{IsPowers, product_of};
 
 // `TooLong`: with so many bytes after it the byte is in no payload of at most 512.
-#[derive(Clone, Copy)]
-pub enum Patched {
-    Corrected(u16),
+#[derive(Clone, Copy, Debug, PartialEq, Eq)]
+pub enum PatchError {
     TooLong,
 }
 
-impl Patched {
+impl PatchError {
     pub fn number(self) -> u32
-        ensures { result ≡ number_of self }
+        ensures { result ≡ number_of (Err self) }
     {
         match self {
-            Patched::Corrected(_) => 0,
-            Patched::TooLong => 11,
-        }
-    }
-
-    // The corrected checksum; 0 under a refusal.
-    pub fn checksum(self) -> u16
-        ensures { result ≡ checksum_in self }
-    {
-        match self {
-            Patched::Corrected(c) => c,
-            Patched::TooLong => 0,
+            PatchError::TooLong => 11,
         }
     }
 }
@@ -84,13 +72,13 @@ fn spread(d: u8, n: usize) -> u16
 }
 
 // The checksum after the byte `old` of a payload, with `after` bytes behind it, became `new`.
-pub fn patch(checksum: u16, old: u8, new: u8, after: usize) -> Patched
+pub fn patch(checksum: u16, old: u8, new: u8, after: usize) -> Result<u16, PatchError>
     ensures { result ≡ patches checksum old new after }
 {
     if rules::limits::PAYLOAD <= after {
-        return Patched::TooLong;
+        return Err(PatchError::TooLong);
     }
-    Patched::Corrected(checksum ^ spread(old ^ new, after))
+    Ok(checksum ^ spread(old ^ new, after))
 }
 
 const NEAR: [u16; 32] = [

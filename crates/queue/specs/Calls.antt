@@ -1,7 +1,7 @@
 -- RULES 20.3 to 20.5: the calls on a queue in lent bytes.
-use Rattle.std.specs.Prelude.{not, List, [], ◌∷◌, ◌++◌, ℕ, ◌+◌, ◌%◌, eqb, ltb, length, drop}
-use Rattle.answers.specs.declared.Outcome.{Outcome}
-use Rattle.answers.specs.declared.Outcome.TheVariants as outcome
+use Rattle.std.specs.Prelude.{not, List, [], ◌∷◌, ◌++◌, ℕ, ◌+◌, ◌%◌, eqb, ltb, length, drop, Ok, Err}
+use Rattle.answers.specs.Setup.{Outcome}
+use Rattle.answers.specs.declared.SetupError.TheVariants.{Short}
 use Rattle.rules.specs.Limits.{frame_record}
 use Rattle.rules.specs.Tests.{pick}
 use Rattle.queue.specs.Layout.{records_at, capacity, queue_of, sound_queue, records_of, holding}
@@ -20,7 +20,7 @@ set_up a m = record { answer = a; queue = m }
 
 -- bytes that are too few stay as they were
 unfoldable pub after_setup : List ℕ → SetUp
-after_setup m = pick (ltb (length m) records_at) (set_up outcome.Short m) (set_up outcome.Done (holding m []))
+after_setup m = pick (ltb (length m) records_at) (set_up (Err Short) m) (set_up (Ok tt) (holding m []))
 
 -- ── put and take: the answer, and the queue after it ──
 

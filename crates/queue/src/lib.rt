@@ -13,7 +13,7 @@ ghost use Rattle.queue.specs.Calls.{set_up, after_setup, returned, after_put, af
 ghost use Rattle.queue.specs.Layout as specs;
 
 use answer::Answer;
-use answers::Outcome;
+use answers::SetupError;
 use layout::{COUNT_AT, RECORDS_AT};
 use rules::limits::FRAME_RECORD;
 
@@ -28,14 +28,14 @@ pub fn capacity(n: usize) -> usize
 }
 
 // Makes the lent bytes a queue with no record.
-pub fn setup(queue: &mut [u8]) -> Outcome
+pub fn setup(queue: &mut [u8]) -> Result<(), SetupError>
     ensures { set_up result queue.new ≡ after_setup queue.old }
 {
     if queue.len() < RECORDS_AT {
-        return Outcome::Short;
+        return Err(SetupError::Short);
     }
     bits::le::put_u64(queue, COUNT_AT, 0);
-    Outcome::Done
+    Ok(())
 }
 
 // Puts records into the queue, all of them or none.

@@ -40,13 +40,11 @@ pub fn first_fault(records: &[u8]) -> u32
     ensures { result ≡ first_fault (records_of records.now) }
 {
     let k = records.len() / FRAME_RECORD;
-    let mut i = 0;
-    while i < k {
+    for i in 0..k {
         let f = fault(records, i * FRAME_RECORD);
         if f != 0 {
             return f;
         }
-        i += 1;
     }
     0
 }
@@ -57,12 +55,10 @@ pub fn run_end(records: &[u8], i: usize, k: usize) -> usize
     ensures { Run (given records.now) i result k }
 {
     let own = id(records, i * FRAME_RECORD);
-    let mut e = i + 1;
-    while e < k {
+    for e in i + 1..k {
         if id(records, e * FRAME_RECORD) != own {
             return e;
         }
-        e += 1;
     }
-    e
+    k
 }

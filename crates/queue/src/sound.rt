@@ -14,8 +14,7 @@ fn records_sound(queue: &[u8], n: usize) -> bool
     ensures { result ≡ in_order (queued queue.now n) }
 {
     let mut last: u32 = 0xffffffff;
-    let mut i = 0;
-    while i < n {
+    for i in 0..n {
         let at = RECORDS_AT + i * FRAME_RECORD;
         if record::fault(queue, at) != 0 {
             return false;
@@ -25,7 +24,6 @@ fn records_sound(queue: &[u8], n: usize) -> bool
             return false;
         }
         last = id;
-        i += 1;
     }
     true
 }

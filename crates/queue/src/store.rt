@@ -24,14 +24,12 @@ fn place(queue: &[u8], n: usize, id: u32) -> usize
     requires { records_at + n * frame_record ≤ length queue.now }
     ensures { (result ≤ n) × (queued queue.now result ≡ behind id (queued queue.now n)) }
 {
-    let mut p = n;
-    while 0 < p {
-        if id < record::id(queue, RECORDS_AT + (p - 1) * FRAME_RECORD) {
-            return p;
+    for p in (0..n).rev() {
+        if id < record::id(queue, RECORDS_AT + p * FRAME_RECORD) {
+            return p + 1;
         }
-        p -= 1;
     }
-    p
+    0
 }
 
 // The records i to e to the places from p on, the last one first.
@@ -40,9 +38,7 @@ fn copy(queue: &mut [u8], p: usize, records: &[u8], i: usize, e: usize)
     ensures { queue.new ≡ splice queue.old (records_at + p * frame_record) (stored (tabulate (given records.now) i (e - i))) }
 {
     let mut at = RECORDS_AT + p * FRAME_RECORD;
-    let mut j = e;
-    while i < j {
-        j -= 1;
+    for j in (i..e).rev() {
         bits::part::copy_span(queue, at, records, j * FRAME_RECORD, FRAME_RECORD);
         at += FRAME_RECORD;
     }
@@ -71,6 +67,7 @@ pub fn all(queue: &mut [u8], n: usize, records: &[u8])
 {
     let k = records.len() / FRAME_RECORD;
     let mut i = 0;
+    // A while: i goes on to where the records of one ID end.
     while i < k {
         let e = record::run_end(records, i, k);
         run(queue, n + i, records, i, e);

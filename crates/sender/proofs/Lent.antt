@@ -27,7 +27,8 @@ use Rattle.rules.specs.Sent.{sent}
 use Rattle.rules.proofs.Draws.{drawn-small}
 use Rattle.sender.specs.Send.{call_of, Result, returned, lent, sends_if, sends}
 use Rattle.sender.specs.declared.Outgoing.{Outgoing}
-use Rattle.answers.specs.declared.Sent.TheVariants.{Done, OutputSmall, MapFull, TooLong, NotSendable, Faulty}
+use Rattle.std.specs.declared.result.Result.TheVariants.{Ok, Err}
+use Rattle.answers.specs.declared.SendError.TheVariants.{OutputSmall, MapFull, TooLong, NotSendable, Faulty}
 
 module _ (m : List ℕ) (fine : sound_map m ≡ true) (bytes : Octets m) where
   -- a map that the rules leave as it was
@@ -57,17 +58,17 @@ module _ (m : List ℕ) (fine : sound_map m ≡ true) (bytes : Octets m) where
     refusal o = λ i. returned (told o) (sym kept i) out
 
     module _ (room : ℕ) where
-      pub misfitting : not_sendable c ≡ true → returned NotSendable m out ≡ lent m out (send_step c (map_of m) room)
+      pub misfitting : not_sendable c ≡ true → returned (Err NotSendable) m out ≡ lent m out (send_step c (map_of m) room)
       unfolding send_step
       misfitting e = rw e (refusal unsendable)
 
       module _ (fits : not_sendable c ≡ false) where
-        pub too_long : 512 < length c.payload → returned TooLong m out ≡ lent m out (send_step c (map_of m) room)
+        pub too_long : 512 < length c.payload → returned (Err TooLong) m out ≡ lent m out (send_step c (map_of m) room)
         unfolding send_step
         too_long h = rw (fits, lt-ltb 512 (length c.payload) h) (refusal long)
 
         module _ (h : length c.payload ≤ 512) where
-          pub too_small : room < 13 * frame_count (length c.payload) → returned OutputSmall m out ≡ lent m out (send_step c (map_of m) room)
+          pub too_small : room < 13 * frame_count (length c.payload) → returned (Err OutputSmall) m out ≡ lent m out (send_step c (map_of m) room)
           unfolding send_step
           too_small k = rw (fits, le-ltb 512 (length c.payload) h, lt-ltb room (13 * frame_count (length c.payload)) k) (refusal small)
 
@@ -78,10 +79,10 @@ module _ (m : List ℕ) (fine : sound_map m ≡ true) (bytes : Octets m) where
 
             pub responded : c.transfer_type ≡ 2 → (n : ℕ) (out' : List ℕ) → n ≡ frame_count (length c.payload)
                 → out' ≡ splice out 0 (records_of (id_for c) (sent c.signature c.transfer c.payload))
-                → returned (Done (record { frames = n; transfer = c.transfer })) m out' ≡ lent m out (send_step c (map_of m) room)
+                → returned (Ok (record { frames = n; transfer = c.transfer })) m out' ≡ lent m out (send_step c (map_of m) room)
             unfolding send_as transmit
             responded e n out' en eo =
-                (λ i. returned (Done (record { frames = en i; transfer = c.transfer })) (sym kept i) (eo i)) ∙ ap (lent m out) (sym (step_is true (eq-eqb c.transfer_type 2 e)))
+                (λ i. returned (Ok (record { frames = en i; transfer = c.transfer })) (sym kept i) (eo i)) ∙ ap (lent m out) (sym (step_is true (eq-eqb c.transfer_type 2 e)))
 
             pub numbered : (c.transfer_type ≡ 2 → ⊥) → (r : Result) → r ≡ lent m out (send_in (slot_for (topic_of c) c.time (map_of m)) c (map_of m))
                 → r ≡ lent m out (send_step c (map_of m) room)
@@ -104,27 +105,27 @@ module _ (m : List ℕ) (fine : sound_map m ≡ true) (bytes : Octets m) where
     found none h = absurd (omega arith)
     found (some i) h = refl
 
-    pub no_place : (i : ℕ) → i ≡ place_or32 place → 31 < i → returned MapFull m out ≡ lent m out (send_in place c (map_of m))
+    pub no_place : (i : ℕ) → i ≡ place_or32 place → 31 < i → returned (Err MapFull) m out ≡ lent m out (send_in place c (map_of m))
     unfolding send_in
     no_place i e h = refusal full ∙ ap (λ o. lent m out (send_in o c (map_of m))) (sym (none_left place in_map (omega arith)))
 
     pub stored : (i t n : ℕ) (m' out' : List ℕ) → i ≡ place_or32 place → i ≤ 31 → t ≡ drawn (topic_of c) (slot_at m i)
         → m' ≡ with_slot m i (used (topic_of c) ((t + 1) % 32) c.time) → n ≡ frame_count (length c.payload)
         → out' ≡ splice out 0 (records_of (id_for c) (sent c.signature t c.payload))
-        → returned (Done (record { frames = n; transfer = t })) m' out' ≡ lent m out (send_in place c (map_of m))
+        → returned (Ok (record { frames = n; transfer = t })) m' out' ≡ lent m out (send_in place c (map_of m))
     unfolding send_in send_at transmit
     stored i t n m' out' e h et em en eo =
         let p : place ≡ some i = found place (omega arith) ∙ ap some (sym e) in
         let s : drawn (topic_of c) (get_or (map_of m) i free) ≡ t = ap (drawn (topic_of c)) (slot_is i (omega arith)) ∙ sym et in
         let after = used (topic_of c) ((t + 1) % 32) c.time in
         let w : written m 0 (set (map_of m) i after) ≡ with_slot m i after = stored_is i (topic_of c) ((t + 1) % 32) c.time (omega arith) (omega arith) in
-        (λ j. returned (Done (record { frames = en j; transfer = t })) ((em ∙ sym w) j) (eo j))
+        (λ j. returned (Ok (record { frames = en j; transfer = t })) ((em ∙ sym w) j) (eo j))
         ∙ ap (λ x. lent m out (send_at c i x (map_of m))) (sym s)
         ∙ ap (λ x. lent m out (send_in x c (map_of m))) (sym p)
 
 -- ── a map at fault: 20 ──
 
-pub faulty : (m : List ℕ) (c : Call) (out : List ℕ) → sound_map m ≡ false → returned Faulty m out ≡ sends m c out
+pub faulty : (m : List ℕ) (c : Call) (out : List ℕ) → sound_map m ≡ false → returned (Err Faulty) m out ≡ sends m c out
 unfolding sends sends_if
 faulty m c out e = rw e
 

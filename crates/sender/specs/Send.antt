@@ -1,8 +1,7 @@
 -- RULES 7.1 to 7.6: a send on a lent map. Its answer, the map after and the output buffer are those of the rules' step on the view.
-use Rattle.std.specs.Prelude.{Bool, true, false, List, ℕ, length}
-use Rattle.answers.specs.Sending.{told}
-use Rattle.answers.specs.declared.Sent.{Sent}
-use Rattle.answers.specs.declared.Sent.TheVariants.{Faulty}
+use Rattle.std.specs.Prelude.{Bool, true, false, List, ℕ, length, Err}
+use Rattle.answers.specs.Sending.{Sent, told}
+use Rattle.answers.specs.declared.SendError.TheVariants.{Faulty}
 use Rattle.bits.specs.Part.{splice}
 use Rattle.id_map.specs.Layout.{map_of, written}
 use Rattle.id_map.specs.Sound.{sound_map}
@@ -38,7 +37,7 @@ lent m out s = returned (told s.answer) (written m 0 s.map) (splice out 0 s.reco
 
 -- RULES 7.3: a map at fault answers 20, first of all
 unfoldable pub sends_if : Bool → List ℕ → Call → List ℕ → Result
-sends_if false m c out = returned Faulty m out
+sends_if false m c out = returned (Err Faulty) m out
 sends_if true m c out = lent m out (send_step c (map_of m) (length out))
 
 unfoldable pub sends : List ℕ → Call → List ℕ → Result

@@ -77,6 +77,7 @@ fn others(out: &mut [u8], id: u32, transfer: u8, payload: &[u8])
     let mut k: usize = 5;
     let mut at: usize = FRAME_RECORD;
     let mut toggle = true;
+    // A while: k goes up by seven, and each writer is handed the unsent remainder of the payload.
     while k < payload.len() {
         next(out, at, id, &payload[k..], (toggle as u8) * 32 + transfer);
         k += FRAME_PAYLOAD;

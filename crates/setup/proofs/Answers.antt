@@ -6,10 +6,11 @@ use Prim.Native.Nat.{ℕ, ◌/◌, ◌%◌, ◌≤◌, ◌<◌}
 use borrow.Author.Tests.{lt-ltb, le-ltb}
 use lib.Dec.{ltb, leb, eqb}
 use lib.ListN.{length, drop}
+use Rattle.std.specs.declared.result.Result.TheVariants.{Ok, Err}
 use Rattle.rules.specs.Limits.{subscriptions_max, subscription_record}
 use Rattle.rules.specs.Setup.{all_fit, acceptable}
 use Rattle.setup.specs.Setup.{record_at, given, accepted, state_of, returned, after_setup}
-use Rattle.answers.specs.declared.Outcome.TheVariants.{Done, Unacceptable, Short}
+use Rattle.answers.specs.declared.SetupError.TheVariants.{Unacceptable, Short}
 use Rattle.bits.proofs.Tabulate.{length-tabulate}
 use Rattle.bits.specs.Tabulate.{tabulate}
 use Rattle.state.specs.Layout.{size}
@@ -20,15 +21,15 @@ unfolding accepted acceptable given
 tests own r a b c d ea eb ec ed = rw (length-tabulate (record_at r) 0 (length r / subscription_record), ea, eb, ec, ed)
 
 module _ (m : List ℕ) (own : ℕ) (r : List ℕ) where
-  pub short : length m < size → returned Short m ≡ after_setup m own r
+  pub short : length m < size → returned (Err Short) m ≡ after_setup m own r
   unfolding after_setup
   short h = rw (lt-ltb (length m) size h)
 
   module _ (long : size ≤ length m) where
-    pub refused : accepted own r ≡ false → returned Unacceptable m ≡ after_setup m own r
+    pub refused : accepted own r ≡ false → returned (Err Unacceptable) m ≡ after_setup m own r
     unfolding after_setup
     refused e = rw (le-ltb (length m) size long, e)
 
-    pub done : accepted own r ≡ true → (m' : List ℕ) → m' ≡ state_of (given own r) ++ drop size m → returned Done m' ≡ after_setup m own r
+    pub done : accepted own r ≡ true → (m' : List ℕ) → m' ≡ state_of (given own r) ++ drop size m → returned (Ok tt) m' ≡ after_setup m own r
     unfolding after_setup
     done e m' em = rw (le-ltb (length m) size long, e, em)

@@ -1,13 +1,13 @@
 -- RULES 3.3 to 3.5: setting a receiver up in lent bytes. The subscriptions come as records of 13 bytes: kind (1), type ID (4, low first),
 -- signature (8, low first).
-use Rattle.std.specs.Prelude.{Bool, ◌&&◌, List, [], ◌∷◌, ◌++◌, ℕ, ◌+◌, ◌*◌, ◌-◌, ◌/◌, ◌%◌, ltb, eqb, length, get_or, drop, replicate}
+use Rattle.std.specs.Prelude.{Bool, ◌&&◌, List, [], ◌∷◌, ◌++◌, ℕ, ◌+◌, ◌*◌, ◌-◌, ◌/◌, ◌%◌, ltb, eqb, length, get_or, drop, replicate, Ok, Err}
 use Rattle.bits.specs.Little.{le, le_bytes}
 use Rattle.bits.specs.Part.{span}
 use Rattle.rules.specs.Limits.{sessions_max, subscriptions_max, subscription_record}
 use Rattle.rules.specs.Setup.{Subscription, Setup, acceptable}
 use Rattle.rules.specs.Tests.{pick}
-use Rattle.answers.specs.declared.Outcome.{Outcome}
-use Rattle.answers.specs.declared.Outcome.TheVariants.{Done, Unacceptable, Short}
+use Rattle.answers.specs.Setup.{Outcome}
+use Rattle.answers.specs.declared.SetupError.TheVariants.{Unacceptable, Short}
 use Rattle.bits.specs.Tabulate.{tabulate}
 use Rattle.state.specs.Layout.{signatures_at, stream_keys_at, size}
 
@@ -57,5 +57,5 @@ returned a m = record { answer = a; state = m }
 -- RULES 3.5: 20 comes first; a refused setup leaves the state as it was; bytes past the layout stay
 unfoldable pub after_setup : List ℕ → ℕ → List ℕ → Result
 after_setup m own r =
-    pick (ltb (length m) size) (returned Short m)
-    (pick (accepted own r) (returned Done (state_of (given own r) ++ drop size m)) (returned Unacceptable m))
+    pick (ltb (length m) size) (returned (Err Short) m)
+    (pick (accepted own r) (returned (Ok tt) (state_of (given own r) ++ drop size m)) (returned (Err Unacceptable) m))

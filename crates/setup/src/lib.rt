@@ -11,7 +11,7 @@ ghost use Rattle.setup.specs.Setup.{record_at, given, state_of, after_setup, ret
 ghost use Rattle.setup.specs.inside.Record.{Keyed, written};
 ghost use Rattle.state.specs.Layout.{size};
 
-use answers::Outcome;
+use answers::SetupError;
 use blocks::set::ALL;
 use rules::limits::{SUBSCRIPTION_RECORD, SUBSCRIPTIONS};
 use state::layout::{FREE_AT, OWN_AT, SIZE, SUBSCRIPTION_COUNT_AT};
@@ -52,12 +52,10 @@ fn key_is_new(records: &[u8], j: usize, n: usize) -> bool
     ensures { result ≡ unlike (record_at records.now j) (tabulate (record_at records.now) (j + 1) (n - (j + 1))) }
 {
     let k = key(records, j);
-    let mut i = j + 1;
-    while i < n {
+    for i in j + 1..n {
         if key(records, i) == k {
             return false;
         }
-        i += 1;
     }
     true
 }
@@ -67,15 +65,11 @@ fn all_fit(records: &[u8], n: usize) -> bool
     requires { n * subscription_record ≤ length records.now }
     ensures { result ≡ all_fit (tabulate (record_at records.now) 0 n) }
 {
-    let mut j = 0;
-    while j < n {
-        if type_fits(key(records, j)) {
-            if key_is_new(records, j, n) {
-                j += 1;
-            } else {
-                return false;
-            }
-        } else {
+    for j in 0..n {
+        if !type_fits(key(records, j)) {
+            return false;
+        }
+        if !key_is_new(records, j, n) {
             return false;
         }
     }
@@ -87,10 +81,8 @@ fn clear(state: &mut [u8], n: usize)
     requires { n ≤ length state.old }
     ensures { state.new ≡ replicate n 0 ++ drop n state.old }
 {
-    let mut i = 0;
-    while i < n {
+    for i in 0..n {
         state[i] = 0;
-        i += 1;
     }
 }
 
@@ -113,35 +105,33 @@ fn write(state: &mut [u8], own: u32, records: &[u8], n: usize)
     bits::le::put_at(state, FREE_AT, 8, ALL);
     state[OWN_AT] = own as u8;
     state[SUBSCRIPTION_COUNT_AT] = n as u8;
-    let mut j = 0;
-    while j < n {
+    for j in 0..n {
         put(state, records, j);
-        j += 1;
     }
 }
 
 // Sets a receiver up with its own node ID (0: none yet) and subscriptions: records of 13 bytes, the kind (0 message, 1 service), the
 // type ID (4, low byte first) and the signature (8, low byte first).
-pub fn setup(state: &mut [u8], own: u32, subscriptions: &[u8]) -> Outcome
+pub fn setup(state: &mut [u8], own: u32, subscriptions: &[u8]) -> Result<(), SetupError>
     ensures { returned result state.new ≡ after_setup state.old own subscriptions.now }
 {
     let len = subscriptions.len();
     let n = len / SUBSCRIPTION_RECORD;
     if state.len() < SIZE {
-        return Outcome::Short;
+        return Err(SetupError::Short);
     }
     if 0 < len % SUBSCRIPTION_RECORD {
-        return Outcome::Unacceptable;
+        return Err(SetupError::Unacceptable);
     }
     if 127 < own {
-        return Outcome::Unacceptable;
+        return Err(SetupError::Unacceptable);
     }
     if SUBSCRIPTIONS < n {
-        return Outcome::Unacceptable;
+        return Err(SetupError::Unacceptable);
     }
     if all_fit(subscriptions, n) {
         write(state, own, subscriptions, n);
-        return Outcome::Done;
+        return Ok(());
     }
-    Outcome::Unacceptable
+    Err(SetupError::Unacceptable)
 }

@@ -47,7 +47,7 @@ pub fn tecelume_receiver_size() -> u64
 pub fn tecelume_setup(state: &mut [u8], own: u32, subscriptions: &[u8]) -> u32
     ensures { record { number = result; state = state.new } ≡ numbered (after_setup state.old own subscriptions.now) }
 {
-    transport::setup(state, own, subscriptions).number()
+    answers::setup_number(transport::setup(state, own, subscriptions))
 }
 
 // One frame on a lent state: the result word.
@@ -87,7 +87,7 @@ pub fn tecelume_map_size() -> u64
 pub fn tecelume_map_setup(map: &mut [u8]) -> u32
     ensures { record { number = result; state = map.new } ≡ numbered_map (setting.after_setup map.old) }
 {
-    transport::map_setup(map).number()
+    answers::setup_number(transport::map_setup(map))
 }
 
 // A payload as records of frames, on a lent map: the number and, from bit 8 on, how many frames.
@@ -152,7 +152,7 @@ pub fn tecelume_allocator_size() -> u64
 pub fn tecelume_allocator_setup(state: &mut [u8]) -> u32
     ensures { record { number = result; state = state.new } ≡ numbered_allocator (allocator.after_setup state.old) }
 {
-    allocator::setup(state).number()
+    answers::setup_number(allocator::setup(state))
 }
 
 // One Allocation message on a lent state: the number and, from bit 8 on, the length of the reply's payload.

@@ -5,17 +5,14 @@ use Rattle.rules.specs.Frame.{Arrival}
 use Rattle.receiver.specs.Receive.{received}
 use Rattle.answers.specs.Reception.{number_of, transfer_in}
 use Rattle.answers.specs.declared.Answer.{Answer}
-use Rattle.answers.specs.declared.Sent.{Sent}
 use Rattle.answers.specs.Sending as sending
 use Rattle.answers.specs.Word.{word_of, Fits}
 use Rattle.allocator.specs.Answer as allocator
 use Rattle.allocator.specs.Calls.{Call, result_of}
 use Rattle.allocator.specs.declared.answer.Answer as allocator-answer
 use Rattle.batch.specs.Answer as many
-use Rattle.batch.specs.declared.Progress.{Progress}
 use Rattle.patch.specs.Answer as patch
 use Rattle.patch.specs.Patch.{patches}
-use Rattle.patch.specs.declared.Patched.{Patched}
 use Rattle.dsdl_signature.specs.Call as signing
 use Rattle.dsdl_signature.specs.declared.answer.Answer as signing-answer
 use Rattle.capture_convert.specs.Answer as conversion
@@ -51,22 +48,22 @@ pub record WordLaws : Type 0 where
 
 -- ── the result word of several receptions (RULES 5.8): the number in bits 0 to 7, the records used up from bit 8 on ──
 
-abbrev pub many_word : Progress → ℕ
+abbrev pub many_word : many.Progress → ℕ
 many_word a = many.number_of a + many.used_in a * 2 ^ 8
 
 -- C reads both
 pub record ManyWordLaws : Type 0 where
-  pub number : (a : Progress) → number_in (many_word a) ≡ many.number_of a
-  pub used : (a : Progress) → many_word a / 2 ^ 8 ≡ many.used_in a
+  pub number : (a : many.Progress) → number_in (many_word a) ≡ many.number_of a
+  pub used : (a : many.Progress) → many_word a / 2 ^ 8 ≡ many.used_in a
 
 -- ── the result word of a send: the number in bits 0 to 7, the frames in 8 to 14, their transfer ID in 55 to 59 as that of a reception ──
 
-abbrev pub sent_word : Sent → ℕ
+abbrev pub sent_word : sending.Sent → ℕ
 sent_word a = sending.number_of a + ((sending.dispatch_in a).frames * 2 ^ 8 + (sending.dispatch_in a).transfer * 2 ^ 55)
 
 -- ── the result word of a correction: the number in bits 0 to 7, the checksum in 8 to 23 ──
 
-abbrev pub patch_word : Patched → ℕ
+abbrev pub patch_word : patch.Patched → ℕ
 patch_word a = patch.number_of a + patch.checksum_in a * 2 ^ 8
 
 -- C reads both

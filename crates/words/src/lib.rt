@@ -13,34 +13,42 @@ ghost use Rattle.judge_capture.specs.Answer.{frame_of};
 ghost use Rattle.words.specs.Word.{many_word, sent_word, patch_word, allocation_word, signatures_word, conversion_word, verdict_word};
 
 use allocator::answer;
-use answers::Sent;
-use batch::Progress;
+use answers::{Dispatch, SendError};
+use batch::BatchError;
 use capture_convert::answer::Converted;
 use judge_capture::verdict::Verdict;
-use patch::Patched;
+use patch::PatchError;
 
 // Internal. The result word of several receptions.
-pub fn of_progress(a: Progress) -> u64
+pub fn of_progress(a: Result<usize, BatchError>) -> u64
     requires { used_in a ≤ records_max }
     ensures { result ≡ many_word a }
 {
-    a.number() as u64 + a.used() as u64 * 0x100
+    match a {
+        Ok(n) => n as u64 * 0x100,
+        Err(e) => e.number() as u64,
+    }
 }
 
 // Internal. The result word of a send.
-pub fn of_sent(a: Sent) -> u64
+pub fn of_sent(a: Result<Dispatch, SendError>) -> u64
     requires { ((dispatch_in a).frames ≤ 74) × ((dispatch_in a).transfer < 32) }
     ensures { result ≡ sent_word a }
 {
-    let d = a.dispatch();
-    a.number() + (d.frames as u64 * 0x100 + d.transfer as u64 * 0x80000000000000)
+    match a {
+        Ok(d) => d.frames as u64 * 0x100 + d.transfer as u64 * 0x80000000000000,
+        Err(e) => e.number(),
+    }
 }
 
 // Internal. The result word of a correction.
-pub fn of_patched(a: Patched) -> u64
+pub fn of_patched(a: Result<u16, PatchError>) -> u64
     ensures { result ≡ patch_word a }
 {
-    a.number() as u64 + a.checksum() as u64 * 0x100
+    match a {
+        Ok(c) => c as u64 * 0x100,
+        Err(e) => e.number() as u64,
+    }
 }
 
 // Internal. The result word of an allocator.

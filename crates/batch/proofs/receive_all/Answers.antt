@@ -24,9 +24,6 @@ slice_bounds-receive_one-end c = omega arith
 pub overflow_mul-i : goal.overflow_mul-i
 overflow_mul-i c = omega arith
 
-pub overflow_add-i : goal.overflow_add-i
-overflow_add-i c = omega arith
-
 pub overflow_add-past : goal.overflow_add-past
 overflow_add-past c = omega arith
 
@@ -40,9 +37,6 @@ returns-then-is_full c =
     (part-lent c.loop-i.out c.loop-i.past g.inside) c.receive_one-word.ensures c.put_u64.ensures
     (part-back c.loop-i.out c.receive_one-word.new.out c.loop-i.past g.inside) (omega (arith, c.requires.1.1)) c.receive_one-word.auto.out
     (sym c.is_full.ensures ∙ c.if-is_full.true)
-
-pub loop-i-smaller : goal.loop-i-smaller
-loop-i-smaller c = omega arith
 
 pub loop-i-preserved : goal.loop-i-preserved
 loop-i-preserved c =

@@ -1,5 +1,5 @@
 -- `start` meets its contract.
-use mathlib.Core.Path.{◌≡◌, refl, sym, ap, ◌∙◌}
+use mathlib.Core.Path.{◌≡◌, refl, sym, ap, subst, ◌∙◌}
 use mathlib.Core.Bool.{true}
 use mathlib.Core.List.{List, [], ◌∷◌, ◌++◌, append-nil}
 use Prim.Native.Nat.{ℕ}
@@ -7,6 +7,8 @@ use native.Mathlib.Omega.{arith}
 use borrow.Author.Tests.{le-ltb}
 use lib.ListN.{length, take, drop}
 use lib.Seq.{drop-length}
+use Rattle.std.specs.Result.{IsOk}
+use Rattle.std.specs.declared.result.Result.TheVariants.{Ok}
 use Rattle.bits.specs.Little.{le, le_bytes}
 use Rattle.bits.specs.Order.{Octets}
 use Rattle.bits.specs.Tabulate.{tabulate}
@@ -15,8 +17,7 @@ use Rattle.bits.proofs.Splice.{take-splice}
 use Rattle.rules.specs.Setup.{acceptable, subscribed}
 use Rattle.setup.specs.Setup as setup
 use Rattle.setup.specs.Setup.{record_at, given, accepted, state_of, after_setup}
-use Rattle.answers.specs.declared.Outcome.{Outcome}
-use Rattle.answers.specs.declared.Outcome.TheVariants.{Done}
+use Rattle.answers.specs.Setup.{Outcome}
 use Rattle.setup.proofs.Fresh.{fresh}
 use Rattle.state.specs.Layout.{size}
 use Rattle.state.specs.Sound.{sound_state}
@@ -42,9 +43,12 @@ unfolding accepted given record_at tabulate acceptable records record13 signatur
 fine = refl
 
 module _ (m m' r : List ℕ) (o : Outcome) (h : length m ≡ size) (t : r ≡ subscriptions) (e : setup.returned o m' ≡ after_setup m 1 r) where
-  after : after_setup m 1 subscriptions ≡ setup.returned Done (state_of (given 1 subscriptions) ++ drop size m)
+  after : after_setup m 1 subscriptions ≡ setup.returned (Ok tt) (state_of (given 1 subscriptions) ++ drop size m)
   unfolding after_setup
   after = rw (le-ltb (length m) size (omega arith), fine)
+
+  is-done : o ≡ Ok tt
+  is-done = ap (λ (x : setup.Result). x.answer) (e ∙ ap (after_setup m 1) t ∙ after)
 
   is_state : m' ≡ state_of (given 1 subscriptions) ++ []
   is_state =
@@ -56,6 +60,11 @@ module _ (m m' r : List ℕ) (o : Outcome) (h : length m ≡ size) (t : r ≡ su
 
   is-sound : sound_state m' ≡ true
   is-sound = ap sound_state is_state ∙ (fresh 1 subscriptions [] fine (octets types)).sound
+
+pub unwrap-requires : goal.unwrap-requires
+unwrap-requires c =
+    let a = c.args in
+    subst IsOk (sym (is-done a.state.now c.setup.new.state _ c.setup.result c.requires.0 c.subscriptions-types.ensures c.setup.ensures)) refl
 
 pub returns : goal.returns
 returns c =

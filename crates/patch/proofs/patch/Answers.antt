@@ -11,14 +11,15 @@ use Rattle.checksum.specs.Crc.{crc_over}
 use Rattle.checksum.specs.Crc16.{ccitt}
 use Rattle.rules.specs.Limits.{payload_max}
 use Rattle.patch.specs.Patch.{patched, patches}
-use Rattle.patch.specs.declared.Patched.TheVariants.{Corrected, TooLong}
+use Rattle.patch.specs.declared.PatchError.TheVariants.{TooLong}
+use Rattle.std.specs.declared.result.Result.TheVariants.{Ok, Err}
 use Rattle.patch.proofs.patch.Goals as goal
 
-refused : (c old new n : ℕ) → payload_max ≤ n → TooLong ≡ patches c old new n
+refused : (c old new n : ℕ) → payload_max ≤ n → Err TooLong ≡ patches c old new n
 unfolding patches
 refused c old new n h = rw (le-leb payload_max n h)
 
-corrected : (c old new n z : ℕ) → n < payload_max → z ≡ crc_over ccitt 0 (bit_xor old new ∷ replicate n 0) → Corrected (bit_xor c z) ≡ patches c old new n
+corrected : (c old new n z : ℕ) → n < payload_max → z ≡ crc_over ccitt 0 (bit_xor old new ∷ replicate n 0) → Ok (bit_xor c z) ≡ patches c old new n
 unfolding patches patched
 corrected c old new n z h e = rw (lt-leb payload_max n h, e)
 

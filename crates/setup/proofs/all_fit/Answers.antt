@@ -28,28 +28,22 @@ key-requires c = omega arith
 pub key_is_new-requires : goal.key_is_new-requires
 key_is_new-requires c = omega arith
 
-pub overflow_add-j : goal.overflow_add-j
-overflow_add-j c = omega arith
-
-pub loop-j-smaller : goal.loop-j-smaller
-loop-j-smaller c = omega arith
-
 pub loop-j-preserved : goal.loop-j-preserved
 loop-j-preserved c =
     let a = c.args in
     let f = record_at a.records.now in
-    sym (fit-turn f c.loop-j.j a.n (omega arith) true true (fits (goal.at.loop-j-preserved c).After-type_fits ∙ c.if-type_fits.true) (sym c.key_is_new.ensures ∙ c.if-key_is_new.true)) ∙ c.loop-j.invariant
+    sym (fit-turn f c.loop-j.j a.n (omega arith) true true (fits (goal.at.loop-j-preserved c).After-type_fits ∙ c.if-not-type_fits.false) (sym c.key_is_new.ensures ∙ c.if-not-key_is_new.false)) ∙ c.loop-j.invariant
 
-pub returns-else-key_is_new : goal.returns-else-key_is_new
-returns-else-key_is_new c =
+pub returns-then-not-key_is_new : goal.returns-then-not-key_is_new
+returns-then-not-key_is_new c =
     let a = c.args in
     let f = record_at a.records.now in
-    sym (fit-turn f c.loop-j.j a.n (omega arith) true false (fits (goal.at.returns-else-key_is_new c).After-type_fits ∙ c.if-type_fits.true) (sym c.key_is_new.ensures ∙ c.if-key_is_new.false)) ∙ c.loop-j.invariant
+    sym (fit-turn f c.loop-j.j a.n (omega arith) true false (fits (goal.at.returns-then-not-key_is_new c).After-type_fits ∙ c.if-not-type_fits.false) (sym c.key_is_new.ensures ∙ c.if-not-key_is_new.true)) ∙ c.loop-j.invariant
 
-pub returns-else-type_fits : goal.returns-else-type_fits
-returns-else-type_fits c =
+pub returns-then-not-type_fits : goal.returns-then-not-type_fits
+returns-then-not-type_fits c =
     let a = c.args in
-    sym (fit-turn (record_at a.records.now) c.loop-j.j a.n (omega arith) false _ (fits (goal.at.returns-else-type_fits c).After-type_fits ∙ c.if-type_fits.false) refl) ∙ c.loop-j.invariant
+    sym (fit-turn (record_at a.records.now) c.loop-j.j a.n (omega arith) false _ (fits (goal.at.returns-then-not-type_fits c).After-type_fits ∙ c.if-not-type_fits.true) refl) ∙ c.loop-j.invariant
 
 pub returns : goal.returns
 returns c =

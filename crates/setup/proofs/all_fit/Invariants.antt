@@ -7,6 +7,3 @@ use Rattle.setup.proofs.all_fit.Given as goal
 
 abbrev pub invariant-loop-j : goal.invariant-loop-j
 invariant-loop-j l = all_fit (tabulate (record_at l.records) l.j (l.n - l.j)) ≡ all_fit (tabulate (record_at l.records) 0 l.n)
-
-abbrev pub decreases-loop-j : goal.decreases-loop-j
-decreases-loop-j l = l.n - l.j

@@ -20,12 +20,6 @@ loop-i-init c = (omega arith, (refl, refl))
 pub bounds-state-i : goal.bounds-state-i
 bounds-state-i c = omega arith
 
-pub overflow_add-i : goal.overflow_add-i
-overflow_add-i c = omega arith
-
-pub loop-i-smaller : goal.loop-i-smaller
-loop-i-smaller c = omega arith
-
 pub loop-i-preserved : goal.loop-i-preserved
 loop-i-preserved c =
     (omega arith, (simp length-set c.loop-i.invariant.1.0, rw add-one (turn c.loop-i.state c.args.state.now c.loop-i.i (omega arith) c.loop-i.invariant.1.1)))

@@ -11,9 +11,6 @@ use Rattle.setup.proofs.key_is_new.Goals as goal
 pub key-k-requires : goal.key-k-requires
 key-k-requires c = omega arith
 
-pub overflow_add-i : goal.overflow_add-i
-overflow_add-i c = omega arith
-
 pub loop-i-init : goal.loop-i-init
 loop-i-init c = refl
 
@@ -26,12 +23,6 @@ returns-then-key-k c =
     let r = a.records.now in
     sym (unlike-turn (record_at r) c.loop-i.i a.n (omega arith) (record_at r a.j) c.key-k.result c.key.result c.key-k.ensures c.key.ensures true
     (eq-eqb c.key.result c.key-k.result c.if-key-k.true)) ∙ c.loop-i.invariant
-
-pub overflow_add-i-in-loop-i : goal.overflow_add-i-in-loop-i
-overflow_add-i-in-loop-i c = omega arith
-
-pub loop-i-smaller : goal.loop-i-smaller
-loop-i-smaller c = omega arith
 
 pub loop-i-preserved : goal.loop-i-preserved
 loop-i-preserved c =

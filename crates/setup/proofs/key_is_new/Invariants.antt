@@ -7,6 +7,3 @@ use Rattle.setup.proofs.key_is_new.Given as goal
 
 abbrev pub invariant-loop-i : goal.invariant-loop-i
 invariant-loop-i l = unlike (record_at l.records l.j) (tabulate (record_at l.records) l.i (l.n - l.i)) ≡ unlike (record_at l.records l.j) (tabulate (record_at l.records) (l.j + 1) (l.n - (l.j + 1)))
-
-abbrev pub decreases-loop-i : goal.decreases-loop-i
-decreases-loop-i l = l.n - l.i

@@ -63,12 +63,6 @@ put-requires c =
     let a = c.args in
     omega (arith, as_long c.put_at.new.s a.own a.n, c.put_at.auto.s, c.clear.auto.state, c.loop-j.invariant.0.1)
 
-pub overflow_add-j : goal.overflow_add-j
-overflow_add-j c = omega arith
-
-pub loop-j-smaller : goal.loop-j-smaller
-loop-j-smaller c = omega arith
-
 pub loop-j-preserved : goal.loop-j-preserved
 loop-j-preserved c =
     let a = c.args in

@@ -1,5 +1,5 @@
 use mathlib.Core.Path.{◌≡◌}
-use Prim.Native.Nat.{◌-◌, ◌≤◌}
+use Prim.Native.Nat.{◌≤◌}
 use lib.ListN.{length, drop}
 use Rattle.setup.specs.Setup.{record_at}
 use Rattle.setup.proofs.Laid.{laid_out}
@@ -9,6 +9,3 @@ use Rattle.setup.proofs.write.Given as goal
 
 abbrev pub invariant-loop-j : goal.invariant-loop-j
 invariant-loop-j l = ((l.j ≤ l.n) × (length l.state ≡ length l.initial.state)) × (l.state ≡ laid_out l.own l.n (tabulate (record_at l.records) 0 l.j) (drop size l.initial.state))
-
-abbrev pub decreases-loop-j : goal.decreases-loop-j
-decreases-loop-j l = l.n - l.j

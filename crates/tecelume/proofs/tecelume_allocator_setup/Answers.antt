@@ -6,4 +6,4 @@ use Rattle.tecelume.proofs.tecelume_allocator_setup.Goals as goal
 
 pub returns : goal.returns
 returns c =
-    ap (λ (n : ℕ). record { number = n; state = c.setup.new.state }) c.number.ensures ∙ ap numbered_allocator c.setup.ensures
+    ap (λ (n : ℕ). record { number = n; state = c.setup.new.state }) c.setup_number.ensures ∙ ap numbered_allocator c.setup.ensures

@@ -6,4 +6,4 @@ use Rattle.tecelume.proofs.tecelume_map_setup.Goals as goal
 
 pub returns : goal.returns
 returns c =
-    ap (λ (n : ℕ). record { number = n; state = c.setup.new.map }) c.number.ensures ∙ ap numbered_map c.setup.ensures
+    ap (λ (n : ℕ). record { number = n; state = c.setup.new.map }) c.setup_number.ensures ∙ ap numbered_map c.setup.ensures

@@ -1,5 +1,5 @@
 -- `find::lowest_unused` meets its contract: no place passed is unused for long.
-use mathlib.Core.Path.{refl, sym, ◌∙◌}
+use mathlib.Core.Path.{◌≡◌, refl, sym, ◌∙◌}
 use native.Mathlib.Numerals.{add-one}
 use native.Mathlib.Omega.{arith}
 use Rattle.keys.proofs.Lowest.{hit, miss, none}
@@ -18,12 +18,6 @@ returns-then-is_unused c =
     let a = c.args in
     sym (hit (unused a.map.now a.t) c.loop-i.i entries_max (omega arith) (sym c.is_unused.ensures ∙ c.if-is_unused.true)) ∙ c.loop-i.invariant.1
 
-pub overflow_add-i : goal.overflow_add-i
-overflow_add-i c = omega arith
-
-pub loop-i-smaller : goal.loop-i-smaller
-loop-i-smaller c = omega arith
-
 pub loop-i-preserved : goal.loop-i-preserved
 loop-i-preserved c =
     let a = c.args in (
@@ -34,4 +28,5 @@ loop-i-preserved c =
 pub returns : goal.returns
 returns c =
     let a = c.args in
-    sym (none (unused a.map.now a.t) c.loop-i.i entries_max (omega arith)) ∙ c.loop-i.invariant.1
+    let e : c.loop-i.i ≡ entries_max = omega arith in
+    sym e ∙ sym (none (unused a.map.now a.t) c.loop-i.i entries_max (omega arith)) ∙ c.loop-i.invariant.1

@@ -13,6 +13,3 @@ unused m t i = is_unused t (slot_at m i)
 
 abbrev pub invariant-loop-i : goal.invariant-loop-i
 invariant-loop-i l = (l.i ≤ entries_max) × (lowest (unused l.map l.t) l.i (entries_max - l.i) ≡ lowest (unused l.map l.t) 0 entries_max)
-
-abbrev pub decreases-loop-i : goal.decreases-loop-i
-decreases-loop-i l = entries_max - l.i

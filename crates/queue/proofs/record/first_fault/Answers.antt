@@ -28,12 +28,6 @@ returns-then-f-ne0 c =
     let f = c.fault-f in
     f.ensures ∙ hit (given p) c.loop-i.i (length p / frame_record) (omega arith) (λ e. c.if-f-ne0.true (f.ensures ∙ e)) ∙ c.loop-i.invariant.1
 
-pub overflow_add-i : goal.overflow_add-i
-overflow_add-i c = omega arith
-
-pub loop-i-smaller : goal.loop-i-smaller
-loop-i-smaller c = omega arith
-
 pub loop-i-preserved : goal.loop-i-preserved
 loop-i-preserved c =
     let p = c.args.records.now in

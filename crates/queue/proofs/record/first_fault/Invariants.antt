@@ -7,6 +7,3 @@ use Rattle.queue.proofs.record.first_fault.Given as goal
 
 abbrev pub invariant-loop-i : goal.invariant-loop-i
 invariant-loop-i l = (l.i ≤ l.k) × (first_fault (tabulate (given l.records) l.i (l.k - l.i)) ≡ first_fault (tabulate (given l.records) 0 l.k))
-
-abbrev pub decreases-loop-i : goal.decreases-loop-i
-decreases-loop-i l = l.k - l.i

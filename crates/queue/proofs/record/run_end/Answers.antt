@@ -1,5 +1,5 @@
 -- `record::run_end` meets its contract: every record passed has the ID of the first.
-use mathlib.Core.Path.{◌≡◌, refl, sym, ◌∙◌}
+use mathlib.Core.Path.{◌≡◌, refl, sym, subst, ◌∙◌}
 use mathlib.Core.Bool.{Bool, true, false}
 use Prim.Native.Nat.{ℕ, ◌+◌, ◌≤◌, ◌<◌}
 use native.Mathlib.Omega.{arith}
@@ -25,9 +25,6 @@ overflow_mul-i c = omega arith
 pub id-own-requires : goal.id-own-requires
 id-own-requires c = omega arith
 
-pub overflow_add-e : goal.overflow_add-e
-overflow_add-e c = omega arith
-
 pub loop-e-init : goal.loop-e-init
 loop-e-init c = let a = c.args in (c.id-own.ensures, alone (given a.records.now) a.i a.k (omega arith))
 
@@ -40,12 +37,6 @@ id-requires c = omega arith
 pub returns-then-id-own : goal.returns-then-id-own
 returns-then-id-own c = c.loop-e.invariant.1
 
-pub overflow_add-e-in-loop-e : goal.overflow_add-e-in-loop-e
-overflow_add-e-in-loop-e c = omega arith
-
-pub loop-e-smaller : goal.loop-e-smaller
-loop-e-smaller c = omega arith
-
 pub loop-e-preserved : goal.loop-e-preserved
 loop-e-preserved c =
     let a = c.args in (
@@ -54,4 +45,7 @@ loop-e-preserved c =
     )
 
 pub returns : goal.returns
-returns c = c.loop-e.invariant.1
+returns c =
+    let a = c.args in
+    let e : c.loop-e.e ≡ a.k = omega arith in
+    subst (λ (n : ℕ). Run (given a.records.now) a.i n a.k) e c.loop-e.invariant.1

@@ -1,5 +1,4 @@
 use mathlib.Core.Path.{◌≡◌}
-use Prim.Native.Nat.{◌-◌}
 use Rattle.queue.specs.Layout.{given}
 use Rattle.queue.specs.Queue.{id_of}
 use Rattle.queue.specs.inside.Run.{Run}
@@ -7,6 +6,3 @@ use Rattle.queue.proofs.record.run_end.Given as goal
 
 abbrev pub invariant-loop-e : goal.invariant-loop-e
 invariant-loop-e l = (l.own ≡ id_of (given l.records l.i)) × Run (given l.records) l.i l.e l.k
-
-abbrev pub decreases-loop-e : goal.decreases-loop-e
-decreases-loop-e l = l.k - l.e

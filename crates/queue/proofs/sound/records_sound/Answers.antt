@@ -38,12 +38,6 @@ returns-then-last-id c =
     spoilt m i a.n (omega arith)
     (next-above m i c.loop-i.last c.loop-i.invariant.1.1 c.id-id.result c.id-id.ensures (omega (arith, c.id-id.type_inv)) c.if-last-id.true)
 
-pub overflow_add-i : goal.overflow_add-i
-overflow_add-i c = omega arith
-
-pub loop-i-smaller : goal.loop-i-smaller
-loop-i-smaller c = omega arith
-
 pub loop-i-preserved : goal.loop-i-preserved
 loop-i-preserved c =
     let a = c.args in

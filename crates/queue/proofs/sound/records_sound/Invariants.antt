@@ -1,6 +1,6 @@
 use mathlib.Core.Path.{◌≡◌}
 use mathlib.Core.Bool.{true}
-use Prim.Native.Nat.{◌-◌, ◌≤◌}
+use Prim.Native.Nat.{◌≤◌}
 use Rattle.queue.specs.Layout.{queued}
 use Rattle.queue.specs.Queue.{in_order}
 use Rattle.queue.proofs.Soundness.{Below}
@@ -8,6 +8,3 @@ use Rattle.queue.proofs.sound.records_sound.Given as goal
 
 abbrev pub invariant-loop-i : goal.invariant-loop-i
 invariant-loop-i l = (l.i ≤ l.n) × ((in_order (queued l.queue l.i) ≡ true) × Below l.last (queued l.queue l.i))
-
-abbrev pub decreases-loop-i : goal.decreases-loop-i
-decreases-loop-i l = l.n - l.i

@@ -20,20 +20,11 @@ loop-j-init c =
     let a = c.args in
     (omega arith, (omega arith, (refl, copied_none a.queue.now a.records.now (records_at + a.p * frame_record) a.e)))
 
-pub overflow_sub-j : goal.overflow_sub-j
-overflow_sub-j c = omega arith
-
-pub overflow_mul-j : goal.overflow_mul-j
-overflow_mul-j c = omega arith
-
 pub copy_span-requires : goal.copy_span-requires
 copy_span-requires c = omega arith
 
 pub overflow_add-at-in-loop-j : goal.overflow_add-at-in-loop-j
 overflow_add-at-in-loop-j c = omega arith
-
-pub loop-j-smaller : goal.loop-j-smaller
-loop-j-smaller c = omega arith
 
 pub loop-j-preserved : goal.loop-j-preserved
 loop-j-preserved c =

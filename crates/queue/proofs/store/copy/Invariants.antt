@@ -11,6 +11,3 @@ abbrev pub invariant-loop-j : goal.invariant-loop-j
 invariant-loop-j l =
     ((l.i ≤ l.j) × (l.j ≤ l.e)) × ((l.at ≡ records_at + l.p * frame_record + (l.e - l.j) * frame_record)
     × ((length l.queue ≡ length l.initial.queue) × (l.queue ≡ splice l.initial.queue (records_at + l.p * frame_record) (stored (tabulate (given l.records) l.j (l.e - l.j))))))
-
-abbrev pub decreases-loop-j : goal.decreases-loop-j
-decreases-loop-j l = l.j

@@ -6,6 +6,3 @@ use Rattle.queue.proofs.store.place.Given as goal
 
 abbrev pub invariant-loop-p : goal.invariant-loop-p
 invariant-loop-p l = (l.p ≤ l.n) × (behind l.id (queued l.queue l.p) ≡ behind l.id (queued l.queue l.n))
-
-abbrev pub decreases-loop-p : goal.decreases-loop-p
-decreases-loop-p l = l.p
