@@ -1,19 +1,18 @@
 -- ExecuteOpcode in a payload, and as it is written.
 use mathlib.Core.Path.{◌≡◌, refl, sym, ap, ◌∙◌}
-use mathlib.Core.Bool.{Bool, true, false, not}
+use mathlib.Core.Bool.{Bool, true, false}
 use mathlib.Core.List.{List, [], ◌∷◌, ◌++◌, append-nil}
 use Prim.Native.Nat.{ℕ, ◌*◌, ◌-◌, ◌≤◌, ◌<◌}
 use native.Mathlib.Omega.{arith}
-use lib.Dec.{leb}
 use lib.IntN.{ℤ, pos}
 use lib.ListN.{length, drop, replicate, length-append, length-drop}
 use Rattle.bits.specs.Order.{unpack, to_bits, from_bits, bytes_for, padding, store}
 use Rattle.bits.proofs.Bytes.{length-unpack}
 use Rattle.bits.proofs.Numbers.{length-to_bits}
-use Rattle.shape.specs.Answer.{Answer, refused, got, numbered, refuse_if}
+use Rattle.shape.specs.Answer.{refused, got}
 use Rattle.shape.specs.Cast.{unsigned, signed, saturated, cast_bits}
 use Rattle.shape.specs.Signed.{signed_of}
-use Rattle.shape.specs.Shape.{end, Values, all_zero, encode, decode, decoded, fits}
+use Rattle.shape.specs.Shape.{end, encode, decode, decoded, fits}
 use Rattle.shape.proofs.Reading.{value, integer, with_head, head_read, head_bytes, head-short, end_none, end-left, refused-on, got-on}
 use Rattle.shape.proofs.Writing.{more}
 use Rattle.protocol_param.specs.ExecuteOpcode.{opcode_request, opcode_response, request_values, request_of, response_values, response_of, request_at, response_at}
@@ -51,19 +50,6 @@ module _ (p : List ℕ) where
     held-response e =
         got-on (with_head (integer 48 ∷ value 1 ∷ []) end (unpack p) 0)
         (head_read (integer 48 ∷ value 1 ∷ []) end (unpack p) 0 (omega (arith, length-unpack p))) e
-
-abbrev ended : Bool → Bool → Answer (Values end)
-ended a z = refuse_if a 16 (refuse_if (not z) 25 (got tt))
-
-end_by : (a z : Bool) → 0 ≡ (numbered (ended a z)).number → ◌≡◌ {A = Answer (Values end)} (ended a z) (got tt)
-unfolding refuse_if
-end_by true z e = absurd (omega arith)
-end_by false false e = absurd (omega arith)
-end_by false true e = refl
-
-pub end-held : (bs : List Bool) → 0 ≡ (numbered (decode end bs)).number → ◌≡◌ {A = Answer (Values end)} (decode end bs) (got tt)
-unfolding decode
-end-held bs e = end_by (leb 8 (length bs)) (all_zero bs) e
 
 -- ── the structs ──
 
