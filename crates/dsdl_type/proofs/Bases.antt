@@ -27,6 +27,10 @@ unfolding is_in
 no-digits [] h = refl
 no-digits (x ∷ xs) h = absurd (omega arith)
 
+and-false : (a : Bool) → (a && false) ≡ false
+and-false true = refl
+and-false false = refl
+
 none₂ : (a b : Bool) (x : ℕ) → b ≡ false → 0 ≡ cond (a && b) x 0
 none₂ true b x e = rw e
 none₂ false b x e = refl
@@ -87,6 +91,12 @@ read_as s t u n w o r en et eu ew eo er =
     let w' : w ≡ bits_of (drop (run Letter s) s) = ew ∙ ap bits_of (eu ∙ ap (λ (k : ℕ). drop k s) en) in
     er ∙ (ap (λ (x : List ℕ). primitive x w o) t' ∙ (ap (λ (x : ℕ). primitive (take (run Letter s) s) x o) w'
     ∙ ap (λ (x : Base). primitive (take (run Letter s) s) (bits_of (drop (run Letter s) s)) x) eo))
+
+-- no type has no bits
+pub no_bits : (l : List ℕ) (o : Base) → o ≡ primitive l 0 o
+no_bits l o = go (same l (chars "int")) (same l (chars "uint")) (same l (chars "float")) (same l (chars "void")) where
+  go : (a b c d : Bool) → o ≡ cond (a && false) (Signed 0) (cond (b && false) (Unsigned 0) (cond (c && false) (Floating 0) (cond (d && false) (Void 0) o)))
+  go a b c d = simp (and-false a, and-false b, and-false c, and-false d)
 
 -- ── its bits ──
 

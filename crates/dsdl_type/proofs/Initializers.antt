@@ -10,7 +10,7 @@ use lib.Dec.{ltb, eqb}
 use lib.ListN.{length, take, drop, length-drop}
 use lib.Seq.{drop-drop}
 use Rattle.dsdl_text.specs.declared.class.Class.TheVariants.{Blank, Visible, Decimal, Hexadecimal, Binary, Octal}
-use Rattle.dsdl_text.specs.Class.{run, all}
+use Rattle.dsdl_text.specs.Class.{is_in, run, all}
 use Rattle.dsdl_text.specs.Text.{chars, same, first}
 use Rattle.dsdl_text.specs.Words.{skip, word}
 use Rattle.dsdl_text.proofs.Parts.{rest}
@@ -172,6 +172,11 @@ pub no_code : (b : Base) (code : ℕ) → 256 ≤ code → false ≡ fits b (cha
 no_code b code h = rw (le-ltb code 256 h)
 
 -- ── the whole initializer ──
+
+pub nothing : (b : Base) (l : List ℕ) → length l ≡ 0 → false ≡ fits b (initializer l)
+unfolding initializer run base_of same is_in is_floating
+nothing b [] h = refl
+nothing b (x ∷ xs) h = absurd (omega arith)
 
 module _ (l : List ℕ) (c : ℕ) (ec : c ≡ first l) where
   pub some-there : (c ≡ 0 → ⊥) → 1 ≤ length l
