@@ -10,14 +10,13 @@ use native.Mathlib.Decide.{dec_le}
 use native.Mathlib.Nat.{lt_of_not-le, mul-le-mul, mul-suc, mul_assoc, pow-suc, mod-lt, mod-add-div}
 use Rattle.std.proofs.lemmas.Nat.{pow-add}
 use lib.Pow.{pow_pos, shl_exact}
-use lib.Dec.{leb, ltb, leb-suc-suc, lit≤, lit<}
+use lib.Dec.{leb, ltb, lit≤, lit<}
 use Rattle.dsdl_text.specs.Text.{chars}
 use Rattle.dsdl_number.proofs.Compared.{below}
 use Rattle.dsdl_number.proofs.Scaled.{below-scaled}
 use Rattle.dsdl_number.proofs.Significands.{below-padded}
 use Rattle.dsdl_number.specs.Integer.{value_from, value}
 use Rattle.dsdl_number.specs.inside.Significand.{padded, are_below, is_below}
-use Rattle.dsdl_type.specs.Constant.{infinity_from}
 use Rattle.dsdl_type.specs.inside.Bases.{is_base}
 use Rattle.dsdl_type.specs.inside.Bounds.{Bound}
 
@@ -82,14 +81,3 @@ base-bounds b h = go (dec_le 1 b) (dec_le b 16) where
       let z = lt_of_not-le q in
       let e = last-base b h (λ x. absurd (omega arith)) (λ x. absurd (omega arith)) (λ x. absurd (omega arith)) in
       absurd (omega arith)
-
--- by the bits of the type
-module _ (bits v : ℕ) (r : Bool) where
-  pub of-32 : bits ≡ 32 → r ≡ ltb v (infinity_from 32) → r ≡ ltb v (infinity_from bits)
-  of-32 e q = rw e q
-
-  pub of-16 : bits ≡ 16 → r ≡ leb v 65519 → r ≡ ltb v (infinity_from bits)
-  of-16 e q = rw e (q ∙ sym (leb-suc-suc v 65519))
-
-  pub of-64 : (bits ≡ 32 → ⊥) → (bits ≡ 16 → ⊥) → r ≡ ltb v (infinity_from 64) → r ≡ ltb v (infinity_from bits)
-  of-64 x y q = rw (ne_eqb bits 16 y, ne_eqb bits 32 x) q

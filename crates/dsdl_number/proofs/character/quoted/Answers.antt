@@ -1,7 +1,6 @@
 -- `character::quoted` meets its contract.
 use Rattle.dsdl_text.proofs.Choices.{by}
 use Rattle.dsdl_number.proofs.Characters.{two-few, alone, alone-open, letter, letter-open, digits, digits-open}
-use native.Mathlib.Omega.{arith}
 use Rattle.dsdl_number.proofs.character.quoted.Goals as goal
 
 pub returns-then-s-lt2 : goal.returns-then-s-lt2

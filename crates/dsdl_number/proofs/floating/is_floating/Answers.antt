@@ -1,6 +1,5 @@
 -- `floating::is_floating` meets its contract.
 use Rattle.dsdl_number.proofs.Floats.{no_number, exponent-only, fraction-only, both, room}
-use native.Mathlib.Omega.{arith}
 use Rattle.dsdl_number.proofs.floating.is_floating.Goals as goal
 
 pub returns-then-i-eq0 : goal.returns-then-i-eq0

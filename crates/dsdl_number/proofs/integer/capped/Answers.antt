@@ -1,10 +1,9 @@
 -- `integer::capped` meets its contract.
 use Rattle.dsdl_number.proofs.Capped.{on, done}
 use Rattle.dsdl_number.specs.inside.Capped.{cap}
-use native.Mathlib.Nat.{mul-le-mul}
 use native.Mathlib.Omega.{arith}
 use native.Mathlib.Numerals.{add-one}
-use mathlib.Core.Path.{refl, ◌∙◌}
+use mathlib.Core.Path.{◌∙◌}
 use Rattle.dsdl_number.proofs.integer.capped.Goals as goal
 
 pub loop-c-preserved : goal.loop-c-preserved

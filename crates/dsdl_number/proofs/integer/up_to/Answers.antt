@@ -3,7 +3,7 @@ use Rattle.dsdl_number.proofs.Bounded.{turn, cut-over, quotient-below, quotient_
 use Rattle.dsdl_number.proofs.Capped.{done}
 use native.Mathlib.Omega.{arith}
 use native.Mathlib.Numerals.{add-one}
-use mathlib.Core.Path.{refl, sym, ◌∙◌}
+use mathlib.Core.Path.{sym, ◌∙◌}
 use Rattle.dsdl_number.proofs.integer.up_to.Goals as goal
 
 pub returns-then-m-d : goal.returns-then-m-d

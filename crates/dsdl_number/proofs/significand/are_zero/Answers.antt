@@ -5,7 +5,7 @@ use Rattle.dsdl_number.specs.Integer.{digit_of}
 use lib.ListN.{get_or}
 use native.Mathlib.Omega.{arith}
 use native.Mathlib.Numerals.{add-one}
-use mathlib.Core.Path.{◌≡◌, refl, sym, ap, ◌∙◌}
+use mathlib.Core.Path.{◌≡◌, sym, ap, ◌∙◌}
 use Rattle.dsdl_number.proofs.significand.are_zero.Goals as goal
 
 pub returns-then-digit_at-ne0 : goal.returns-then-digit_at-ne0

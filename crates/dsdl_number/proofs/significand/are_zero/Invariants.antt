@@ -1,6 +1,5 @@
 use Rattle.dsdl_number.specs.inside.Significand.{significand, padded, are_zero}
 use lib.ListN.{drop}
-use Prim.Native.Nat.{◌-◌}
 use mathlib.Core.Path.{◌≡◌}
 use Rattle.dsdl_number.proofs.significand.are_zero.Given as goal
 

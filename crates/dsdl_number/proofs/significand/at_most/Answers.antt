@@ -5,7 +5,7 @@ use Rattle.dsdl_number.specs.inside.Significand.{significand}
 use borrow.Author.Tests.{le-leb}
 use native.Mathlib.Omega.{arith}
 use native.Mathlib.Numerals.{add-one}
-use mathlib.Core.Path.{refl, sym, ◌∙◌}
+use mathlib.Core.Path.{sym, ◌∙◌}
 use Rattle.dsdl_number.proofs.significand.at_most.Goals as goal
 
 pub returns-then-m-d : goal.returns-then-m-d

@@ -1,7 +1,7 @@
 use Rattle.dsdl_number.specs.Integer.{value_from, value}
 use Rattle.dsdl_number.specs.inside.Significand.{significand, padded}
 use lib.ListN.{drop}
-use Prim.Native.Nat.{◌-◌, ◌≤◌}
+use Prim.Native.Nat.{◌≤◌}
 use mathlib.Core.Path.{◌≡◌}
 use Rattle.dsdl_number.proofs.significand.at_most.Given as goal
 

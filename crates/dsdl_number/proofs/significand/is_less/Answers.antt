@@ -5,7 +5,6 @@ use Rattle.dsdl_number.specs.Integer.{digit_of}
 use Rattle.dsdl_number.specs.inside.Significand.{significand, is_less}
 use lib.ListN.{length, get_or, drop}
 use native.Mathlib.Omega.{arith}
-use native.Mathlib.Nat.{add-zero}
 use native.Mathlib.Numerals.{add-one}
 use Prim.Native.Nat.{ℕ, suc, ◌+◌, ◌<◌}
 use mathlib.Core.Path.{◌≡◌, sym, ap, ◌∙◌}

@@ -1,6 +1,6 @@
 use Rattle.dsdl_number.specs.inside.Significand.{significand, padded, is_less}
 use lib.ListN.{length, drop}
-use Prim.Native.Nat.{ℕ, ◌+◌, ◌-◌, ◌≤◌}
+use Prim.Native.Nat.{ℕ, ◌+◌, ◌≤◌}
 use mathlib.Core.Path.{◌≡◌}
 use mathlib.Core.List.{List}
 use Rattle.dsdl_number.proofs.significand.is_less.Given as goal
