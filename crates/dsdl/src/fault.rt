@@ -204,6 +204,7 @@ pub fn line(t: &[u8]) -> usize
     };
     let mut at = 0;
     let mut n = 1;
+    // A loop: how far it goes on depends on where the lines end.
     loop {
         let end = line::end(t, at);
         s = after(t, at, end, n, s, &mut seen, &mut marks);

@@ -72,9 +72,7 @@ fn is_among(t: &[u8], seen: &[u32; NAMES], n: usize, x: &[u8]) -> bool
     requires { n ≤ names_max }
     ensures { result ≡ is_among x.now (names_at t.now seen.now n) }
 {
-    let mut i = n;
-    while 0 < i {
-        i -= 1;
+    for i in (0..n).rev() {
         if is_at(t, seen[i], x) {
             return true;
         }
@@ -88,10 +86,8 @@ pub fn mark_at(x: &[u8]) -> usize
     ensures { (result ≡ mark_of x.now) × (result < names_max) }
 {
     let mut mark = 0;
-    let mut i = 0;
-    while i < x.len() {
-        mark = (mark * 131 + x[i] as usize) % NAMES;
-        i += 1;
+    for c in x {
+        mark = (mark * 131 + *c as usize) % NAMES;
     }
     mark
 }

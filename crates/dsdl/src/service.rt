@@ -18,6 +18,7 @@ pub fn is_service(text: &[u8]) -> bool
 {
     let mut at = 0;
     let mut end = line::end(text, 0);
+    // A while: how far it goes on depends on where the lines end.
     while end < text.len() {
         if is_marker(&text[at..end]) {
             return true;

@@ -127,6 +127,7 @@ fn lines(out: &mut [u8], at: usize, space: &[u8], text: &[u8]) -> usize
     let mut p = at;
     let mut from = 0;
     let mut end = line::end(text, 0);
+    // A while: how far it goes on depends on where the lines end.
     while end < text.len() {
         p = added(out, p, space, &text[from..end]);
         from = line::next(text, end);

@@ -14,7 +14,9 @@ fn unsigned(out: &mut [u8], at: usize, l: &[u8], less: u64) -> usize
     requires { (length l.now ≤ 4096) × ((less ≤ 1) × ((less < unsigned_of l.now) × Fits at (decimal_of (unsigned_of l.now - less)))) }
     ensures { Placed out.old out.new at result (decimal_of (unsigned_of l.now - less)) }
 {
-    let b = integer::base(l);
+    let Some(b) = integer::base(l) else {
+        return at;
+    };
     if b == 10 {
         return decimal::number(out, at, l, 10, less);
     }

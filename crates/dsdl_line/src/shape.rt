@@ -34,11 +34,7 @@ pub enum Places {
 fn is_unsaid(c: Cast) -> bool
     ensures { result ≡ is_unsaid c }
 {
-    match c {
-        Cast::Unsaid => true,
-        Cast::Saturated => false,
-        Cast::Truncated => false,
-    }
+    matches!(c, Cast::Unsaid)
 }
 
 // A type that a field may have.
@@ -208,13 +204,5 @@ pub fn read(line: &[u8]) -> Places
 pub fn is_marker(p: Places) -> bool
     ensures { result ≡ is_marker_at p }
 {
-    match p {
-        Places::Nothing => false,
-        Places::Marker => true,
-        Places::Union => false,
-        Places::Padding(_) => false,
-        Places::Field(_, _, _) => false,
-        Places::Constant(_, _, _) => false,
-        Places::Wrong => false,
-    }
+    matches!(p, Places::Marker)
 }

@@ -10,7 +10,6 @@ use lib.ListN.{length, get_or, take, drop}
 use Rattle.dsdl_text.specs.declared.class.Class.TheVariants.{Blank, Hexadecimal}
 use Rattle.dsdl_text.specs.Class.{all, many}
 use Rattle.dsdl_text.specs.Text.{first}
-use Rattle.dsdl_text.proofs.LineEnds.{beyond}
 use Rattle.dsdl_text.proofs.Parts.{rest}
 use Rattle.dsdl_number.specs.Integer.{value}
 use Rattle.dsdl_number.specs.Number.{escape, is_closed, plain, coded, quoted}
@@ -19,12 +18,8 @@ use Rattle.dsdl_number.specs.inside.Capped.{cap}
 -- ── a character alone ──
 
 module _ (c : ℕ) where
-  pub low : c < 32 → 256 ≡ plain c
-  low h = rw (lt-leb 32 c h)
 
   module _ (h : 32 ≤ c) where
-    pub high : 126 < c → 256 ≡ plain c
-    high k = rw (le-leb 32 c h, lt-leb c 126 k)
 
     module _ (k : c ≤ 126) where
       pub quote : c ≡ 39 → 256 ≡ plain c
@@ -34,9 +29,6 @@ module _ (c : ℕ) where
       other e = rw (le-leb 32 c h, le-leb c 126 k, ne_eqb c 39 e)
 
 -- ── digits ──
-
-pub no-digits : (s : List ℕ) → many Hexadecimal s ≡ false → 256 ≡ coded s
-no-digits s e = rw e
 
 module _ (s : List ℕ) (v : ℕ) (e : many Hexadecimal s ≡ true) (q : v ≡ min (value 16 s) cap) where
   pub small : v ≤ 127 → v ≡ coded s
@@ -50,15 +42,7 @@ module _ (s : List ℕ) (v : ℕ) (e : many Hexadecimal s ≡ true) (q : v ≡ m
 
 -- ── the closing quote ──
 
-never : (n : ℕ) (s : List ℕ) → false ≡ true → n ≤ length s
-never n s e = let z : ◌≡◌ {A = ℕ} 0 1 = cc in absurd (omega arith)
-
 module _ (s : List ℕ) (n : ℕ) where
-  pub too_few : 1 ≤ n → length s < n → (false ≡ is_closed n s) × (false ≡ true → n ≤ length s)
-  too_few p h = let z : get_or s (n - 1) 0 ≡ 0 = beyond s (n - 1) (omega arith) in (rw z, never n s)
-
-  pub no-quote : (get_or s (n - 1) 0 ≡ 39 → ⊥) → (false ≡ is_closed n s) × (false ≡ true → n ≤ length s)
-  no-quote e = (rw (ne_eqb (get_or s (n - 1) 0) 39 e), never n s)
 
   pub closed : (r : Bool) → n ≤ length s → get_or s (n - 1) 0 ≡ 39 → r ≡ all Blank (take (length s - n) (drop n s))
       → (r ≡ is_closed n s) × (r ≡ true → n ≤ length s)

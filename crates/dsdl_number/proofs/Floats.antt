@@ -1,7 +1,7 @@
 -- Laws of the parts of a floating literal.
 use mathlib.Core.Path.{◌≡◌, refl, sym, ap, ◌∙◌}
 use mathlib.Core.Bool.{Bool, true, false, cond, ◌&&◌, ◌||◌}
-use mathlib.Core.List.{List, [], ◌∷◌}
+use mathlib.Core.List.{List}
 use Prim.Native.Nat.{ℕ, ◌+◌, ◌-◌, ◌≤◌, ◌<◌}
 use native.Mathlib.Omega.{arith}
 use borrow.Author.Tests.{eq-eqb, ne_eqb, lt-ltb}
@@ -9,50 +9,12 @@ use lib.Dec.{ltb, eqb}
 use lib.ListN.{length, get_or, take, drop, length-drop}
 use lib.Seq.{length-take-le, drop-drop}
 use Rattle.dsdl_text.specs.declared.class.Class.TheVariants.{Decimal}
-use Rattle.dsdl_text.specs.Class.{run, many}
+use Rattle.dsdl_text.specs.Class.{run}
 use Rattle.dsdl_text.proofs.Parts.{rest}
 use Rattle.dsdl_text.proofs.Runs.{short}
-use Rattle.dsdl_number.specs.Number.{sign_length, fraction, is_exponent, is_floating}
-
--- ── a sign ──
-
-pub no_sign : (s : List ℕ) → length s ≡ 0 → (0 ≡ sign_length s) × (0 ≤ length s)
-no_sign [] h = (refl, omega arith)
-no_sign (x ∷ xs) h = absurd (omega arith)
-
-module _ (s : List ℕ) where
-  module _ (h : length s ≡ 0 → ⊥) where
-    pub plus : get_or s 0 0 ≡ 43 → (1 ≡ sign_length s) × (1 ≤ length s)
-    plus e = (rw e, omega arith)
-
-    pub minus : get_or s 0 0 ≡ 45 → (1 ≡ sign_length s) × (1 ≤ length s)
-    minus e = (rw e, omega arith)
-
-  pub other : (get_or s 0 0 ≡ 43 → ⊥) → (get_or s 0 0 ≡ 45 → ⊥) → (0 ≡ sign_length s) × (0 ≤ length s)
-  other p m = (rw (ne_eqb (get_or s 0 0) 43 p, ne_eqb (get_or s 0 0) 45 m), omega arith)
-
--- ── an exponent ──
-
-pub no-exponent : (s : List ℕ) → length s ≡ 0 → false ≡ is_exponent s
-no-exponent [] h = refl
-no-exponent (x ∷ xs) h = absurd (omega arith)
-
-pub exponent-digits : (s : List ℕ) (k : ℕ) (r : Bool) → k ≡ sign_length (take (length s - 1) (drop 1 s))
-    → r ≡ many Decimal (take (length s - (1 + k)) (drop (1 + k) s)) → r ≡ many Decimal (drop (1 + sign_length (drop 1 s)) s)
-exponent-digits s k r e q =
-    q ∙ (ap (many Decimal) (rest (1 + k) s) ∙ ap (λ (j : ℕ). many Decimal (drop (1 + j) s)) (e ∙ ap sign_length (rest 1 s)))
+use Rattle.dsdl_number.specs.Number.{fraction, is_exponent, is_floating}
 
 -- ── a fraction ──
-
-none : (s : List ℕ) → 0 < 0 → 1 + 0 ≤ length s
-none s h = absurd (omega arith)
-
-pub no_text : (s : List ℕ) → length s ≡ 0 → (0 ≡ length (fraction s)) × (0 < 0 → 1 + 0 ≤ length s)
-no_text [] h = (refl, none [])
-no_text (x ∷ xs) h = absurd (omega arith)
-
-pub no-point : (s : List ℕ) → (get_or s 0 0 ≡ 46 → ⊥) → (0 ≡ length (fraction s)) × (0 < 0 → 1 + 0 ≤ length s)
-no-point s e = (rw (ne_eqb (get_or s 0 0) 46 e), none s)
 
 pub digits : (s : List ℕ) (r : ℕ) → (length s ≡ 0 → ⊥) → get_or s 0 0 ≡ 46 → r ≡ run Decimal (take (length s - 1) (drop 1 s))
     → (r ≡ length (fraction s)) × (0 < r → 1 + r ≤ length s)

@@ -4,7 +4,6 @@ use mathlib.Core.Bool.{Bool, true, false, cond, ◌&&◌}
 use mathlib.Core.List.{List, [], ◌∷◌}
 use Prim.Native.Nat.{ℕ, ◌≤◌, ◌<◌}
 use native.Mathlib.Omega.{arith}
-use borrow.Author.Tests.{lt-ltb}
 use lib.Dec.{lit≤}
 use native.Mathlib.Nat.{lt_of_not-le}
 use native.Mathlib.Decide.{dec_le}
@@ -19,10 +18,6 @@ use Rattle.dsdl_text.proofs.Texts.{unlike}
 pub none : (k : Class) (s : List ℕ) → length s ≡ 0 → false ≡ many k s
 none k [] h = refl
 none k (x ∷ xs) h = absurd (omega arith)
-
-pub some_more : (k : Class) (s : List ℕ) (r : Bool) → (length s ≡ 0 → ⊥) → r ≡ all k s → r ≡ many k s
-some_more k [] r h e = absurd (h refl)
-some_more k (x ∷ xs) r h e = rw (lt-ltb 0 (length (x ∷ xs)) (omega arith)) e
 
 pub no-positive : (s : List ℕ) → length s ≡ 0 → false ≡ is_in Positive (first s) && all Decimal s
 unfolding is_in

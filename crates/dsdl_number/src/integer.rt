@@ -1,5 +1,5 @@
 // Integer literals (RULES 17.5).
-ghost use Rattle.std.specs.Prelude.{◌≡◌, ◌≤◌, min, length};
+ghost use Rattle.std.specs.Prelude.{◌≡◌, ◌≤◌, ◌<◌, min, length, MatchOption};
 ghost use Rattle.dsdl_text.specs.Class.{many as many_of};
 ghost use Rattle.dsdl_number.specs.Integer.{digit_of, value, is_decimal, is_prefixed, base_of};
 ghost use Rattle.dsdl_number.specs.inside.Capped.{cap};
@@ -49,23 +49,23 @@ fn is_prefixed(s: &[u8], prefix: &[u8], class: Class) -> bool
     many(class, &s[2..])
 }
 
-// Internal. The base of an integer literal; 0 of a text that is none.
-pub fn base(s: &[u8]) -> u64
-    ensures { result ≡ base_of s.now }
+// Internal. The base of an integer literal.
+pub fn base(s: &[u8]) -> Option<u64>
+    ensures { MatchOption result (base_of s.now ≡ 0) (λ b. (b ≡ base_of s.now) × (0 < b)) }
 {
     if is_decimal(s) {
-        return 10;
+        return Some(10);
     }
     if is_prefixed(s, b"0x", Class::Hexadecimal) {
-        return 16;
+        return Some(16);
     }
     if is_prefixed(s, b"0b", Class::Binary) {
-        return 2;
+        return Some(2);
     }
     if is_prefixed(s, b"0o", Class::Octal) {
-        return 8;
+        return Some(8);
     }
-    0
+    None
 }
 
 // Internal. The digit that a character is.
@@ -102,10 +102,8 @@ pub fn capped(s: &[u8], base: u64) -> u64
     ensures { result ≡ min (value base s.now) cap }
 {
     let mut v: u64 = 0;
-    let mut i = 0;
-    while i < s.len() {
-        v = cut(v * base + digit(s[i]));
-        i += 1;
+    for c in s {
+        v = cut(v * base + digit(*c));
     }
     v
 }
@@ -115,9 +113,8 @@ pub fn up_to(s: &[u8], m: usize) -> usize
     ensures { result ≡ min (value 10 s.now) m }
 {
     let mut v: usize = 0;
-    let mut i = 0;
-    while i < s.len() {
-        let d = digit(s[i]) as usize;
+    for c in s {
+        let d = digit(*c) as usize;
         if m < d {
             return m;
         }
@@ -125,7 +122,6 @@ pub fn up_to(s: &[u8], m: usize) -> usize
             return m;
         }
         v = v * 10 + d;
-        i += 1;
     }
     v
 }

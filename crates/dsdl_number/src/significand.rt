@@ -28,8 +28,7 @@ pub fn at_most(s: &[u8], point: usize, n: usize, base: u64, m: u64) -> bool
     ensures { result ≡ leb (value base (padded n (significand point s.now))) m }
 {
     let mut v: u64 = 0;
-    let mut k = 0;
-    while k < n {
+    for k in 0..n {
         let d = digit_at(s, point, k);
         if m < d {
             return false;
@@ -38,7 +37,6 @@ pub fn at_most(s: &[u8], point: usize, n: usize, base: u64, m: u64) -> bool
             return false;
         }
         v = v * base + d;
-        k += 1;
     }
     true
 }
@@ -48,12 +46,10 @@ pub fn are_zero(s: &[u8], point: usize, from: usize, to: usize) -> bool
     requires { point ≤ length s.now }
     ensures { result ≡ are_zero (drop from (padded to (significand point s.now))) }
 {
-    let mut k = from;
-    while k < to {
+    for k in from..to {
         if digit_at(s, point, k) != 0 {
             return false;
         }
-        k += 1;
     }
     true
 }
@@ -63,17 +59,15 @@ fn is_less(s: &[u8], point: usize, from: usize, bound: &[u8]) -> bool
     requires { (point ≤ length s.now) × (from + length bound.now ≤ 0xffffffffffffffff) }
     ensures { result ≡ is_less (drop from (padded (from + length bound.now) (significand point s.now))) bound.now }
 {
-    let mut i = 0;
-    while i < bound.len() {
+    for (i, c) in bound.iter().enumerate() {
         let d = digit_at(s, point, from + i);
-        let e = integer::digit(bound[i]);
+        let e = integer::digit(*c);
         if d < e {
             return true;
         }
         if e < d {
             return false;
         }
-        i += 1;
     }
     false
 }

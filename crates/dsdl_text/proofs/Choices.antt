@@ -1,18 +1,12 @@
 -- Tests one after the other: what `||` and `&&` of them come to, by the first that decides.
 use mathlib.Core.Path.{◌≡◌, sym, ◌∙◌}
-use mathlib.Core.Bool.{Bool, true, false, cond, ◌&&◌, ◌||◌}
+use mathlib.Core.Bool.{Bool, true, false, cond, ◌||◌}
 
 pub or-first : (a b : Bool) → a ≡ true → true ≡ a || b
 or-first a b e = rw e
 
 pub or-next : (a b r : Bool) → a ≡ false → r ≡ b → r ≡ a || b
 or-next a b r e h = rw e h
-
-pub and_first : (a b : Bool) → a ≡ false → false ≡ a && b
-and_first a b e = rw e
-
-pub and-next : (a b r : Bool) → a ≡ true → r ≡ b → r ≡ a && b
-and-next a b r e h = rw e h
 
 -- a test by the result that it ensures
 pub by : {r a b : Bool} → r ≡ a → r ≡ b → a ≡ b

@@ -5,7 +5,6 @@ use Prim.Native.Nat.{ℕ, zero, suc, ◌+◌, ◌-◌, ◌≤◌}
 use native.Mathlib.Omega.{arith}
 use lib.ListN.{length, take, drop, length-take}
 use lib.Seq.{drop-drop, take-take}
-use Rattle.dsdl_text.specs.declared.class.Class.{Class}
 use Rattle.dsdl_text.specs.declared.class.Class.TheVariants.{Blank, Visible}
 use Rattle.dsdl_text.specs.declared.word.Word.{Word}
 use Rattle.dsdl_text.specs.Class.{run}
@@ -15,10 +14,6 @@ use Rattle.dsdl_text.proofs.Runs.{short}
 
 part_length : (l : List ℕ) (a e : ℕ) → length (part l a e) ≤ e - a
 part_length l a e = omega (arith, length-take (e - a) (drop a l))
-
--- a run from a place stays before the end
-pub run_ends : (k : Class) (l : List ℕ) (a e : ℕ) → a ≤ e → a + run k (part l a e) ≤ e
-run_ends k l a e h = omega (arith, short k (part l a e), part_length l a e)
 
 -- k characters less at the front of a part
 drop-take : (k n : ℕ) (l : List ℕ) → drop k (take n l) ≡ take (n - k) (drop k l)
@@ -56,22 +51,5 @@ module _ (l : List ℕ) (from stop : ℕ) where
   pub the_rest : past (skip (part l from stop)) ≡ part l (word_in l from stop).end stop
   the_rest = ap past skipped ∙ drop-part l (word_from l from stop) (run Visible (part l (word_from l from stop) stop)) stop
 
-  pub in_order : from ≤ stop → (from ≤ (word_in l from stop).at) × (((word_in l from stop).at ≤ (word_in l from stop).end) × ((word_in l from stop).end ≤ stop))
-  in_order h =
-      let a = run_ends Blank l from stop h in
-      (omega arith, (omega arith, run_ends Visible l (word_from l from stop) stop a))
-
 abbrev word_at : ℕ → ℕ → Word
 word_at a e = record { at = a; end = e }
-
--- by the runs that lead to it
-pub found : (l : List ℕ) (from stop a n : ℕ) → from ≤ stop → a ≡ run Blank (part l from stop) → n ≡ run Visible (part l (from + a) stop)
-    → (word_at (from + a) (from + a + n) ≡ word_in l from stop) × ((from ≤ from + a) × ((from + a ≤ from + a + n) × (from + a + n ≤ stop)))
-found l from stop a n h ea en =
-    let f = run_ends Blank l from stop h in
-    let u : from + a ≤ stop = omega arith in
-    let g = run_ends Visible l (from + a) stop u in (
-      ap (λ (x : ℕ). word_at (from + x) (from + x + n)) ea
-          ∙ ap (λ (x : ℕ). word_at (word_from l from stop) (word_from l from stop + x)) (en ∙ ap (λ (x : ℕ). run Visible (part l (from + x) stop)) ea),
-      (omega arith, (omega arith, omega arith)),
-    )

@@ -86,6 +86,7 @@ fn is_hexadecimal(c: u8) -> bool
 }
 
 // Internal. The character is of the class.
+#[tactic(auto, unfolding(crate::specs::Class::is_in))]
 pub fn is(class: Class, c: u8) -> bool
     ensures { result ≡ is_in class c }
 {
@@ -110,14 +111,12 @@ pub fn is(class: Class, c: u8) -> bool
 pub fn run(class: Class, s: &[u8]) -> usize
     ensures { (result ≡ run_of class s.now) × (result ≤ length s.now) }
 {
-    let mut i = 0;
-    while i < s.len() {
-        if !is(class, s[i]) {
+    for (i, c) in s.iter().enumerate() {
+        if !is(class, *c) {
             return i;
         }
-        i += 1;
     }
-    i
+    s.len()
 }
 
 // Internal. All characters of s are of the class.

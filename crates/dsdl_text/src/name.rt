@@ -38,14 +38,11 @@ pub fn is_dotted(s: &[u8]) -> bool
     ensures { result ≡ is_dotted s.now }
 {
     let mut begins = true;
-    let mut i = 0;
-    while i < s.len() {
-        let c = s[i];
-        if !goes_on(begins, c) {
+    for c in s {
+        if !goes_on(begins, *c) {
             return false;
         }
-        begins = c == 46;
-        i += 1;
+        begins = *c == 46;
     }
     !begins
 }
@@ -75,12 +72,9 @@ pub fn space(s: &[u8]) -> usize
     ensures { (result ≡ last_dot 0 0 s.now) × (result ≤ length s.now) }
 {
     let mut end = 0;
-    let mut i = 0;
-    while i < s.len() {
-        let c = s[i];
-        i += 1;
-        if c == 46 {
-            end = i;
+    for (i, c) in s.iter().enumerate() {
+        if *c == 46 {
+            end = i + 1;
         }
     }
     end

@@ -6,16 +6,14 @@ ghost use Rattle.dsdl_text.specs.Text.{same as same_text};
 pub fn same(a: &[u8], b: &[u8]) -> bool
     ensures { result ≡ same_text a.now b.now }
 {
-    let n = a.len();
-    if n != b.len() {
+    if a.len() != b.len() {
         return false;
     }
-    let mut i = 0;
-    while i < n {
-        if a[i] != b[i] {
+    // A loop in the place of `a == b`, a call of a generic function, which has no translation to C (portable/).
+    for (i, c) in a.iter().enumerate() {
+        if *c != b[i] {
             return false;
         }
-        i += 1;
     }
     true
 }

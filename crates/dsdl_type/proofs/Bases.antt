@@ -5,7 +5,7 @@ use mathlib.Core.List.{List, [], ◌∷◌}
 use Prim.Native.Nat.{ℕ, zero, suc, ◌+◌, ◌*◌, ◌^◌, ◌≤◌, ◌<◌, min}
 use native.Mathlib.Nat.{mul-le-mul_right, mul_assoc, pow-succ'}
 use native.Mathlib.Omega.{arith}
-use borrow.Author.Tests.{lt-leb, le-leb, eqb-true, leb-true, lt-ltb}
+use borrow.Author.Tests.{le-leb, eqb-true, leb-true, lt-ltb}
 use lib.Dec.{leb, eqb}
 use lib.ListN.{length, take, drop}
 use Rattle.dsdl_text.specs.declared.class.Class.TheVariants.{Letter, Positive, Decimal}
@@ -27,18 +27,13 @@ unfolding is_in
 no-digits [] h = refl
 no-digits (x ∷ xs) h = absurd (omega arith)
 
+and-false : (a : Bool) → (a && false) ≡ false
+and-false true = refl
+and-false false = refl
+
 none₂ : (a b : Bool) (x : ℕ) → b ≡ false → 0 ≡ cond (a && b) x 0
 none₂ true b x e = rw e
 none₂ false b x e = refl
-
-pub too_many : (s : List ℕ) → 2 < length s → 0 ≡ bits_of s
-too_many s h = none₂ (is_in Positive (first s)) (all Decimal s && leb (length s) 2) (value 10 s) (none (all Decimal s) (lt-leb (length s) 2 h)) where
-  none : (b : Bool) → leb (length s) 2 ≡ false → (b && leb (length s) 2) ≡ false
-  none true e = e
-  none false e = refl
-
-pub no_number : (s : List ℕ) → is_in Positive (first s) ≡ false → 0 ≡ bits_of s
-no_number s e = rw e
 
 pub not-digits : (s : List ℕ) → all Decimal s ≡ false → 0 ≡ bits_of s
 not-digits s e = none₂ (is_in Positive (first s)) (all Decimal s && leb (length s) 2) (value 10 s) (rw e)
@@ -87,6 +82,12 @@ read_as s t u n w o r en et eu ew eo er =
     let w' : w ≡ bits_of (drop (run Letter s) s) = ew ∙ ap bits_of (eu ∙ ap (λ (k : ℕ). drop k s) en) in
     er ∙ (ap (λ (x : List ℕ). primitive x w o) t' ∙ (ap (λ (x : ℕ). primitive (take (run Letter s) s) x o) w'
     ∙ ap (λ (x : Base). primitive (take (run Letter s) s) (bits_of (drop (run Letter s) s)) x) eo))
+
+-- no type has no bits
+pub no_bits : (l : List ℕ) (o : Base) → o ≡ primitive l 0 o
+no_bits l o = go (same l (chars "int")) (same l (chars "uint")) (same l (chars "float")) (same l (chars "void")) where
+  go : (a b c d : Bool) → o ≡ cond (a && false) (Signed 0) (cond (b && false) (Unsigned 0) (cond (c && false) (Floating 0) (cond (d && false) (Void 0) o)))
+  go a b c d = simp (and-false a, and-false b, and-false c, and-false d)
 
 -- ── its bits ──
 

@@ -25,12 +25,6 @@ use Rattle.dsdl_type.specs.declared.base.Base.TheVariants.{Boolean, Signed, Unsi
 sized : (n : ℕ) → within 2 64 n ≡ true → (2 ≤ n) × (n ≤ 64)
 sized n e = let p = both (leb 2 n) (leb n 64) e in (leb-true 2 n p.0, leb-true n 64 p.1)
 
-pub signed-bits : (b : Base) (n : ℕ) → is_sized b ≡ true → b ≡ Signed n → (2 ≤ n) × (n ≤ 64)
-signed-bits b n h e = sized n (ap is_sized (sym e) ∙ h)
-
-pub unsigned-bits : (b : Base) (n : ℕ) → is_sized b ≡ true → b ≡ Unsigned n → (2 ≤ n) × (n ≤ 64)
-unsigned-bits b n h e = sized n (ap is_sized (sym e) ∙ h)
-
 -- ── by the type ──
 
 module _ (b : Base) (d : Number) where

@@ -1,24 +1,22 @@
 -- Laws of initializers: the parts that the code finds, and what a type holds of them.
 use mathlib.Core.Path.{◌≡◌, refl, sym, ap, ◌∙◌}
-use mathlib.Core.Bool.{Bool, true, false, not, ◌&&◌}
+use mathlib.Core.Bool.{Bool, true, false}
 use mathlib.Core.List.{List, [], ◌∷◌}
-use mathlib.Core.Option.{Option}
 use Prim.Native.Nat.{ℕ, zero, suc, ◌+◌, ◌-◌, ◌≤◌, ◌<◌, min}
 use native.Mathlib.Omega.{arith}
-use borrow.Author.Tests.{ltb-true, lt-ltb, le-ltb, eq-eqb, ne_eqb}
-use lib.Dec.{ltb, eqb}
+use borrow.Author.Tests.{lt-ltb, eq-eqb, ne_eqb}
+use lib.Dec.{eqb}
 use lib.ListN.{length, take, drop, length-drop}
 use lib.Seq.{drop-drop}
-use Rattle.dsdl_text.specs.declared.class.Class.TheVariants.{Blank, Visible, Decimal, Hexadecimal, Binary, Octal}
-use Rattle.dsdl_text.specs.Class.{run, all}
+use Rattle.dsdl_text.specs.declared.class.Class.TheVariants.{Blank, Decimal, Hexadecimal, Binary, Octal}
+use Rattle.dsdl_text.specs.Class.{is_in, run}
 use Rattle.dsdl_text.specs.Text.{chars, same, first}
 use Rattle.dsdl_text.specs.Words.{skip, word}
 use Rattle.dsdl_text.proofs.Parts.{rest}
 use Rattle.dsdl_number.proofs.Digits.{base_by, literal-below}
-use Rattle.dsdl_number.proofs.Significands.{both}
 use Rattle.dsdl_number.proofs.Values.{no-point, integer-part, integer-whole, fewer, zeros-behind, taken, before, behind, power, digits, digits_are, power-is, small, cut, whole_digits, cut-part, cut-whole, cut-alike}
 use Rattle.dsdl_number.specs.Integer.{value, is_decimal, is_prefixed, base_of, digits_of, integer}
-use Rattle.dsdl_number.specs.Number.{Number, whole_part, is_whole, whole, is_sign, fraction, exponent, is_floating, floating, quoted, character, number, truth, or_else, only_word, initializer}
+use Rattle.dsdl_number.specs.Number.{whole_part, is_whole, whole, is_sign, fraction, exponent, is_floating, floating, quoted, character, number, truth, or_else, only_word, initializer}
 use Rattle.dsdl_number.specs.inside.Significand.{significand, zeros, padded, are_zero, are_below}
 use Rattle.dsdl_type.specs.Constant.{holds, fits}
 use Rattle.dsdl_type.specs.inside.Bases.{is_base, is_sized}
@@ -115,73 +113,14 @@ module _ (w : List ℕ) (i f k j : ℕ) (ei : i ≡ run Decimal w) (ef : f ≡ l
         = cut-part w negative ∙ (ap (λ (j : ℕ). value 10 (padded j (digits w))) (sym places) ∙ ap (λ (x : List ℕ). value 10 (padded n x)) (sym all_digits)) in
         g (cut w negative) refl ew ev ∙ sym (alike b h (floating negative w) (cut w negative) (refl, cut-alike w negative))
 
--- ── a number ──
-
-module _ (base : ℕ) (signed x : Bool) (h : base ≡ 0 → ⊥) where
-  pub sign-before : (r : Bool) → signed ≡ true → r ≡ x → not r ≡ (ltb 0 base && not (signed && x))
-  sign-before r s q = rw (lt-ltb 0 base (omega arith), s, q)
-
-  pub no-sign-before : signed ≡ false → true ≡ (ltb 0 base && not (signed && x))
-  no-sign-before s = rw (lt-ltb 0 base (omega arith), s)
-
-pub base_there : (base : ℕ) (x i : Bool) → i ≡ (ltb 0 base && x) → i ≡ true → 0 < base
-base_there base x i e t = ltb-true 0 base (both (ltb 0 base) x (sym e ∙ t)).0
-
-module _ (b : Base) (signed negative : Bool) (w : List ℕ) (base : ℕ) (i : Bool) (e : base ≡ base_of w) (ei : i ≡ (ltb 0 base && not (signed && same w (chars "0")))) where
-  test : i ≡ (ltb 0 (base_of w) && not (signed && same w (chars "0")))
-  test = ei ∙ ap (λ (k : ℕ). ltb 0 k && not (signed && same w (chars "0"))) e
-
-  pub an-integer : (r : Bool) → i ≡ true → r ≡ holds b (whole negative (integer w)) → r ≡ fits b (number signed negative w)
-  an-integer r t q = rw (sym test ∙ t) q
-
-  pub a-floating : (r x : Bool) → i ≡ false → x ≡ is_floating w → x ≡ true → r ≡ holds b (floating negative w) → r ≡ fits b (number signed negative w)
-  a-floating r x t y z q = rw (sym test ∙ t, sym y ∙ z) q
-
-  pub no_number : (x : Bool) → i ≡ false → x ≡ is_floating w → x ≡ false → false ≡ fits b (number signed negative w)
-  no_number x t y z = rw (sym test ∙ t, sym y ∙ z)
-
--- ── a word ──
-
-module _ (b : Base) (w : List ℕ) (o : Option Number) (t : Bool) (et : t ≡ same w (chars "true")) where
-  pub a-true : (r : Bool) → t ≡ true → r ≡ holds b (whole false 1) → r ≡ fits b (or_else (truth w) o)
-  a-true r h q = rw (sym et ∙ h) q
-
-  module _ (f : Bool) (ef : f ≡ same w (chars "false")) (ht : t ≡ false) where
-    pub a-false : (r : Bool) → f ≡ true → r ≡ holds b (whole false 0) → r ≡ fits b (or_else (truth w) o)
-    a-false r h q = rw (sym et ∙ ht, sym ef ∙ h) q
-
-    pub no_truth : (r : Bool) → f ≡ false → r ≡ fits b o → r ≡ fits b (or_else (truth w) o)
-    no_truth r h q = rw (sym et ∙ ht, sym ef ∙ h) q
-
-module _ (b : Base) (l : List ℕ) (n : ℕ) (a : Bool) (en : n ≡ run Visible l) (ea : a ≡ all Blank (take (length l - n) (drop n l))) where
-  ending : a ≡ all Blank (drop (run Visible l) l)
-  ending = ea ∙ ap (all Blank) (rest n l ∙ ap (λ (k : ℕ). drop k l) en)
-
-  pub more-words : (o : Option Number) → a ≡ false → false ≡ fits b (only_word l o)
-  more-words o h = rw (sym ending ∙ h)
-
-  pub one_word : (o : List ℕ → Option Number) (m : ℕ) (r : Bool) → a ≡ true → m ≡ n → r ≡ fits b (o (take m l)) → r ≡ fits b (only_word l (o (word l)))
-  one_word o m r h em q = rw (sym ending ∙ h) (q ∙ ap (λ (k : ℕ). fits b (o (take k l))) (em ∙ en))
-
--- ── a character ──
-
-pub a-code : (b : Base) (code : ℕ) (r : Bool) → code < 256 → r ≡ holds b (whole false code) → r ≡ fits b (character code)
-a-code b code r h q = rw (lt-ltb code 256 h) q
-
-pub no_code : (b : Base) (code : ℕ) → 256 ≤ code → false ≡ fits b (character code)
-no_code b code h = rw (le-ltb code 256 h)
-
 -- ── the whole initializer ──
 
-module _ (l : List ℕ) (c : ℕ) (ec : c ≡ first l) where
-  pub some-there : (c ≡ 0 → ⊥) → 1 ≤ length l
-  some-there h = go l ec where
-    go : (x : List ℕ) → c ≡ first x → 1 ≤ length x
-    go [] e = absurd (h e)
-    go (y ∷ ys) e = omega arith
+pub nothing : (b : Base) (l : List ℕ) → length l ≡ 0 → false ≡ fits b (initializer l)
+unfolding initializer run base_of same is_in is_floating
+nothing b [] h = refl
+nothing b (x ∷ xs) h = absurd (omega arith)
 
-  pub sign-some : (s : Bool) → s ≡ is_sign c → s ≡ true → c ≡ 0 → ⊥
-  sign-some s e t z = let q : is_sign 0 ≡ true = ap is_sign (sym z) ∙ (sym e ∙ t) in let y : ◌≡◌ {A = ℕ} 0 1 = cc in omega arith
+module _ (l : List ℕ) (c : ℕ) (ec : c ≡ first l) where
 
   module _ (b : Base) where
     pub in-quotes : (q : ℕ) (r : Bool) → c ≡ 39 → q ≡ quoted (take (length l - 1) (drop 1 l)) → r ≡ fits b (character q) → r ≡ fits b (initializer l)

@@ -1,2 +1,4 @@
 pub mod Bases
 pub mod Whole
+pub mod Signs
+pub mod Bounds

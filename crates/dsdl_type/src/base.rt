@@ -1,5 +1,6 @@
 // The base of a type (RULES 17.3).
 ghost use Rattle.std.specs.Prelude.{◌≡◌, ◌&&◌, ◌||◌, ◌≤◌, eqb};
+ghost use Rattle.std.specs.Option.{unwrap_or};
 ghost use Rattle.dsdl_text.specs.Class.{within};
 ghost use Rattle.dsdl_text.specs.Text.{chars, same as same_text};
 ghost use Rattle.dsdl_type.specs.Base.{bits_of, primitive as primitive_of, nested as nested_of, base_of, is_primitive, is_nested, is_void};
@@ -20,26 +21,26 @@ pub enum Base {
     Unknown,
 }
 
-// The number of bits behind a type's letters, or 0.
-fn bits(s: &[u8]) -> u64
-    ensures { (result ≡ bits_of s.now) × (result ≤ 99) }
+// The number of bits behind a type's letters.
+fn bits(s: &[u8]) -> Option<u32>
+    ensures { (unwrap_or result 0 ≡ bits_of s.now) × (unwrap_or result 0 ≤ 99) }
 {
     if s.len() == 0 {
-        return 0;
+        return None;
     }
     if 2 < s.len() {
-        return 0;
+        return None;
     }
     if !class::is(Class::Positive, s[0]) {
-        return 0;
+        return None;
     }
     if !class::all(Class::Decimal, s) {
-        return 0;
+        return None;
     }
-    integer::capped(s, 10)
+    Some(integer::capped(s, 10) as u32)
 }
 
-fn is_of(letters: &[u8], word: &[u8], least: u64, bits: u64) -> bool
+fn is_of(letters: &[u8], word: &[u8], least: u32, bits: u32) -> bool
     ensures { result ≡ same_text letters.now word.now && within least 64 bits }
 {
     if !text::same(letters, word) {
@@ -51,7 +52,7 @@ fn is_of(letters: &[u8], word: &[u8], least: u64, bits: u64) -> bool
     bits <= 64
 }
 
-fn is_float(letters: &[u8], bits: u64) -> bool
+fn is_float(letters: &[u8], bits: u32) -> bool
     ensures { result ≡ same_text letters.now (chars "float") && (eqb bits 16 || (eqb bits 32 || eqb bits 64)) }
 {
     if !text::same(letters, b"float") {
@@ -67,21 +68,21 @@ fn is_float(letters: &[u8], bits: u64) -> bool
 }
 
 // The type of these letters and bits, if there is one.
-fn primitive(letters: &[u8], bits: u64, other: Base) -> Base
+fn primitive(letters: &[u8], bits: u32, other: Base) -> Base
     requires { bits ≤ 99 }
     ensures { result ≡ primitive_of letters.now bits other }
 {
     if is_of(letters, b"int", 2, bits) {
-        return Base::Signed(bits as u32);
+        return Base::Signed(bits);
     }
     if is_of(letters, b"uint", 2, bits) {
-        return Base::Unsigned(bits as u32);
+        return Base::Unsigned(bits);
     }
     if is_float(letters, bits) {
-        return Base::Floating(bits as u32);
+        return Base::Floating(bits);
     }
     if is_of(letters, b"void", 1, bits) {
-        return Base::Void(bits as u32);
+        return Base::Void(bits);
     }
     other
 }
@@ -109,51 +110,33 @@ pub fn read(s: &[u8]) -> Base
         return Base::Boolean;
     }
     let n = class::run(Class::Letter, s);
-    let w = bits(&s[n..]);
-    primitive(&s[0..n], w, nested(s))
+    let other = nested(s);
+    match bits(&s[n..]) {
+        Some(w) => primitive(&s[0..n], w, other),
+        None => other,
+    }
 }
 
 // Internal. A primitive type that is not void.
 pub fn is_primitive(b: Base) -> bool
     ensures { result ≡ is_primitive b }
 {
-    match b {
-        Base::Boolean => true,
-        Base::Signed(_) => true,
-        Base::Unsigned(_) => true,
-        Base::Floating(_) => true,
-        Base::Void(_) => false,
-        Base::Nested => false,
-        Base::Unknown => false,
-    }
+    matches!(
+        b,
+        Base::Boolean | Base::Signed(_) | Base::Unsigned(_) | Base::Floating(_)
+    )
 }
 
 // Internal. A nested type.
 pub fn is_nested(b: Base) -> bool
     ensures { result ≡ is_nested b }
 {
-    match b {
-        Base::Boolean => false,
-        Base::Signed(_) => false,
-        Base::Unsigned(_) => false,
-        Base::Floating(_) => false,
-        Base::Void(_) => false,
-        Base::Nested => true,
-        Base::Unknown => false,
-    }
+    matches!(b, Base::Nested)
 }
 
 // Internal. A void type.
 pub fn is_void(b: Base) -> bool
     ensures { result ≡ is_void b }
 {
-    match b {
-        Base::Boolean => false,
-        Base::Signed(_) => false,
-        Base::Unsigned(_) => false,
-        Base::Floating(_) => false,
-        Base::Void(_) => true,
-        Base::Nested => false,
-        Base::Unknown => false,
-    }
+    matches!(b, Base::Void(_))
 }

@@ -1,11 +1,12 @@
 // The numbers that a constant of a type may have (RULES 17.7).
-ghost use Rattle.std.specs.Prelude.{◌≡◌, true, false, cond, ◌-◌, ◌^◌, ◌≤◌, ltb, length};
+ghost use Rattle.std.specs.Prelude.{◌≡◌, true, false, cond, ◌*◌, ◌-◌, ◌^◌, ◌≤◌, ◌≢◌, ltb, length};
 ghost use Rattle.dsdl_number.specs.Integer.{value};
 ghost use Rattle.dsdl_number.specs.Number.{whole};
 ghost use Rattle.dsdl_number.specs.inside.Significand.{significand as significand_of, padded, are_below};
 ghost use Rattle.dsdl_type.specs.Constant.{infinity_from, holds as holds_of};
 ghost use Rattle.dsdl_type.specs.inside.Bases.{is_base, is_sized};
 ghost use Rattle.dsdl_type.specs.inside.Whole.{whole_within, Judged};
+ghost use Rattle.dsdl_type.specs.inside.Bounds.{Bound};
 
 use super::base::Base;
 use dsdl_number::significand;
@@ -19,43 +20,46 @@ fn minus(n: usize, m: usize) -> usize
     n - m
 }
 
-// The first n digits come to less than what rounds to infinity in a float32. In the bases 16, 8 and 2 the bound ends in zeros.
-fn is_float32(s: &[u8], point: usize, n: usize, base: u64) -> bool
-    requires { (point ≤ length s.now) × ((are_below base (significand_of point s.now) ≡ true) × (is_base base ≡ true)) }
-    ensures { result ≡ ltb (value base (padded n (significand_of point s.now))) (infinity_from 32) }
+// The logarithm of a base but ten.
+fn log(base: u64) -> usize
+    requires { (is_base base ≡ true) × (base ≢ 10) }
+    ensures { (2 ^ result ≡ base) × ((1 ≤ result) × (result ≤ 4)) }
 {
-    if base == 10 {
-        return significand::is_below(s, point, n, b"340282356779733661637539395458142568448");
-    }
     if base == 16 {
-        return significand::at_most(s, point, minus(n, 25), 16, 0xffffff7);
+        return 4;
     }
     if base == 8 {
-        return significand::at_most(s, point, minus(n, 34), 8, 0x3fffffd);
+        return 3;
     }
-    significand::at_most(s, point, minus(n, 103), 2, 0x1fffffe)
+    1
 }
 
-// The same of a float64.
-fn is_float64(s: &[u8], point: usize, n: usize, base: u64) -> bool
-    requires { (point ≤ length s.now) × ((are_below base (significand_of point s.now) ≡ true) × (is_base base ≡ true)) }
-    ensures { result ≡ ltb (value base (padded n (significand_of point s.now))) (infinity_from 64) }
+// The first n digits come to less than a bound: by its digits in base ten, and in binary by some ones with zeros behind them.
+fn is_under(
+    s: &[u8],
+    point: usize,
+    n: usize,
+    base: u64,
+    decimals: &[u8],
+    ones: u64,
+    zeros: usize,
+) -> bool
+    requires digits { (point ≤ length s.now) × ((are_below base (significand_of point s.now) ≡ true) × (is_base base ≡ true)) }
+    requires bound { Bound decimals.now ones zeros }
+    ensures { result ≡ ltb (value base (padded n (significand_of point s.now))) (ones * 2 ^ zeros) }
 {
     if base == 10 {
-        return significand::is_below(
-            s,
-            point,
-            n,
-            b"179769313486231580793728971405303415079934132710037826936173778980444968292764750946649017977587207096330286416692887910946555547851940402630657488671505820681908902000708383676273854845817711531764475730270069855571366959622842914819860834936475292719074168444365510704342711559699508093042880177904174497792",
-        );
+        return significand::is_below(s, point, n, decimals);
     }
-    if base == 16 {
-        return significand::at_most(s, point, minus(n, 242), 16, 0xfffffffffffffb);
-    }
-    if base == 8 {
-        return significand::at_most(s, point, minus(n, 323), 8, 0x7ffffffffffffd);
-    }
-    significand::at_most(s, point, minus(n, 970), 2, 0x3ffffffffffffe)
+    // In the other bases the bound ends in zeros as well.
+    let k = log(base);
+    significand::at_most(
+        s,
+        point,
+        minus(n, zeros / k),
+        base,
+        (ones << (zeros % k)) - 1,
+    )
 }
 
 // Internal. The first n digits come to less than what rounds to infinity in a floating type of so many bits.
@@ -63,13 +67,29 @@ pub fn is_finite(bits: u32, s: &[u8], point: usize, n: usize, base: u64) -> bool
     requires { (point ≤ length s.now) × ((are_below base (significand_of point s.now) ≡ true) × (is_base base ≡ true)) }
     ensures { result ≡ ltb (value base (padded n (significand_of point s.now))) (infinity_from bits) }
 {
-    if bits == 32 {
-        return is_float32(s, point, n, base);
-    }
     if bits == 16 {
         return significand::at_most(s, point, n, base, 65519);
     }
-    is_float64(s, point, n, base)
+    if bits == 32 {
+        return is_under(
+            s,
+            point,
+            n,
+            base,
+            b"340282356779733661637539395458142568448",
+            0x1ffffff,
+            103,
+        );
+    }
+    is_under(
+        s,
+        point,
+        n,
+        base,
+        b"179769313486231580793728971405303415079934132710037826936173778980444968292764750946649017977587207096330286416692887910946555547851940402630657488671505820681908902000708383676273854845817711531764475730270069855571366959622842914819860834936475292719074168444365510704342711559699508093042880177904174497792",
+        0x3fffffffffffff,
+        970,
+    )
 }
 
 // Internal. The digits behind the first n are zeros, and the first n come to at most m.

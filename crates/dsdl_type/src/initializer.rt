@@ -1,11 +1,13 @@
 // The values of initializers, and the types that hold them (RULES 17.6, 17.7).
-ghost use Rattle.std.specs.Prelude.{◌≡◌, true, false, not, cond, ◌&&◌, ◌+◌, ◌<◌, ltb};
-ghost use Rattle.dsdl_text.specs.Text.{chars, same, first};
+ghost use Rattle.std.specs.Prelude.{◌≡◌, true, false, not, cond, ◌&&◌, ◌+◌, ◌<◌, ltb, MatchOption};
+ghost use Rattle.std.specs.Option.{unwrap_or};
+ghost use Rattle.dsdl_text.specs.Text.{chars, same};
 ghost use Rattle.dsdl_text.specs.Words.{word};
-ghost use Rattle.dsdl_number.specs.Integer.{base_of, integer as integer_of};
-ghost use Rattle.dsdl_number.specs.Number.{is_sign, whole, floating as floating_of, character as character_of, number, truth, or_else, only_word, initializer};
+ghost use Rattle.dsdl_number.specs.Integer.{base_of, is_integer, integer as integer_of};
+ghost use Rattle.dsdl_number.specs.Number.{is_sign, whole, floating as floating_of, character as character_of, number, only_word, initializer};
 ghost use Rattle.dsdl_type.specs.Constant.{holds, fits as fits_of};
 ghost use Rattle.dsdl_type.specs.inside.Bases.{is_sized};
+ghost use Rattle.dsdl_type.specs.inside.Signs.{value_behind};
 
 use super::base::Base;
 use super::constant;
@@ -48,17 +50,16 @@ fn floating_fits(b: Base, negative: bool, w: &[u8]) -> bool
     constant::holds(b, negative, &w[0..end], before, n, 10)
 }
 
-// An integer literal stands here; the literal `0` has no sign before it.
-fn is_integer(signed: bool, w: &[u8], base: u64) -> bool
-    ensures { result ≡ ltb 0 base && not (signed && same w.now (chars "0")) }
+// The base of an integer literal behind a sign or none; the literal `0` has no sign before it.
+fn base_behind(signed: bool, w: &[u8]) -> Option<u64>
+    ensures { MatchOption result ((is_integer w.now && not (signed && same w.now (chars "0"))) ≡ false) (λ n. ((is_integer w.now && not (signed && same w.now (chars "0"))) ≡ true) × ((n ≡ base_of w.now) × (0 < n))) }
 {
-    if base == 0 {
-        return false;
-    }
     if signed {
-        return !text::same(w, b"0");
+        if text::same(w, b"0") {
+            return None;
+        }
     }
-    true
+    integer::base(w)
 }
 
 // A number, with a sign before it or none.
@@ -66,8 +67,7 @@ fn number_fits(b: Base, signed: bool, negative: bool, w: &[u8]) -> bool
     requires { is_sized b ≡ true }
     ensures { result ≡ fits_of b (number signed negative w.now) }
 {
-    let base = integer::base(w);
-    if is_integer(signed, w, base) {
+    if let Some(base) = base_behind(signed, w) {
         return integer_fits(b, negative, w, base);
     }
     if floating::is_floating(w) {
@@ -76,11 +76,14 @@ fn number_fits(b: Base, signed: bool, negative: bool, w: &[u8]) -> bool
     false
 }
 
-// A word with no sign before it.
-fn word_fits(b: Base, w: &[u8]) -> bool
+// A word with a sign before it, true for a minus, or none.
+fn word_fits(b: Base, sign: Option<bool>, w: &[u8]) -> bool
     requires { is_sized b ≡ true }
-    ensures { result ≡ fits_of b (or_else (truth w.now) (number false false w.now)) }
+    ensures { result ≡ fits_of b (value_behind sign w.now) }
 {
+    if let Some(negative) = sign {
+        return number_fits(b, true, negative, w);
+    }
     if text::same(w, b"true") {
         return constant::holds_code(b, 1);
     }
@@ -90,48 +93,27 @@ fn word_fits(b: Base, w: &[u8]) -> bool
     number_fits(b, false, false, w)
 }
 
-// One word with no sign before it, and nothing but blanks behind it.
-fn unsigned_fits(b: Base, l: &[u8]) -> bool
+// One such word, and nothing but blanks behind it.
+fn last_fits(b: Base, sign: Option<bool>, l: &[u8]) -> bool
     requires { is_sized b ≡ true }
-    ensures { result ≡ fits_of b (only_word l.now (or_else (truth (word l.now)) (number false false (word l.now)))) }
+    ensures { result ≡ fits_of b (only_word l.now (value_behind sign (word l.now))) }
 {
     let n = class::run(Class::Visible, l);
     if !class::all(Class::Blank, &l[n..]) {
         return false;
     }
-    word_fits(b, &l[0..n])
+    word_fits(b, sign, &l[0..n])
 }
 
-// One word behind a sign, and nothing but blanks behind it.
-fn signed_fits(b: Base, negative: bool, l: &[u8]) -> bool
+// A character by its code.
+fn character_fits(b: Base, code: Option<u8>) -> bool
     requires { is_sized b ≡ true }
-    ensures { result ≡ fits_of b (only_word l.now (number true negative (word l.now))) }
+    ensures { result ≡ fits_of b (character_of (unwrap_or code 256)) }
 {
-    let n = class::run(Class::Visible, l);
-    if !class::all(Class::Blank, &l[n..]) {
-        return false;
+    match code {
+        Some(c) => constant::holds_code(b, c as u64),
+        None => false,
     }
-    number_fits(b, true, negative, &l[0..n])
-}
-
-// A character by its code, or 256.
-fn character_fits(b: Base, code: u64) -> bool
-    requires { is_sized b ≡ true }
-    ensures { result ≡ fits_of b (character_of code) }
-{
-    if code < 256 {
-        return constant::holds_code(b, code);
-    }
-    false
-}
-
-fn front(l: &[u8]) -> u8
-    ensures { result ≡ first l.now }
-{
-    if l.len() == 0 {
-        return 0;
-    }
-    l[0]
 }
 
 fn is_sign(c: u8) -> bool
@@ -148,13 +130,16 @@ pub fn fits(b: Base, l: &[u8]) -> bool
     requires { is_sized b ≡ true }
     ensures { result ≡ fits_of b (initializer l.now) }
 {
-    let c = front(l);
+    if l.len() == 0 {
+        return false;
+    }
+    let c = l[0];
     if c == 39 {
         return character_fits(b, character::quoted(&l[1..]));
     }
     if is_sign(c) {
         let at = 1 + class::run(Class::Blank, &l[1..]);
-        return signed_fits(b, c == 45, &l[at..]);
+        return last_fits(b, Some(c == 45), &l[at..]);
     }
-    unsigned_fits(b, l)
+    last_fits(b, None, l)
 }

@@ -1,5 +1,6 @@
 // The size of an array (RULES 17.4).
 ghost use Rattle.std.specs.Prelude.{◌≡◌, ◌-◌, min};
+ghost use Rattle.std.specs.Option.{unwrap_or};
 ghost use Rattle.dsdl_number.specs.inside.Capped.{cap};
 ghost use Rattle.dsdl_type.specs.Size.{unsigned as unsigned_of, count as count_of, bounds_of, items_by, is_bracketed, items as items_of, size_fits};
 
@@ -13,26 +14,23 @@ pub enum Bounds {
     AtMost,
 }
 
-// An integer literal, cut to CAP; 0 of a text that is none.
-fn unsigned(s: &[u8]) -> u64
-    ensures { result ≡ min (unsigned_of s.now) cap }
+// An integer literal, cut to CAP.
+fn unsigned(s: &[u8]) -> Option<u64>
+    ensures { unwrap_or result 0 ≡ min (unsigned_of s.now) cap }
 {
-    let b = integer::base(s);
-    if b == 0 {
-        return 0;
-    }
+    let b = integer::base(s)?;
     if b == 10 {
-        return integer::capped(s, 10);
+        return Some(integer::capped(s, 10));
     }
-    integer::capped(&s[2..], b)
+    Some(integer::capped(&s[2..], b))
 }
 
 // The same, with a plus before it or none.
-fn count(s: &[u8]) -> u64
-    ensures { result ≡ min (count_of s.now) cap }
+fn count(s: &[u8]) -> Option<u64>
+    ensures { unwrap_or result 0 ≡ min (count_of s.now) cap }
 {
     if s.len() == 0 {
-        return 0;
+        return None;
     }
     if s[0] == 43 {
         return unsigned(&s[1..]);
@@ -69,19 +67,19 @@ fn at_most(n: u64) -> u64
 }
 
 // The largest number of items by what is between the brackets, cut to one less than CAP.
-fn items_by(s: &[u8]) -> u64
-    ensures { result ≡ min (items_by (bounds_of s.now) s.now) (cap - 1) }
+fn items_by(s: &[u8]) -> Option<u64>
+    ensures { unwrap_or result 0 ≡ min (items_by (bounds_of s.now) s.now) (cap - 1) }
 {
     match bounds_of(s) {
-        Bounds::Exactly => at_most(count(s)),
+        Bounds::Exactly => Some(at_most(count(s)?)),
         Bounds::Below => {
-            let n = count(&s[1..]);
+            let n = count(&s[1..])?;
             if n == 0 {
-                return 0;
+                return None;
             }
-            n - 1
+            Some(n - 1)
         }
-        Bounds::AtMost => at_most(count(&s[2..])),
+        Bounds::AtMost => Some(at_most(count(&s[2..])?)),
     }
 }
 
@@ -99,12 +97,12 @@ pub fn is_bracketed(s: &[u8]) -> bool
     s[n - 1] == 93
 }
 
-// Internal. The largest number of items, cut to one less than CAP; 0 of what is no size.
-pub fn items(s: &[u8]) -> u64
-    ensures { result ≡ min (items_of s.now) (cap - 1) }
+// Internal. The largest number of items, cut to one less than CAP.
+pub fn items(s: &[u8]) -> Option<u64>
+    ensures { unwrap_or result 0 ≡ min (items_of s.now) (cap - 1) }
 {
     if !is_bracketed(s) {
-        return 0;
+        return None;
     }
     let end = s.len() - 1;
     items_by(&s[1..end])
@@ -117,5 +115,8 @@ pub fn fits(s: &[u8]) -> bool
     if s.len() == 0 {
         return true;
     }
-    0 < items(s)
+    match items(s) {
+        Some(n) => 0 < n,
+        None => false,
+    }
 }

@@ -11,24 +11,12 @@ use Rattle.dsdl.proofs.names.is_among.Goals as goal
 pub loop-i-init : goal.loop-i-init
 loop-i-init c = (omega arith, refl)
 
-pub overflow_sub-i : goal.overflow_sub-i
-overflow_sub-i c = omega arith
-
-pub offset_bounds-seen-i : goal.offset_bounds-seen-i
-offset_bounds-seen-i c = omega arith
-
-pub bounds-seen-i : goal.bounds-seen-i
-bounds-seen-i c = omega arith
-
 pub returns-then-is_at : goal.returns-then-is_at
 returns-then-is_at c =
     let a = c.args in
     let e : suc (c.loop-i.i - 1) ≡ c.loop-i.i = omega arith in
     sym (sym c.loop-i.invariant.1 ∙ (ap (λ (j : ℕ). is_among a.x.now (names_at a.t.now a.seen.now j)) (sym e)
     ∙ among_first a.t.now a.seen.now (c.loop-i.i - 1) a.x.now (by c.is_at.ensures c.if-is_at.true)))
-
-pub loop-i-smaller : goal.loop-i-smaller
-loop-i-smaller c = omega arith
 
 pub loop-i-preserved : goal.loop-i-preserved
 loop-i-preserved c =

@@ -6,6 +6,3 @@ use Rattle.dsdl.proofs.names.is_among.Given as goal
 
 abbrev pub invariant-loop-i : goal.invariant-loop-i
 invariant-loop-i l = (l.i ≤ l.n) × (is_among l.x (names_at l.t l.seen l.i) ≡ is_among l.x (names_at l.t l.seen l.n))
-
-abbrev pub decreases-loop-i : goal.decreases-loop-i
-decreases-loop-i l = l.i

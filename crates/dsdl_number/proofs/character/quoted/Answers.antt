@@ -1,7 +1,6 @@
 -- `character::quoted` meets its contract.
 use Rattle.dsdl_text.proofs.Choices.{by}
 use Rattle.dsdl_number.proofs.Characters.{two-few, alone, alone-open, letter, letter-open, digits, digits-open}
-use native.Mathlib.Omega.{arith}
 use Rattle.dsdl_number.proofs.character.quoted.Goals as goal
 
 pub returns-then-s-lt2 : goal.returns-then-s-lt2
@@ -26,9 +25,6 @@ pub returns-then-s-ne120 : goal.returns-then-s-ne120
 returns-then-s-ne120 c =
     let s = c.args.s.now in
     letter-open s c.if-s-ne92.false c.if-s-ne120.true (by c.is_closed-then-s-ne120.ensures.0 c.if-is_closed-2.false)
-
-pub slice_bounds-coded-end : goal.slice_bounds-coded-end
-slice_bounds-coded-end c = omega (arith, c.is_closed-2.ensures.1 c.if-is_closed-3.true)
 
 pub returns-then-is_closed-3 : goal.returns-then-is_closed-3
 returns-then-is_closed-3 c =

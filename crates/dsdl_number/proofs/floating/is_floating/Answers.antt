@@ -1,6 +1,5 @@
 -- `floating::is_floating` meets its contract.
 use Rattle.dsdl_number.proofs.Floats.{no_number, exponent-only, fraction-only, both, room}
-use native.Mathlib.Omega.{arith}
 use Rattle.dsdl_number.proofs.floating.is_floating.Goals as goal
 
 pub returns-then-i-eq0 : goal.returns-then-i-eq0
@@ -11,25 +10,10 @@ returns-then-f-eq0 c =
     let s = c.args.s.now in
     exponent-only s c.run-i.result c.fraction_length-f.result c.run-i.ensures.0 c.if-i-eq0.false c.fraction_length-f.ensures.0 _ c.if-f-eq0.true c.is_exponent.ensures
 
-pub overflow_add-p-2 : goal.overflow_add-p-2
-overflow_add-p-2 c =
-    let s = c.args.s.now in
-    omega (arith, room s c.run-i.result c.fraction_length-f.result c.if-f-eq0.false c.fraction_length-f.ensures.1)
-
 pub returns-then-p-s : goal.returns-then-p-s
 returns-then-p-s c =
     let s = c.args.s.now in
     fraction-only s c.run-i.result c.fraction_length-f.result c.run-i.ensures.0 c.if-i-eq0.false c.fraction_length-f.ensures.0 c.if-f-eq0.false c.if-p-s.true
-
-pub slice_bounds-is_exponent-count-2 : goal.slice_bounds-is_exponent-count-2
-slice_bounds-is_exponent-count-2 c =
-    let s = c.args.s.now in
-    room s c.run-i.result c.fraction_length-f.result c.if-f-eq0.false c.fraction_length-f.ensures.1
-
-pub slice_bounds-is_exponent-start-2 : goal.slice_bounds-is_exponent-start-2
-slice_bounds-is_exponent-start-2 c =
-    let s = c.args.s.now in
-    room s c.run-i.result c.fraction_length-f.result c.if-f-eq0.false c.fraction_length-f.ensures.1
 
 pub returns : goal.returns
 returns c =

@@ -5,14 +5,8 @@ use Rattle.dsdl_number.specs.Integer.{digit_of}
 use lib.ListN.{get_or}
 use native.Mathlib.Omega.{arith}
 use native.Mathlib.Numerals.{add-one}
-use mathlib.Core.Path.{◌≡◌, refl, sym, ap, ◌∙◌}
+use mathlib.Core.Path.{◌≡◌, sym, ap, ◌∙◌}
 use Rattle.dsdl_number.proofs.significand.are_zero.Goals as goal
-
-pub loop-k-init : goal.loop-k-init
-loop-k-init c = refl
-
-pub digit_at-requires : goal.digit_at-requires
-digit_at-requires c = c.requires
 
 pub returns-then-digit_at-ne0 : goal.returns-then-digit_at-ne0
 returns-then-digit_at-ne0 c =
@@ -21,12 +15,6 @@ returns-then-digit_at-ne0 c =
     = padded-at a.to (significand a.point a.s.now) c.loop-k.k 48 (omega arith) in
     sym (zero-stop (padded a.to (significand a.point a.s.now)) c.loop-k.k (λ e. c.if-digit_at-ne0.true (c.digit_at.ensures.0 ∙ (ap digit_of (sym p) ∙ e))))
     ∙ c.loop-k.invariant
-
-pub overflow_add-k : goal.overflow_add-k
-overflow_add-k c = omega arith
-
-pub loop-k-smaller : goal.loop-k-smaller
-loop-k-smaller c = omega arith
 
 pub loop-k-preserved : goal.loop-k-preserved
 loop-k-preserved c =

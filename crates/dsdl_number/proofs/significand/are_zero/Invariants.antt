@@ -1,11 +1,8 @@
 use Rattle.dsdl_number.specs.inside.Significand.{significand, padded, are_zero}
 use lib.ListN.{drop}
-use Prim.Native.Nat.{◌-◌}
 use mathlib.Core.Path.{◌≡◌}
 use Rattle.dsdl_number.proofs.significand.are_zero.Given as goal
 
 abbrev pub invariant-loop-k : goal.invariant-loop-k
 invariant-loop-k l = are_zero (drop l.k (padded l.to (significand l.point l.s))) ≡ are_zero (drop l.from (padded l.to (significand l.point l.s)))
 
-abbrev pub decreases-loop-k : goal.decreases-loop-k
-decreases-loop-k l = l.to - l.k

@@ -5,7 +5,6 @@ use Rattle.dsdl_number.specs.Integer.{digit_of}
 use Rattle.dsdl_number.specs.inside.Significand.{significand, is_less}
 use lib.ListN.{length, get_or, drop}
 use native.Mathlib.Omega.{arith}
-use native.Mathlib.Nat.{add-zero}
 use native.Mathlib.Numerals.{add-one}
 use Prim.Native.Nat.{ℕ, suc, ◌+◌, ◌<◌}
 use mathlib.Core.Path.{◌≡◌, sym, ap, ◌∙◌}
@@ -20,22 +19,6 @@ digit-in s point from n i d h e = (
   omega (arith, padded-length (from + n) (significand point s)),
   e ∙ ap digit_of (sym (padded-at (from + n) (significand point s) (from + i) 0 (omega arith))),
 )
-
-pub loop-i-init : goal.loop-i-init
-loop-i-init c =
-    let a = c.args in (
-      omega arith,
-      ap (λ (k : ℕ). is_less (drop k (front a.s.now a.point a.from (length a.bound.now))) a.bound.now) (add-zero a.from),
-    )
-
-pub overflow_add-from : goal.overflow_add-from
-overflow_add-from c = omega (arith, c.requires.1)
-
-pub digit_at-d-requires : goal.digit_at-d-requires
-digit_at-d-requires c = c.requires.0
-
-pub bounds-bound-i : goal.bounds-bound-i
-bounds-bound-i c = omega arith
 
 pub returns-then-d-e : goal.returns-then-d-e
 returns-then-d-e c =
@@ -53,12 +36,6 @@ returns-then-e-d c =
     let p = front a.s.now a.point a.from n in
     more-here p a.bound.now (a.from + c.loop-i.i) c.loop-i.i c.digit_at-d.result c.digit-e.result i.0 (omega arith) i.1 c.digit-e.ensures.0
     c.if-d-e.false c.if-e-d.true ∙ c.loop-i.invariant.1
-
-pub overflow_add-i : goal.overflow_add-i
-overflow_add-i c = omega arith
-
-pub loop-i-smaller : goal.loop-i-smaller
-loop-i-smaller c = omega arith
 
 pub loop-i-preserved : goal.loop-i-preserved
 loop-i-preserved c =

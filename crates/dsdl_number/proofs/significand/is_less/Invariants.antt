@@ -1,6 +1,6 @@
 use Rattle.dsdl_number.specs.inside.Significand.{significand, padded, is_less}
 use lib.ListN.{length, drop}
-use Prim.Native.Nat.{ℕ, ◌+◌, ◌-◌, ◌≤◌}
+use Prim.Native.Nat.{ℕ, ◌+◌, ◌≤◌}
 use mathlib.Core.Path.{◌≡◌}
 use mathlib.Core.List.{List}
 use Rattle.dsdl_number.proofs.significand.is_less.Given as goal
@@ -13,5 +13,3 @@ invariant-loop-i l =
     (l.i ≤ length l.bound)
     × (is_less (drop (l.from + l.i) (front l.s l.point l.from (length l.bound))) (drop l.i l.bound) ≡ is_less (drop l.from (front l.s l.point l.from (length l.bound))) l.bound)
 
-abbrev pub decreases-loop-i : goal.decreases-loop-i
-decreases-loop-i l = length l.bound - l.i

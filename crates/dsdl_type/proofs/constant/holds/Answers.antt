@@ -1,35 +1,6 @@
 -- `constant::holds` meets its contract.
-use Rattle.dsdl_type.proofs.Finite.{base-bounds}
-use Rattle.dsdl_type.proofs.Holding.{signed-bits, unsigned-bits, held-boolean, held-signed, held-unsigned, held-floating, of-void, of-nested, of-unknown}
-use lib.Pow.{pow_mono}
-use Prim.Native.Nat.{◌-◌, ◌^◌, ◌≤◌}
-use native.Mathlib.Omega.{arith}
+use Rattle.dsdl_type.proofs.Holding.{held-boolean, held-signed, held-unsigned, held-floating, of-void, of-nested, of-unknown}
 use Rattle.dsdl_type.proofs.constant.holds.Goals as goal
-
-pub is_within-requires : goal.is_within-requires
-is_within-requires c = (c.requires.1.0, base-bounds c.args.base c.requires.1.1.1)
-
-pub overflow_sub-bits : goal.overflow_sub-bits
-overflow_sub-bits c = let p = signed-bits c.args.b _ c.requires.0 c.in-Signed.is in omega arith
-
-pub ones-m-requires : goal.ones-m-requires
-ones-m-requires c = let p = signed-bits c.args.b _ c.requires.0 c.in-Signed.is in omega arith
-
-pub overflow_add-m : goal.overflow_add-m
-overflow_add-m c =
-    let p = signed-bits c.args.b _ c.requires.0 c.in-Signed.is in
-    let q : c.in-Signed.bits - 1 ≤ 63 = omega arith in
-    let w : 2 ^ (c.in-Signed.bits - 1) ≤ 2 ^ 63 = pow_mono q in
-    omega (arith, c.ones-m.ensures)
-
-pub is_within-requires-in-Signed : goal.is_within-requires-in-Signed
-is_within-requires-in-Signed c = (c.requires.1.0, base-bounds c.args.base c.requires.1.1.1)
-
-pub ones-m-requires-in-Unsigned : goal.ones-m-requires-in-Unsigned
-ones-m-requires-in-Unsigned c = (unsigned-bits c.args.b _ c.requires.0 c.in-Unsigned.is).1
-
-pub is_within-requires-in-Unsigned : goal.is_within-requires-in-Unsigned
-is_within-requires-in-Unsigned c = (c.requires.1.0, base-bounds c.args.base c.requires.1.1.1)
 
 pub returns-in-Boolean : goal.returns-in-Boolean
 returns-in-Boolean c =

@@ -1,16 +1,6 @@
 -- `constant::holds_code` meets its contract.
-use Rattle.dsdl_type.proofs.Holding.{signed-bits, unsigned-bits, code-boolean, code-signed, code-unsigned, code-floating, of-void, of-nested, of-unknown}
-use native.Mathlib.Omega.{arith}
+use Rattle.dsdl_type.proofs.Holding.{code-boolean, code-signed, code-unsigned, code-floating, of-void, of-nested, of-unknown}
 use Rattle.dsdl_type.proofs.constant.holds_code.Goals as goal
-
-pub overflow_sub-bits : goal.overflow_sub-bits
-overflow_sub-bits c = let p = signed-bits c.args.b _ c.requires.0 c.in-Signed.is in omega arith
-
-pub ones-requires : goal.ones-requires
-ones-requires c = let p = signed-bits c.args.b _ c.requires.0 c.in-Signed.is in omega arith
-
-pub ones-requires-in-Unsigned : goal.ones-requires-in-Unsigned
-ones-requires-in-Unsigned c = (unsigned-bits c.args.b _ c.requires.0 c.in-Unsigned.is).1
 
 pub returns-in-Boolean : goal.returns-in-Boolean
 returns-in-Boolean c = let a = c.args in code-boolean a.b a.code c.in-Boolean.is

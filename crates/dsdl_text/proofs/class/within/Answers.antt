@@ -1,8 +1,0 @@
-use borrow.Author.Tests.{lt-leb, le-leb}
-use Rattle.dsdl_text.proofs.class.within.Goals as goal
-
-pub returns-then-c-a : goal.returns-then-c-a
-returns-then-c-a c = simp (lt-leb _ _ c.if-c-a.true)
-
-pub returns : goal.returns
-returns c = simp (le-leb _ _ c.if-c-a.false)
