@@ -81,9 +81,7 @@ fn clear(state: &mut [u8], n: usize)
     requires { n ≤ length state.old }
     ensures { state.new ≡ replicate n 0 ++ drop n state.old }
 {
-    for i in 0..n {
-        state[i] = 0;
-    }
+    state[..n].fill(0);
 }
 
 // Subscription j, from record j.

@@ -1,8 +1,0 @@
-use mathlib.Core.Path.{◌≡◌}
-use mathlib.Core.List.{◌++◌}
-use Prim.Native.Nat.{◌≤◌}
-use lib.ListN.{length, drop, replicate}
-use Rattle.setup.proofs.clear.Given as goal
-
-abbrev pub invariant-loop-i : goal.invariant-loop-i
-invariant-loop-i l = (l.i ≤ l.n) × ((length l.state ≡ length l.initial.state) × (l.state ≡ replicate l.i 0 ++ drop l.i l.initial.state))
