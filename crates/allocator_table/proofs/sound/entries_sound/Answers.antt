@@ -24,9 +24,6 @@ loop-i-init c =
     let a = c.args in
     ((omega arith, none a.state.now a.n), seen_none a.state.now a.n _ refl)
 
-pub overflow_sub-i : goal.overflow_sub-i
-overflow_sub-i c = omega arith
-
 pub entry_fits-requires : goal.entry_fits-requires
 entry_fits-requires c =
     let a = c.args in
@@ -54,9 +51,6 @@ bounds-seen-node c =
     let a = c.args in
     let w = node-small (entry_at a.state.now (c.loop-i.i - 1)) _ (sym c.entry_fits.ensures ∙ c.if-not-entry_fits.false) in
     omega (arith, c.node-node.ensures, c.loop-i.invariant.1.long)
-
-pub loop-i-smaller : goal.loop-i-smaller
-loop-i-smaller c = omega arith
 
 pub loop-i-preserved : goal.loop-i-preserved
 loop-i-preserved c =

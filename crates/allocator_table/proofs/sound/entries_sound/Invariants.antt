@@ -8,6 +8,3 @@ use Rattle.allocator_table.proofs.sound.entries_sound.Given as goal
 
 abbrev pub invariant-loop-i : goal.invariant-loop-i
 invariant-loop-i l = ((l.i ≤ l.n) × (sound (rest l.state l.i l.n) ≡ true)) × Seen l.seen (rest l.state l.i l.n)
-
-abbrev pub decreases-loop-i : goal.decreases-loop-i
-decreases-loop-i l = l.i
