@@ -1,5 +1,5 @@
 -- `find::is_held` meets its contract: no entry passed has the node ID.
-use mathlib.Core.Path.{refl, sym, ap, ◌∙◌}
+use mathlib.Core.Path.{sym, ap, ◌∙◌}
 use native.Mathlib.Numerals.{add-one}
 use native.Mathlib.Omega.{arith}
 use borrow.Author.Tests.{eq-eqb, ne_eqb}
@@ -10,9 +10,6 @@ use Rattle.allocator_table.proofs.find.is_held.Goals as goal
 
 pub count-n-requires : goal.count-n-requires
 count-n-requires c = long-enough _ c.requires
-
-pub loop-i-init : goal.loop-i-init
-loop-i-init c = refl
 
 pub node-requires : goal.node-requires
 node-requires c =

@@ -1,5 +1,5 @@
 -- `find::node_of` meets its contract: no entry passed has the unique ID.
-use mathlib.Core.Path.{refl, sym, ap, ◌∙◌}
+use mathlib.Core.Path.{sym, ap, ◌∙◌}
 use Rattle.std.specs.Prelude.{Some}
 use Prim.Native.Nat.{ℕ}
 use native.Mathlib.Numerals.{add-one}
@@ -13,9 +13,6 @@ use Rattle.allocator_table.proofs.find.node_of.Goals as goal
 
 pub count-n-requires : goal.count-n-requires
 count-n-requires c = long-enough _ c.requires
-
-pub loop-i-init : goal.loop-i-init
-loop-i-init c = refl
 
 pub unique_id-requires : goal.unique_id-requires
 unique_id-requires c =

@@ -13,9 +13,6 @@ use Rattle.allocator_table.proofs.find.place_for.Goals as goal
 pub count-n-requires : goal.count-n-requires
 count-n-requires c = long-enough _ c.requires
 
-pub loop-i-init : goal.loop-i-init
-loop-i-init c = omega arith
-
 pub unique_id-requires : goal.unique_id-requires
 unique_id-requires c =
     let l = long-enough c.args.state.now c.requires in

@@ -1,14 +1,11 @@
 -- `free::downwards` meets its contract: no node ID passed is free.
-use mathlib.Core.Path.{refl, sym, ap, ◌∙◌}
+use mathlib.Core.Path.{sym, ap, ◌∙◌}
 use Prim.Native.Nat.{◌-◌}
 use native.Mathlib.Omega.{arith}
 use Rattle.allocator_table.specs.inside.Code.{optional}
 use Rattle.allocator_table.proofs.Search.{high-hit, high-miss, high-none}
 use Rattle.allocator_table.proofs.free.downwards.Invariants.{free}
 use Rattle.allocator_table.proofs.free.downwards.Goals as goal
-
-pub loop-n-init : goal.loop-n-init
-loop-n-init c = refl
 
 pub is_free-requires : goal.is_free-requires
 is_free-requires c = (c.requires.0, omega arith)

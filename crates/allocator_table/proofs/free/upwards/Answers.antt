@@ -1,5 +1,5 @@
 -- `free::upwards` meets its contract: no node ID passed is free.
-use mathlib.Core.Path.{refl, sym, ap, ◌∙◌}
+use mathlib.Core.Path.{sym, ap, ◌∙◌}
 use Prim.Native.Nat.{suc}
 use native.Mathlib.Numerals.{add-one}
 use native.Mathlib.Omega.{arith}
@@ -8,9 +8,6 @@ use Rattle.allocator_table.specs.inside.Code.{optional}
 use Rattle.allocator_table.proofs.Search.{low-hit, low-miss, low-none}
 use Rattle.allocator_table.proofs.free.upwards.Invariants.{free}
 use Rattle.allocator_table.proofs.free.upwards.Goals as goal
-
-pub loop-n-init : goal.loop-n-init
-loop-n-init c = refl
 
 pub is_free-requires : goal.is_free-requires
 is_free-requires c = (c.requires.0, omega arith)
