@@ -3,15 +3,11 @@
 use Rattle.std.specs.Prelude.{Bool, List, ℕ, pos, length, drop}
 use Rattle.binary16.specs.Convert.{float_of, binary16_of}
 use Rattle.bits.specs.Order.{from_bits}
-use Rattle.shape.specs.Answer.{Answer, refused, got, Numbered, numbered, map_answer}
+use Rattle.shape.specs.Answer.{Answer, Numbered, numbered, map_answer}
 use Rattle.shape.specs.Shape.{Shape, uint, raw, tail, Values, anything, decoded}
 use Rattle.shape.specs.declared.answer.Place.{Place}
 use Rattle.equipment_power.specs.declared.battery_info.BatteryInfo.{BatteryInfo}
 use Rattle.equipment_power.specs.declared.battery_info.Raw.{Raw}
-use Rattle.equipment_power.specs.declared.battery_info.Read.{Read}
-use Rattle.equipment_power.specs.declared.battery_info.Read.TheVariants as read
-use Rattle.equipment_power.specs.declared.battery_info.ReadRaw.{ReadRaw}
-use Rattle.equipment_power.specs.declared.battery_info.ReadRaw.TheVariants as read_raw
 
 -- the floats, the other numbers, and what follows them
 abbrev pub floats_then : Shape → Shape
@@ -62,10 +58,6 @@ raw_of (t, (v, (c, (p, (r, (f, (h, (flags, (health, (charge, (deviation, (id, (m
   },
   record { at = 23; len = length name },
 )
-
-abbrev pub raw_answer_of : ReadRaw → Numbered (Raw × Place)
-raw_answer_of (read_raw.Refused n) = numbered (refused n)
-raw_answer_of (read_raw.Got m place) = numbered (got (m, place))
 
 -- what a payload gives
 abbrev pub raw_in : List ℕ → Answer (Raw × Place)
@@ -130,10 +122,6 @@ narrowed_info x =
 
 abbrev pub with_floats : Raw × Place → BatteryInfo × Place
 with_floats (m, place) = (widened_info m, place)
-
-abbrev pub answer_of : Read → Numbered (BatteryInfo × Place)
-answer_of (read.Refused n) = numbered (refused n)
-answer_of (read.Got x place) = numbered (got (x, place))
 
 abbrev pub info_in : List ℕ → Answer (BatteryInfo × Place)
 info_in p = map_answer with_floats (raw_in p)

@@ -3,14 +3,14 @@
 ghost use Rattle.std.specs.Prelude.{◌≡◌, ◌+◌, ◌*◌, ◌≤◌, ◌<◌, ◌^◌, length, drop};
 ghost use Rattle.bits.specs.Order.{unpack, to_bits, from_bits, store};
 ghost use Rattle.shape.specs.Answer as answer;
-ghost use Rattle.shape.specs.Answer.{numbered};
+ghost use Rattle.shape.specs.Answer.{numbered, answer_of};
 ghost use Rattle.shape.specs.Shape as shape;
 ghost use Rattle.shape.specs.Shape.{end, written};
-ghost use Rattle.equipment_power.specs.BatteryInfo.{floats_then, others_then, name_only, battery_info, model_name_in, float_values, other_values, raw_values, raw_in, raw_answer_of, widened_info, narrowed_info, info_in, answer_of, raw_at};
+ghost use Rattle.equipment_power.specs.BatteryInfo.{floats_then, others_then, name_only, battery_info, model_name_in, float_values, other_values, raw_values, raw_in, widened_info, narrowed_info, info_in, raw_at};
 
 use binary16::float;
 use bits::field;
-use shape::answer::{Place, Written};
+use shape::answer::{Place, Refusal};
 use shape::{number, part};
 
 #[derive(Drop)]
@@ -46,19 +46,6 @@ pub struct Raw {
     pub state_of_charge_pct_stdev: i64,
     pub battery_id: i64,
     pub model_instance_id: i64,
-}
-
-// With the place of the model name.
-#[derive(Drop)]
-pub enum Read {
-    Refused(u32),
-    Got(BatteryInfo, Place),
-}
-
-#[derive(Drop)]
-pub enum ReadRaw {
-    Refused(u32),
-    Got(Raw, Place),
 }
 
 // The model name, as a part of the payload: all after the first 23 bytes.
@@ -98,18 +85,18 @@ fn read_numbers(s: &[u8]) -> Raw
     }
 }
 
-// Reads a pack's state: 15 for a payload that ends too early, 16 for one that is too long.
-pub fn decode_raw(payload: &[u8]) -> ReadRaw
-    ensures { raw_answer_of result ≡ numbered (raw_in payload.now) }
+// Reads a pack's state, and the place of its model name: 15 for a payload that ends too early, 16 for one that is too long.
+pub fn decode_raw(payload: &[u8]) -> Result<(Raw, Place), Refusal>
+    ensures { answer_of result ≡ numbered (raw_in payload.now) }
 {
     if payload.len() < 23 {
-        return ReadRaw::Refused(15);
+        return Err(Refusal::TooShort);
     }
     let len = model_name(payload).len();
     if 31 < len {
-        return ReadRaw::Refused(16);
+        return Err(Refusal::TooLong);
     }
-    ReadRaw::Got(read_numbers(payload), Place { at: 23, len })
+    Ok((read_numbers(payload), Place { at: 23, len }))
 }
 
 // Each binary16 as an f32 (RULES 9.12).
@@ -134,13 +121,11 @@ fn widened(m: Raw) -> BatteryInfo
 }
 
 // The same as f32.
-pub fn decode(payload: &[u8]) -> Read
+pub fn decode(payload: &[u8]) -> Result<(BatteryInfo, Place), Refusal>
     ensures { answer_of result ≡ numbered (info_in payload.now) }
 {
-    match decode_raw(payload) {
-        ReadRaw::Refused(n) => Read::Refused(n),
-        ReadRaw::Got(m, place) => Read::Got(widened(m), place),
-    }
+    let (m, place) = decode_raw(payload)?;
+    Ok((widened(m), place))
 }
 
 // 16 bits from bit `at` on.
@@ -179,20 +164,20 @@ fn write_others(out: &mut [u8], m: Raw)
 }
 
 // Writes a pack's state to the front of `out`, numbers saturated: 17 for a model name that is too long, then 8 for too little room.
-pub fn encode_raw(m: Raw, model_name: &[u8], out: &mut [u8]) -> Written
+pub fn encode_raw(m: Raw, model_name: &[u8], out: &mut [u8]) -> Result<usize, Refusal>
     ensures { (answer.answer_of result, out.new) ≡ written battery_info (raw_values m name_only model_name.now) out.old }
 {
     if 31 < model_name.len() {
-        return Written::Refused(17);
+        return Err(Refusal::NotAllowed);
     }
     let n = 23 + model_name.len();
     if out.len() < n {
-        return Written::Refused(8);
+        return Err(Refusal::NoRoom);
     }
     write_floats(out, m);
     write_others(out, m);
     field::write_bytes(out, 23, model_name);
-    Written::Wrote(n)
+    Ok(n)
 }
 
 // Each f32 as its nearest binary16 (RULES 9.12).
@@ -217,7 +202,7 @@ fn narrowed(x: BatteryInfo) -> Raw
 }
 
 // The same from f32.
-pub fn encode(x: BatteryInfo, model_name: &[u8], out: &mut [u8]) -> Written
+pub fn encode(x: BatteryInfo, model_name: &[u8], out: &mut [u8]) -> Result<usize, Refusal>
     ensures { (answer.answer_of result, out.new) ≡ written battery_info (raw_values (narrowed_info x) name_only model_name.now) out.old }
 {
     encode_raw(narrowed(x), model_name, out)

@@ -4,14 +4,12 @@ use Rattle.std.specs.Prelude.{Bool, List, ℕ, ◌+◌, pos, length, drop}
 use Rattle.bits.specs.Order.{unpack, from_bits}
 use Rattle.bits.specs.Part.{span}
 use Rattle.bits.specs.Width.{width_of}
-use Rattle.shape.specs.Answer.{refused, got, Numbered, numbered, map_answer}
+use Rattle.shape.specs.Answer.{Numbered, numbered, map_answer}
 use Rattle.shape.specs.Shape.{Shape, uint, raw, items, list, tail, Values, decoded}
 use Rattle.protocol.specs.NodeStatus.{status_then, status_values, status_at}
 use Rattle.protocol.specs.Name.{is_name}
 use Rattle.protocol.specs.declared.get_node_info_response.Numbers.{Numbers}
 use Rattle.protocol.specs.declared.get_node_info_response.Response.{Response}
-use Rattle.protocol.specs.declared.get_node_info_response.Read.{Read}
-use Rattle.protocol.specs.declared.get_node_info_response.Read.TheVariants.{Refused, Got}
 
 -- an image CRC has 64 bits here and in the struct, so that none is out of range
 abbrev pub software_then : Shape → Shape
@@ -65,10 +63,6 @@ response_of
       };
       name = record { at = 41 + length certificate; len = length name };
     }
-
-abbrev pub answer_of : Read → Numbered Response
-answer_of (Refused n) = numbered (refused n)
-answer_of (Got x) = numbered (got x)
 
 -- what a payload gives
 abbrev pub response_in : List ℕ → Numbered Response

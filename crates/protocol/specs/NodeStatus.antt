@@ -1,11 +1,9 @@
 -- RULES 10.2: NodeStatus. Uptime 32, health 2, mode 3, sub-mode 3, vendor code 16.
 use Rattle.std.specs.Prelude.{ℕ, Bool, List, pos, drop}
 use Rattle.bits.specs.Order.{from_bits}
-use Rattle.shape.specs.Answer.{refused, got, Numbered, numbered, map_answer}
+use Rattle.shape.specs.Answer.{Numbered, numbered, map_answer}
 use Rattle.shape.specs.Shape.{Shape, end, uint, void, Values, decoded}
 use Rattle.protocol.specs.declared.node_status.NodeStatus.{NodeStatus}
-use Rattle.protocol.specs.declared.node_status.Read.{Read}
-use Rattle.protocol.specs.declared.node_status.Read.TheVariants.{Refused, Got}
 
 -- a status, and what follows it; sub-mode is an ignored field (RULES 9.8)
 abbrev pub status_then : Shape → Shape
@@ -21,10 +19,6 @@ status_values x d rest = (x.uptime_sec, (x.health, (x.mode, (x.vendor_specific_s
 abbrev pub status_of : (d : Shape) → Values (status_then d) → NodeStatus
 status_of d (uptime, (health, (mode, (vendor, rest)))) =
     record { uptime_sec = uptime; health = health; mode = mode; sub_mode = pos 0; vendor_specific_status_code = vendor }
-
-abbrev pub answer_of : Read → Numbered NodeStatus
-answer_of (Refused n) = numbered (refused n)
-answer_of (Got x) = numbered (got x)
 
 -- what a payload gives
 abbrev pub status_in : List ℕ → Numbered NodeStatus

@@ -2,16 +2,17 @@
 ghost use Rattle.std.specs.Prelude.{◌≡◌, ◌+◌, ◌≤◌, length};
 ghost use Rattle.bits.specs.Order.{unpack, store};
 ghost use Rattle.shape.specs.Answer as answer;
+ghost use Rattle.shape.specs.Answer.{answer_of};
 ghost use Rattle.shape.specs.Shape as shape;
 ghost use Rattle.shape.specs.Shape.{end, written};
 ghost use Rattle.protocol.specs.NodeStatus.{status_then};
-ghost use Rattle.protocol.specs.GetNodeInfoResponse.{versions_then, lists, response, certificate_length, unique_id_in, certificate_in, name_in, number_values, response_in, numbers_at, answer_of};
+ghost use Rattle.protocol.specs.GetNodeInfoResponse.{versions_then, lists, response, certificate_length, unique_id_in, certificate_in, name_in, number_values, response_in, numbers_at};
 
 use super::name::is_name;
 use super::node_status;
 use super::node_status::NodeStatus;
 use bits::{field, width};
-use shape::answer::{Place, Written};
+use shape::answer::{Place, Refusal};
 use shape::{number, part};
 
 #[derive(Drop)]
@@ -46,12 +47,6 @@ pub struct Numbers {
     pub software_version: SoftwareVersion,
     pub hardware_version_major: i64,
     pub hardware_version_minor: i64,
-}
-
-#[derive(Drop)]
-pub enum Read {
-    Refused(u32),
-    Got(Response),
 }
 
 // What the certificate's length field says; 0 where the payload ends before it.
@@ -105,25 +100,25 @@ fn read_numbers(s: &[u8]) -> Numbers
 }
 
 // Reads a response: 15 for a payload that ends too early, 16 for a name that is too long, 17 for one that is none.
-pub fn decode(payload: &[u8]) -> Read
+pub fn decode(payload: &[u8]) -> Result<Response, Refusal>
     ensures { answer_of result ≡ response_in payload.now }
 {
     let at = 41 + certificate_length(payload);
     if payload.len() < at {
-        return Read::Refused(15);
+        return Err(Refusal::TooShort);
     }
     let n = name(payload);
     let len = n.len();
     if 80 < len {
-        return Read::Refused(16);
+        return Err(Refusal::TooLong);
     }
     if !is_name(n) {
-        return Read::Refused(17);
+        return Err(Refusal::NotAllowed);
     }
     let m = read_numbers(payload);
     let status = m.status;
     let software_version = m.software_version;
-    Read::Got(Response {
+    Ok(Response {
         status,
         software_version,
         hardware_version: HardwareVersion {
@@ -199,17 +194,17 @@ pub fn encode(
     certificate_of_authenticity: &[u8],
     name: &[u8],
     out: &mut [u8],
-) -> Written
+) -> Result<usize, Refusal>
     ensures { (answer.answer_of result, out.new) ≡ written response (number_values m lists (unique_id.now, (certificate_of_authenticity.now, name.now))) out.old }
 {
     if !lists_fit(unique_id, certificate_of_authenticity, name) {
-        return Written::Refused(17);
+        return Err(Refusal::NotAllowed);
     }
     let n = 41 + certificate_of_authenticity.len() + name.len();
     if out.len() < n {
-        return Written::Refused(8);
+        return Err(Refusal::NoRoom);
     }
     write_numbers(out, m);
     write_lists(out, unique_id, certificate_of_authenticity, name);
-    Written::Wrote(n)
+    Ok(n)
 }

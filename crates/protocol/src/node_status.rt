@@ -2,12 +2,13 @@
 ghost use Rattle.std.specs.Prelude.{◌≡◌, ◌≤◌, length};
 ghost use Rattle.bits.specs.Order.{unpack, store};
 ghost use Rattle.shape.specs.Answer as answer;
+ghost use Rattle.shape.specs.Answer.{answer_of};
 ghost use Rattle.shape.specs.Shape as shape;
 ghost use Rattle.shape.specs.Shape.{end, written};
-ghost use Rattle.protocol.specs.NodeStatus.{node_status, status_values, status_in, status_at, answer_of};
+ghost use Rattle.protocol.specs.NodeStatus.{node_status, status_values, status_in, status_at};
 
 use bits::field;
-use shape::answer::Written;
+use shape::answer::Refusal;
 use shape::number;
 
 // Sub-mode is read as zero, and any value given is written as zero (RULES 9.8).
@@ -18,12 +19,6 @@ pub struct NodeStatus {
     pub mode: i64,
     pub sub_mode: i64,
     pub vendor_specific_status_code: i64,
-}
-
-#[derive(Drop)]
-pub enum Read {
-    Refused(u32),
-    Got(NodeStatus),
 }
 
 // Internal. The status in the first seven bytes.
@@ -41,17 +36,17 @@ pub fn read_front(s: &[u8]) -> NodeStatus
 }
 
 // Reads a status: 15 for a payload that ends too early, 16 for one that is too long.
-pub fn decode(payload: &[u8]) -> Read
+pub fn decode(payload: &[u8]) -> Result<NodeStatus, Refusal>
     ensures { answer_of result ≡ status_in payload.now }
 {
     let n = payload.len();
     if n < 7 {
-        return Read::Refused(15);
+        return Err(Refusal::TooShort);
     }
     if 7 < n {
-        return Read::Refused(16);
+        return Err(Refusal::TooLong);
     }
-    Read::Got(read_front(payload))
+    Ok(read_front(payload))
 }
 
 // Internal. The 56 bits of a status, from the front.
@@ -67,12 +62,12 @@ pub fn write_front(out: &mut [u8], x: NodeStatus)
 }
 
 // Writes a status to the front of `out`, numbers saturated: 8 for too little room.
-pub fn encode(x: NodeStatus, out: &mut [u8]) -> Written
+pub fn encode(x: NodeStatus, out: &mut [u8]) -> Result<usize, Refusal>
     ensures { (answer.answer_of result, out.new) ≡ written node_status (status_values x end tt) out.old }
 {
     if out.len() < 7 {
-        return Written::Refused(8);
+        return Err(Refusal::NoRoom);
     }
     write_front(out, x);
-    Written::Wrote(7)
+    Ok(7)
 }

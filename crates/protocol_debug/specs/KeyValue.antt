@@ -1,10 +1,8 @@
 -- RULES 10.4: KeyValue. Float32 kept as its 32 bits, key list of at most 58.
 use Rattle.std.specs.Prelude.{ℕ, List, length, drop}
-use Rattle.shape.specs.Answer.{refused, got, Numbered, numbered, map_answer}
+use Rattle.shape.specs.Answer.{Numbered, numbered, map_answer}
 use Rattle.shape.specs.Shape.{Shape, raw, tail, Values, anything, decoded}
 use Rattle.protocol_debug.specs.declared.key_value.KeyValue.{KeyValue}
-use Rattle.protocol_debug.specs.declared.key_value.Read.{Read}
-use Rattle.protocol_debug.specs.declared.key_value.Read.TheVariants.{Refused, Got}
 
 abbrev pub key_value : Shape
 key_value = raw 32 (tail 8 58 anything)
@@ -15,10 +13,6 @@ key_in p = drop 4 p
 
 abbrev pub key_value_of : Values key_value → KeyValue
 key_value_of (value, key) = record { value = value; key = record { at = 4; len = length key } }
-
-abbrev pub answer_of : Read → Numbered KeyValue
-answer_of (Refused n) = numbered (refused n)
-answer_of (Got x) = numbered (got x)
 
 -- what a payload gives
 abbrev pub key_value_in : List ℕ → Numbered KeyValue

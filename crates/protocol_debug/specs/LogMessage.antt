@@ -2,11 +2,9 @@
 use Rattle.std.specs.Prelude.{ℕ, ◌+◌, List, length, take, drop}
 use Rattle.bits.specs.Order.{unpack, from_bits}
 use Rattle.bits.specs.Width.{width_of}
-use Rattle.shape.specs.Answer.{refused, got, Numbered, numbered, map_answer}
+use Rattle.shape.specs.Answer.{Numbered, numbered, map_answer}
 use Rattle.shape.specs.Shape.{Shape, uint, list, tail, Values, anything, decoded}
 use Rattle.protocol_debug.specs.declared.log_message.LogMessage.{LogMessage}
-use Rattle.protocol_debug.specs.declared.log_message.Read.{Read}
-use Rattle.protocol_debug.specs.declared.log_message.Read.TheVariants.{Refused, Got}
 
 abbrev pub log_message : Shape
 log_message = uint 3 (list 8 31 (tail 8 90 anything))
@@ -24,10 +22,6 @@ text_in p = drop (1 + source_length p) p
 abbrev pub log_message_of : Values log_message → LogMessage
 log_message_of (level, (source, text)) =
     record { level = level; source = record { at = 1; len = length source }; text = record { at = 1 + length source; len = length text } }
-
-abbrev pub answer_of : Read → Numbered LogMessage
-answer_of (Refused n) = numbered (refused n)
-answer_of (Got x) = numbered (got x)
 
 -- what a payload gives
 abbrev pub log_message_in : List ℕ → Numbered LogMessage

@@ -1,11 +1,12 @@
 // LogMessage (message 16383; RULES 10.5).
 ghost use Rattle.std.specs.Prelude.{◌≡◌};
 ghost use Rattle.shape.specs.Answer as answer;
+ghost use Rattle.shape.specs.Answer.{answer_of};
 ghost use Rattle.shape.specs.Shape.{written};
-ghost use Rattle.protocol_debug.specs.LogMessage.{log_message, source_length, source_in, text_in, log_message_in, answer_of};
+ghost use Rattle.protocol_debug.specs.LogMessage.{log_message, source_length, source_in, text_in, log_message_in};
 
 use bits::{field, width};
-use shape::answer::{Place, Written};
+use shape::answer::{Place, Refusal};
 use shape::{number, part};
 
 #[derive(Drop)]
@@ -13,12 +14,6 @@ pub struct LogMessage {
     pub level: i64,
     pub source: Place,
     pub text: Place,
-}
-
-#[derive(Drop)]
-pub enum Read {
-    Refused(u32),
-    Got(LogMessage),
 }
 
 // What the source's length field says; of an empty payload 0.
@@ -46,18 +41,18 @@ pub fn text(payload: &[u8]) -> &[u8]
 }
 
 // Reads a log message: 15 for a payload that ends too early, 16 for one that is too long.
-pub fn decode(payload: &[u8]) -> Read
+pub fn decode(payload: &[u8]) -> Result<LogMessage, Refusal>
     ensures { answer_of result ≡ log_message_in payload.now }
 {
     let at = 1 + source_length(payload);
     if payload.len() < at {
-        return Read::Refused(15);
+        return Err(Refusal::TooShort);
     }
     let len = text(payload).len();
     if 90 < len {
-        return Read::Refused(16);
+        return Err(Refusal::TooLong);
     }
-    Read::Got(LogMessage {
+    Ok(LogMessage {
         level: number::read(payload, 0, 3),
         source: Place {
             at: 1,
@@ -68,21 +63,21 @@ pub fn decode(payload: &[u8]) -> Read
 }
 
 // Writes a log message to the front of `out`, its level saturated: 17 for a list that is too long, then 8 for too little room.
-pub fn encode(level: i64, source: &[u8], text: &[u8], out: &mut [u8]) -> Written
+pub fn encode(level: i64, source: &[u8], text: &[u8], out: &mut [u8]) -> Result<usize, Refusal>
     ensures { (answer.answer_of result, out.new) ≡ written log_message (level, (source.now, text.now)) out.old }
 {
     let fits = (source.len() <= 31) & (text.len() <= 90);
     if !fits {
-        return Written::Refused(17);
+        return Err(Refusal::NotAllowed);
     }
     let at = 1 + source.len();
     let n = at + text.len();
     if out.len() < n {
-        return Written::Refused(8);
+        return Err(Refusal::NoRoom);
     }
     number::write(out, 0, 3, level);
     field::write(out, 3, width::width(31) as usize, source.len() as u64);
     field::write_bytes(out, 1, source);
     field::write_bytes(out, at, text);
-    Written::Wrote(n)
+    Ok(n)
 }

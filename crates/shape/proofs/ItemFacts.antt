@@ -12,11 +12,12 @@ use lib.ListN.{length, take, drop, get_or, set, length-drop, take-append-drop, r
 use lib.Seq.{drop-drop, take_all, take-suc, take-suc-set, length-take-le}
 use Rattle.bits.specs.Order.{Octets, digits, octets, value_from, value, unpack, number, to_bits, from_bits, bytes, store}
 use Rattle.bits.proofs.Bytes.{bytes-unpack}
-use Rattle.shape.specs.Answer.{Answer, refused, got, refuse_if, map_answer}
+use Rattle.shape.specs.Answer.{Answer, refused, got, numbered, refuse_if, map_answer}
 use Rattle.shape.specs.Shape.{end, tail, anything, item_bits, items_of, all_zero, decode}
 use Rattle.shape.specs.inside.Items.{refusal_of}
 use Rattle.shape.proofs.Fields.{length-item_bits, length-items_of}
 use Rattle.shape.proofs.Writing.{more-from}
+use Rattle.shape.proofs.Reading.{refused-on, got-on, unrefused, unread}
 
 -- ── places ──
 
@@ -164,23 +165,23 @@ module _ (w m : ℕ) (hw : 8 ≤ w) (bs : List Bool) (k : ℕ) (e : length bs �
       is-value : k % w < 8 → x ≡ value (drop (k / w * w) bs)
       is-value l = ex ∙ few (k % w) (drop (k / w * w) bs) l left
 
-      -- refused by a number that is not 0, or counted
-      judged : (a b : Bool) → leb 8 (k % w) ≡ a → eqb x 0 ≡ b → ((refusal_of a b ≡ 0 → ⊥) → answer ≡ refused (refusal_of a b)) × (refusal_of a b ≡ 0 → answer ≡ got (k / w))
+      -- refused for the bits left over, or counted
+      judged : (a b : Bool) → leb 8 (k % w) ≡ a → eqb x 0 ≡ b → answer ≡ map_answer (λ (u : Unit {0}). k / w) (refusal_of a b)
       unfolding decode refuse_if map_answer
-      judged true b f g = (λ n. rw (e, le-ltb m (k / w) in_count, f), λ z. absurd (omega arith))
+      judged true b f g = rw (e, le-ltb m (k / w) in_count, f)
       judged false false f g =
           let l : k % w < 8 = leb-false 8 (k % w) f in
-          (λ n. rw (e, le-ltb m (k / w) in_count, f, not-zero (drop (k / w * w) bs) (λ z. eqb-false x 0 g (is-value l ∙ z))), λ z. absurd (omega arith))
+          rw (e, le-ltb m (k / w) in_count, f, not-zero (drop (k / w * w) bs) (λ z. eqb-false x 0 g (is-value l ∙ z)))
       judged false true f g =
           let l : k % w < 8 = leb-false 8 (k % w) f in
           let z : all_zero (drop (k / w * w) bs) ≡ true = (value-zero 0 (drop (k / w * w) bs) (sym (is-value l) ∙ eqb-true x 0 g)).1 in
-          (λ n. absurd (n refl), λ q. rw (e, le-ltb m (k / w) in_count, f, z) (ap got (length-items_of w (k / w) bs)))
+          rw (e, le-ltb m (k / w) in_count, f, z) (ap got (length-items_of w (k / w) bs))
 
-      pub refusal : (r : ℕ) → r ≡ refusal_of (leb 8 (k % w)) (eqb x 0) → (r ≡ 0 → ⊥) → answer ≡ refused r
-      refusal r f n = (judged (leb 8 (k % w)) (eqb x 0) refl refl).0 (λ z. n (f ∙ z)) ∙ ap refused (sym f)
+      pub refusal : (n : ℕ) → numbered (refused n) ≡ numbered (refusal_of (leb 8 (k % w)) (eqb x 0)) → answer ≡ refused n
+      refusal n f = refused-on (λ (u : Unit {0}). k / w) (judged (leb 8 (k % w)) (eqb x 0) refl refl) (unrefused (refusal_of (leb 8 (k % w)) (eqb x 0)) n f)
 
-      pub count : (r : ℕ) → r ≡ refusal_of (leb 8 (k % w)) (eqb x 0) → r ≡ 0 → answer ≡ got (k / w)
-      count r f z = (judged (leb 8 (k % w)) (eqb x 0) refl refl).1 (sym f ∙ z)
+      pub count : numbered (got tt) ≡ numbered (refusal_of (leb 8 (k % w)) (eqb x 0)) → answer ≡ got (k / w)
+      count f = got-on (λ (u : Unit {0}). k / w) (judged (leb 8 (k % w)) (eqb x 0) refl refl) (unread (refusal_of (leb 8 (k % w)) (eqb x 0)) tt f)
 
 -- what a count tells
 pub record Counts (w m n : ℕ) (bs : List Bool) : Type 0 where

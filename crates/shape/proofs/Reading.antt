@@ -15,7 +15,11 @@ use Rattle.bits.specs.Width.{width_of}
 use Rattle.bits.proofs.Digits.{length_digits, value-digits}
 use Rattle.bits.proofs.Bytes.{length-unpack, drop-unpack}
 use Rattle.bits.proofs.Octets.{octets-drop}
-use Rattle.shape.specs.Answer.{Answer, refused, got, numbered, refuse_if, map_answer}
+use Rattle.std.specs.Prelude.{IsErrAnd}
+use Rattle.std.specs.declared.result.Result.{Result}
+use Rattle.std.proofs.lemmas.Result.{err_from_is_err_and}
+use Rattle.shape.specs.Answer.{Answer, refused, got, numbered, number_of, answer_of, refuse_if, map_answer}
+use Rattle.shape.specs.declared.answer.Refusal.{Refusal}
 use Rattle.shape.specs.Cast.{Sign, signed, unsigned, saturated, value_of}
 use Rattle.shape.specs.Shape.{Shape, end, num, raw, void, items, list, tail, choice, tag_width, Values, anything, items_of, decode}
 
@@ -86,6 +90,10 @@ pub refused-from : {A B : Type 0} (f : A → B) (r : Answer A) (n : ℕ) → map
 unfolding map_answer
 refused-from f (refused k) n e = let q : ◌≡◌ {A = ℕ} k n = cc in ap refused q
 refused-from f (got a) n e = absurd (let z : ◌≡◌ {A = ℕ} 0 1 = cc in omega arith)
+
+-- a refusal that `?` hands on
+pub handed-on : {A : Type 0} (r : Result A Refusal) (y : Refusal) → IsErrAnd r (λ (x : Refusal). x ≡ y) → answer_of r ≡ numbered (refused (number_of y))
+handed-on r y h = let p = err_from_is_err_and r h in rw (p.1, p.2)
 
 -- two answers of one payload
 pub never : {A : Type 0} {x : Answer A} {k : ℕ} {v : A} → x ≡ refused k → x ≡ got v → ⊥

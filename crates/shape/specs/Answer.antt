@@ -1,8 +1,9 @@
 -- RULES 13.1, 9.6 and 9.7: what a message call answers. A refusal by its number, or success with a value.
-use Rattle.std.specs.Prelude.{Bool, true, false, List, ◌++◌, ℕ, length, drop}
+use Rattle.std.specs.Prelude.{Bool, true, false, List, ◌++◌, ℕ, length, drop, Ok, Err}
+use Rattle.std.specs.declared.result.Result.{Result}
 use Rattle.std.proofs.Math.Option.{Option, none, some}
-use Rattle.shape.specs.declared.answer.Written.{Written}
-use Rattle.shape.specs.declared.answer.Written.TheVariants.{Refused, Wrote}
+use Rattle.shape.specs.declared.answer.Refusal.{Refusal}
+use Rattle.shape.specs.declared.answer.Refusal.TheVariants.{NoRoom, TooShort, TooLong, NotAllowed, Padding, NoCase}
 
 pub data Answer (A : Type 0) : Type 0 where
   refused : ℕ → Answer A
@@ -25,10 +26,19 @@ unfoldable pub map_answer : {A B : Type 0} → (A → B) → Answer A → Answer
 map_answer f (refused n) = refused n
 map_answer f (got a) = got (f a)
 
--- a writer's answer: its value is the number of bytes written
-abbrev pub answer_of : Written → Numbered ℕ
-answer_of (Refused n) = numbered (refused n)
-answer_of (Wrote n) = numbered (got n)
+-- RULES 9.6, 9.7: the number of each refusal
+abbrev pub number_of : Refusal → ℕ
+number_of NoRoom = 8
+number_of TooShort = 15
+number_of TooLong = 16
+number_of NotAllowed = 17
+number_of Padding = 25
+number_of NoCase = 27
+
+-- a reader's answer, and a writer's, whose value is the number of bytes written
+abbrev pub answer_of : {A : Type 0} → Result A Refusal → Numbered A
+answer_of (Ok a) = numbered (got a)
+answer_of (Err r) = numbered (refused (number_of r))
 
 -- RULES 1.5: the answer, and the buffer m after it. A refusal touches nothing, output is at the front, and the bytes past it stay
 abbrev pub wrote : Answer (List ℕ) → List ℕ → Numbered ℕ × List ℕ

@@ -2,18 +2,12 @@
 // and `part` are the case of 8 bits at a whole byte, by the law `ByteLists`.
 ghost use Rattle.std.specs.Prelude.{◌≡◌, false, ◌+◌, ◌*◌, ◌-◌, ◌/◌, ◌^◌, ◌≤◌, ◌<◌, leb, eqb, length, drop, replicate};
 ghost use Rattle.bits.specs.Order.{unpack, bytes_for, store};
-ghost use Rattle.shape.specs.Answer.{numbered, map_answer};
+ghost use Rattle.shape.specs.Answer.{numbered, map_answer, answer_of};
 ghost use Rattle.shape.specs.Shape.{tail, anything, item_bits, items_of, decode};
-ghost use Rattle.shape.specs.inside.Items.{refusal_of, count_of};
+ghost use Rattle.shape.specs.inside.Items.{refusal_of};
 
+use super::answer::Refusal;
 use bits::field;
-
-// How many items a list at the end has, or why it is refused.
-#[derive(Drop)]
-pub enum Counted {
-    Refused(u32),
-    Items(usize),
-}
 
 // How many items of w bits so many bits are: rounded down.
 fn whole(bits: usize, w: usize) -> usize
@@ -23,37 +17,34 @@ fn whole(bits: usize, w: usize) -> usize
     bits / w
 }
 
-// What bits left over are refused for, so many and of this value: 16 for a byte, then 25 for a bit that is set. 0 for padding.
-fn refusal(left: usize, value: u64) -> u32
-    ensures { result ≡ refusal_of (leb 8 left) (eqb value 0) }
+// What bits left over are refused for, so many and of this value: 16 for a byte, then 25 for a bit that is set.
+fn refusal(left: usize, value: u64) -> Result<(), Refusal>
+    ensures { answer_of result ≡ numbered (refusal_of (leb 8 left) (eqb value 0)) }
 {
     if 8 <= left {
-        return 16;
+        return Err(Refusal::TooLong);
     }
     if value != 0 {
-        return 25;
+        return Err(Refusal::Padding);
     }
-    0
+    Ok(())
 }
 
-// Internal. The list of at most m items that takes all bits from bit `at` on (RULES 9.4): 16 for too many items or 8 bits left over, then 25 for
-// bits left over that are not zero.
-pub fn count(s: &[u8], at: usize, w: usize, m: usize) -> Counted
+// Internal. How many items the list of at most m has that takes all bits from bit `at` on (RULES 9.4): 16 for too many items or 8 bits left over,
+// then 25 for bits left over that are not zero.
+pub fn count(s: &[u8], at: usize, w: usize, m: usize) -> Result<usize, Refusal>
     requires { ((8 ≤ w) × (w ≤ 64)) × ((m < 65536) × ((at < 2 ^ 32) × (at ≤ length s.now * 8))) }
-    ensures { count_of result ≡ numbered (map_answer length (decode (tail w m anything) (drop at (unpack s.now)))) }
+    ensures { answer_of result ≡ numbered (map_answer length (decode (tail w m anything) (drop at (unpack s.now)))) }
 {
     let most = at + m * w + 7;
     if most / 8 < s.len() {
-        return Counted::Refused(16);
+        return Err(Refusal::TooLong);
     }
     let bits = s.len() * 8 - at;
     let n = whole(bits, w);
     let left = bits % w;
-    let number = refusal(left, field::read(s, at + n * w, left));
-    if number != 0 {
-        return Counted::Refused(number);
-    }
-    Counted::Items(n)
+    refusal(left, field::read(s, at + n * w, left))?;
+    Ok(n)
 }
 
 // Internal. As many items as `out` has places, from bit `at` on.

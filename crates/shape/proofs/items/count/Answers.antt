@@ -9,8 +9,9 @@ use lib.ListN.{length, drop, length-drop}
 use lib.Seq.{drop-drop}
 use Rattle.bits.specs.Order.{unpack, from_bits}
 use Rattle.bits.proofs.Bytes.{length-unpack}
-use Rattle.shape.specs.Answer.{got, numbered}
+use Rattle.shape.specs.Answer.{got, numbered, number_of}
 use Rattle.shape.proofs.ItemFacts.{place-low, too_long, refusal, count}
+use Rattle.shape.proofs.Reading.{handed-on}
 use Rattle.shape.proofs.items.count.Goals as goal
 
 -- the bits from `at` on
@@ -71,14 +72,16 @@ read-requires c =
     let z : 0 < a.w = omega arith in
     omega (arith, parts c, mod-lt k z, c.if-most-s.false, place-low a.m a.w (omega arith) (omega arith))
 
-pub returns-then-number-ne0 : goal.returns-then-number-ne0
-returns-then-number-ne0 c =
+pub returns-in_err-refusal : goal.returns-in_err-refusal
+returns-in_err-refusal c =
     let a = c.args in
     let s = a.s.now in
     let k = length s * 8 - a.at in
-    ap numbered
+    let y = c.in_err-refusal.field-0.0 in
+    handed-on c.from_residual.result y c.from_residual.ensures.1
+    ∙ ap numbered
     (sym (refusal a.w a.m (omega arith) (drop a.at (unpack s)) k (remaining s a.at) (omega (arith, c.if-most-s.false)) c.read.result
-    (over s a.at c.whole-n.result (k / a.w) a.w (k % a.w) c.read.result c.read.ensures c.whole-n.ensures) c.refusal-number.result c.refusal-number.ensures c.if-number-ne0.true))
+    (over s a.at c.whole-n.result (k / a.w) a.w (k % a.w) c.read.result c.read.ensures c.whole-n.ensures) (number_of y) c.in_err-refusal.ensures))
 
 pub returns : goal.returns
 returns c =
@@ -88,4 +91,4 @@ returns c =
     ap (λ (i : ℕ). numbered (got i)) c.whole-n.ensures
     ∙ ap numbered
     (sym (count a.w a.m (omega arith) (drop a.at (unpack s)) k (remaining s a.at) (omega (arith, c.if-most-s.false)) c.read.result
-    (over s a.at c.whole-n.result (k / a.w) a.w (k % a.w) c.read.result c.read.ensures c.whole-n.ensures) c.refusal-number.result c.refusal-number.ensures c.if-number-ne0.false))
+    (over s a.at c.whole-n.result (k / a.w) a.w (k % a.w) c.read.result c.read.ensures c.whole-n.ensures) c.in_ok-refusal.ensures))
