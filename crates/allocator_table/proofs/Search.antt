@@ -95,20 +95,23 @@ given-takes f p x e = go (lowest_from f p (suc node_max - p)) refl e where
   go none q s = high-takes f p x s
   go (some y) q s = let w : y ≡ x = cc in low-takes f (suc node_max - p) p x (q ∙ ap some w)
 
+-- what the code's option says
+pub is-some : (n : ℕ) (o : Option ℕ) → Some n ≡ optional o → o ≡ some n
+is-some n none e = cc
+is-some n (some k) e = cc
+
+pub is-none : (o : Option ℕ) → None ≡ optional o → o ≡ none
+is-none none e = refl
+is-none (some k) e = cc
+
 module _ (f : ℕ → Bool) (p : ℕ) where
   pub given_up : (n : ℕ) → Some n ≡ optional (lowest_from f p (suc node_max - p)) → Some n ≡ optional (given f p)
   unfolding given
-  given_up n e = go (lowest_from f p (suc node_max - p)) e where
-    go : (o : Option ℕ) → Some n ≡ optional o → Some n ≡ optional (or_else o (highest_below f p))
-    go none q = cc
-    go (some y) q = q
+  given_up n e = rw (is-some n (lowest_from f p (suc node_max - p)) e)
 
   pub given_down : None ≡ optional (lowest_from f p (suc node_max - p)) → optional (highest_below f p) ≡ optional (given f p)
   unfolding given
-  given_down e = go (lowest_from f p (suc node_max - p)) e where
-    go : (o : Option ℕ) → None ≡ optional o → optional (highest_below f p) ≡ optional (or_else o (highest_below f p))
-    go none q = refl
-    go (some y) q = cc
+  given_down e = rw (is-none (lowest_from f p (suc node_max - p)) e)
 
 -- ── what is passed ──
 
