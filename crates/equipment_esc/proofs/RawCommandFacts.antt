@@ -24,9 +24,8 @@ use Rattle.shape.proofs.Reading.{unrefused, unread, refused-from, refused-on, go
 use Rattle.shape.proofs.Writing.{refuse-8-padded, write-padded}
 use Rattle.shape.proofs.ItemFacts.{Counts, counts}
 use Rattle.shape.proofs.CastFacts.{cast-lt}
-use Rattle.equipment_esc.specs.RawCommand.{raw_command, command_of, command_in, read_of, numbers_of, pattern_of, command_values, command_encoded}
+use Rattle.equipment_esc.specs.RawCommand.{raw_command, command_of, command_in, numbers_of, pattern_of, command_values, command_encoded}
 use Rattle.equipment_esc.specs.declared.raw_command.RawCommand.{RawCommand}
-use Rattle.equipment_esc.specs.declared.raw_command.Read.{Read}
 
 -- ── maps of a front ──
 
@@ -101,22 +100,22 @@ signed-zeros zero = refl
 signed-zeros (suc n) = ap (λ (l : List ℤ). pos 0 ∷ l) (signed-zeros n)
 
 module _ (p : List ℕ) where
-  pub not-read : (n : ℕ) → numbered (refused n) ≡ numbered (map_answer length (decode raw_command (unpack p))) → read_of (refused n) ≡ read_of (command_in p)
-  not-read n e = ap read_of (sym (refused-on command_of refl (refused-from length (decode raw_command (unpack p)) n (unrefused _ n e))))
+  pub not-read : (n : ℕ) → numbered (refused n) ≡ numbered (map_answer length (decode raw_command (unpack p))) → numbered (refused n) ≡ numbered (command_in p)
+  not-read n e = ap numbered (sym (refused-on command_of refl (refused-from length (decode raw_command (unpack p)) n (unrefused _ n e))))
 
   module _ (n : ℕ) (e : numbered (got n) ≡ numbered (map_answer length (decode raw_command (unpack p)))) where
     pub told : Counts 14 20 n (unpack p)
     told = counts 14 20 n (unpack p) (unread _ n e)
 
     pub was_read : (xs : List ℕ) (zs : List ℤ) → xs ≡ items_of 14 n (unpack p) ++ replicate (20 - n) 0 → zs ≡ map (signed_of 14) xs
-        → ◌≡◌ {A = Read} (record { number = 0; message = record { count = n; cmd = zs } }) (read_of (command_in p))
+        → numbered (got (record { count = n; cmd = zs })) ≡ numbered (command_in p)
     was_read xs zs f g =
         let ys : List ℕ = items_of 14 n (unpack p) in
         let l : length (map (signed_of 14) ys) ≡ n = length-map ys (signed_of 14) ∙ length-items_of 14 n (unpack p) in
         let q : zs ≡ map (signed_of 14) ys ++ replicate (20 - n) (pos 0) = g ∙ ap (λ (o : List ℕ). map (signed_of 14) o) f ∙ map-append (signed_of 14) ys (replicate (20 - n) 0)
         ∙ ap (λ (o : List ℤ). map (signed_of 14) ys ++ o) (signed-zeros (20 - n)) in
         let c : ◌≡◌ {A = RawCommand} (record { count = n; cmd = zs }) (command_of ys) = rw (l, q) in
-        ap (λ (x : RawCommand). read_of (got x)) c ∙ ap read_of (sym (got-on command_of refl told.is))
+        ap (λ (x : RawCommand). numbered (got x)) c ∙ ap numbered (sym (got-on command_of refl told.is))
 
 -- ── writing ──
 

@@ -1,12 +1,10 @@
 -- RULES 10.10: RawCommand, a list of at most 20 signed numbers of 14 bits that ends the message.
-use Rattle.std.specs.Prelude.{List, [], ◌++◌, map, ℕ, ◌-◌, ltb, ℤ, pos, length, take, replicate}
-use Rattle.std.proofs.Math.Option.{Option, none, some}
-use Rattle.shape.specs.Answer.{Answer, numbered, refuse_if, map_answer}
+use Rattle.std.specs.Prelude.{List, ◌++◌, map, ℕ, ◌-◌, ltb, ℤ, pos, length, take, replicate}
+use Rattle.shape.specs.Answer.{Answer, refuse_if, map_answer}
 use Rattle.shape.specs.Cast.{signed, saturated, cast_bits}
 use Rattle.shape.specs.Shape.{Shape, tail, Values, anything, decoded, encoded}
 use Rattle.shape.specs.Signed.{signed_of}
 use Rattle.equipment_esc.specs.declared.raw_command.RawCommand.{RawCommand}
-use Rattle.equipment_esc.specs.declared.raw_command.Read.{Read}
 
 abbrev pub raw_command : Shape
 raw_command = tail 14 20 anything
@@ -26,14 +24,6 @@ command_of xs = commands (map (signed_of 14) xs)
 
 abbrev pub command_in : List ℕ → Answer RawCommand
 command_in p = map_answer command_of (decoded raw_command p)
-
--- a refusal has no message: zeros stand in for it
-abbrev pub or_zeros : Option RawCommand → RawCommand
-or_zeros none = commands []
-or_zeros (some x) = x
-
-abbrev pub read_of : Answer RawCommand → Read
-read_of a = record { number = (numbered a).number; message = or_zeros (numbered a).value }
 
 -- ── writing ──
 

@@ -1,13 +1,12 @@
 // RawCommand (message 1030; RULES 10.10): a list of signed numbers of 14 bits, and nothing else.
 ghost use Rattle.std.specs.Prelude.{◌≡◌, true, false, ◌++◌, map, ◌*◌, ◌-◌, ◌≤◌, length, take, replicate};
 ghost use Rattle.bits.specs.Order.{unpack, bytes_for, store};
-ghost use Rattle.shape.specs.Answer.{answer_of, wrote};
+ghost use Rattle.shape.specs.Answer.{numbered, answer_of, wrote};
 ghost use Rattle.shape.specs.Shape.{item_bits, items_of, all_below};
 ghost use Rattle.shape.specs.Signed.{signed_of};
-ghost use Rattle.equipment_esc.specs.RawCommand.{pattern_of, command_encoded, command_in, read_of};
+ghost use Rattle.equipment_esc.specs.RawCommand.{pattern_of, command_encoded, command_in};
 
-use shape::answer::Written;
-use shape::items::Counted;
+use shape::answer::Refusal;
 use shape::{cast, items, signed};
 
 // A command for each motor: the first `count` places. A reader leaves the others zero, a writer ignores them.
@@ -17,24 +16,15 @@ pub struct RawCommand {
     pub cmd: [i64; 20],
 }
 
-// The number answered, and the message, all zeros where it is refused.
-#[derive(Drop)]
-pub struct Read {
-    pub number: u32,
-    pub message: RawCommand,
-}
-
 // What the patterns stand for.
 fn numbers(patterns: [u64; 20]) -> [i64; 20]
     requires { all_below 16384 patterns ≡ true }
     ensures { result ≡ map (signed_of 14) patterns }
 {
     let mut cmd = [0i64; 20];
-    let mut i = 0;
-    while i < 20 {
+    for i in 0..20 {
         let v = signed::value(patterns[i], 14);
         cmd[i] = v;
-        i += 1;
     }
     cmd
 }
@@ -50,25 +40,14 @@ fn read_patterns(payload: &[u8], n: usize) -> [u64; 20]
 }
 
 // Reads commands: 16 for too many or for a byte left over, 25 for bits left over that are not zero.
-pub fn decode(payload: &[u8]) -> Read
-    ensures { result ≡ read_of (command_in payload.now) }
+pub fn decode(payload: &[u8]) -> Result<RawCommand, Refusal>
+    ensures { answer_of result ≡ numbered (command_in payload.now) }
 {
-    match items::count(payload, 0, 14, 20) {
-        Counted::Refused(number) => Read {
-            number,
-            message: RawCommand {
-                count: 0,
-                cmd: [0i64; 20],
-            },
-        },
-        Counted::Items(count) => Read {
-            number: 0,
-            message: RawCommand {
-                count,
-                cmd: numbers(read_patterns(payload, count)),
-            },
-        },
-    }
+    let count = items::count(payload, 0, 14, 20)?;
+    Ok(RawCommand {
+        count,
+        cmd: numbers(read_patterns(payload, count)),
+    })
 }
 
 // The patterns of the first n, saturated, and zeros.
@@ -77,11 +56,9 @@ fn patterns(cmd: [i64; 20], n: usize) -> [u64; 20]
     ensures { result ≡ map pattern_of (take n cmd) ++ replicate (20 - n) 0 }
 {
     let mut p = [0u64; 20];
-    let mut i = 0;
-    while i < n {
+    for i in 0..n {
         let v = cmd[i];
         p[i] = cast::signed(v, 14);
-        i += 1;
     }
     p
 }
@@ -96,18 +73,18 @@ fn write_patterns(p: [u64; 20], n: usize, out: &mut [u8])
 }
 
 // Writes commands to the front of `out`, saturated: 17 for more than 20, then 8 for too little room.
-pub fn encode(x: RawCommand, out: &mut [u8]) -> Written
+pub fn encode(x: RawCommand, out: &mut [u8]) -> Result<usize, Refusal>
     ensures { (answer_of result, out.new) ≡ wrote (command_encoded x (length out.old)) out.old }
 {
     let n = x.count;
     let cmd = x.cmd;
     if 20 < n {
-        return Written::Refused(17);
+        return Err(Refusal::NotAllowed);
     }
     let len = (n * 14 + 7) / 8;
     if out.len() < len {
-        return Written::Refused(8);
+        return Err(Refusal::NoRoom);
     }
     write_patterns(patterns(cmd, n), n, out);
-    Written::Wrote(len)
+    Ok(len)
 }

@@ -34,12 +34,10 @@ pub fn is_name(s: &[u8]) -> bool
     if s.len() == 0 {
         return false;
     }
-    let mut i = 0;
-    while i < s.len() {
-        if !is_letter(s[i]) {
+    for c in s {
+        if !is_letter(*c) {
             return false;
         }
-        i += 1;
     }
     true
 }

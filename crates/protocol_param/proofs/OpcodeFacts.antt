@@ -52,19 +52,6 @@ module _ (p : List ℕ) where
         got-on (with_head (integer 48 ∷ value 1 ∷ []) end (unpack p) 0)
         (head_read (integer 48 ∷ value 1 ∷ []) end (unpack p) 0 (omega (arith, length-unpack p))) e
 
-abbrev ended : Bool → Bool → Answer (Values end)
-ended a z = refuse_if a 16 (refuse_if (not z) 25 (got tt))
-
-end_by : (a z : Bool) → 0 ≡ (numbered (ended a z)).number → ◌≡◌ {A = Answer (Values end)} (ended a z) (got tt)
-unfolding refuse_if
-end_by true z e = absurd (omega arith)
-end_by false false e = absurd (omega arith)
-end_by false true e = refl
-
-pub end-held : (bs : List Bool) → 0 ≡ (numbered (decode end bs)).number → ◌≡◌ {A = Answer (Values end)} (decode end bs) (got tt)
-unfolding decode
-end-held bs e = end_by (leb 8 (length bs)) (all_zero bs) e
-
 -- ── the structs ──
 
 pub made-request : (p : List ℕ) (i j : ℤ) → i ≡ pos (from_bits 8 (unpack p)) → j ≡ signed_of 48 (from_bits 48 (drop 8 (unpack p)))

@@ -7,7 +7,7 @@ use lib.Dec.{lit≤}
 use lib.ListN.{length, drop}
 use Rattle.bits.specs.Order.{Octets, unpack}
 use Rattle.bits.specs.Width.{width_of}
-use Rattle.shape.specs.Answer.{got, numbered}
+use Rattle.shape.specs.Answer.{Answer, refused, got}
 use Rattle.shape.specs.Shape.{Shape, end, void, tag_width, Values, decode, decoded}
 use Rattle.shape.specs.Laws.{Sound, Whole, OnBytes}
 use Rattle.shape.proofs.Reading.{never, only}
@@ -21,7 +21,7 @@ use Rattle.protocol_param.specs.ExecuteOpcode as opcode
 use Rattle.protocol_param.specs.Laws.{request_found, response_found, opcode_request_found, opcode_response_found, Laws}
 use Rattle.protocol_param.proofs.ValueFacts.{eight, three, two, refused-by, either, by_length}
 use Rattle.protocol_param.proofs.GetSetFacts.{request-stop, request-long, request-held, stop-value, stop-default, stop-max, stop-min, response-long, response-held}
-use Rattle.protocol_param.proofs.OpcodeFacts.{cut-request, long-request, held-request, cut-response, stop-response, held-response, end-held}
+use Rattle.protocol_param.proofs.OpcodeFacts.{cut-request, long-request, held-request, cut-response, stop-response, held-response}
 
 -- ── the union in a description ──
 
@@ -81,14 +81,14 @@ opcode-request-only p o v g =
 
 -- the bits left over
 module _ (p : List ℕ) (v : Values opcode.opcode_response) (g : decoded opcode.opcode_response p ≡ got v) (l : 7 ≤ length p) where
-  left_over : (k : ℕ) → k ≡ (numbered (decode end (drop 49 (unpack p)))).number → v ≡ opcode_response_found p
-  left_over zero e = only g (held-response p l (end-held (drop 49 (unpack p)) e))
-  left_over (suc k) e = absurd (never (stop-response p l (suc k) (refused-by (decode end (drop 49 (unpack p))) (suc k) e (λ z. omega arith))) g)
+  left_over : (r : Answer (Values end)) → decode end (drop 49 (unpack p)) ≡ r → v ≡ opcode_response_found p
+  left_over (refused k) e = absurd (never (stop-response p l k e) g)
+  left_over (got u) e = only g (held-response p l e)
 
 opcode-response-only : (p : List ℕ) → Octets p → (v : Values opcode.opcode_response) → decoded opcode.opcode_response p ≡ got v → v ≡ opcode_response_found p
 opcode-response-only p o v g =
     by_length 7 (length p) (λ h. absurd (never (cut-response p h) g))
-    (λ l. left_over p v g l (numbered (decode end (drop 49 (unpack p)))).number refl)
+    (λ l. left_over p v g l (decode end (drop 49 (unpack p))) refl)
 
 -- ── the laws ──
 

@@ -21,10 +21,14 @@ use Rattle.bits.proofs.Bytes.{length-unpack, drop-unpack}
 use Rattle.bits.proofs.Numbers.{from_bits-lt}
 use Rattle.bits.proofs.Octets.{octets-drop}
 use Rattle.bits.proofs.Widths.{width-law}
+use Rattle.std.specs.Prelude.{IsErrAnd}
+use Rattle.std.specs.declared.result.Result.{Result}
 use Rattle.shape.specs.Answer.{Answer, refused, got, numbered, refuse_if, map_answer}
+use Rattle.shape.specs.Answer as answers
+use Rattle.shape.specs.declared.answer.Refusal.{Refusal}
 use Rattle.shape.specs.Shape.{Shape, void, list, tag_width, Values, decode}
 use Rattle.shape.proofs.There.{tag_fits}
-use Rattle.shape.proofs.Reading.{Slot, integer, same, value, slots, with_head, map-map, head_bytes, head-short, total, choice-at, choice-short, list-none, list-short, list-long, list_read, refused-on, got-on}
+use Rattle.shape.proofs.Reading.{Slot, integer, same, value, slots, with_head, map-map, head_bytes, head-short, total, choice-at, choice-short, list-none, list-short, list-long, list_read, refused-on, got-on, handed-on, not_0}
 use Rattle.protocol_param.specs.Value.{value_then, union, value_values, value_of_tag, case_of, size_of, tag_at, case_at, known_or, value_at, announced, text_length, text_in, size_at, value_found}
 use Rattle.protocol_param.specs.inside.Value.{sized}
 use Rattle.protocol_param.specs.declared.value.Value.{Value}
@@ -484,6 +488,19 @@ refuses f e = sym (ap numbered (refused-on f refl e))
 
 pub gives : {A B : Type 0} (f : A → B) {r : Answer A} {v : A} {x : B} → x ≡ f v → r ≡ got v → numbered (got x) ≡ numbered (map_answer f r)
 gives f {v = v} e h = ap (λ y. numbered (got y)) e ∙ sym (ap numbered (got-on f refl h))
+
+-- x is refused for y, which `?` hands on as r: so is w
+module _ {A B C : Type 0} (x : Answer A) {w : Answer B} (r : Result C Refusal) (y : Refusal) (h : IsErrAnd r (λ (z : Refusal). z ≡ y))
+    (n : answers.number_of y ≡ (numbered x).number) (f : (k : ℕ) → x ≡ refused k → w ≡ refused k) where
+  refused-so : w ≡ refused (answers.number_of y)
+  refused-so = f (answers.number_of y) (refused-by x (answers.number_of y) n (not_0 y))
+
+  pub stops : (answers.answer_of r).number ≡ (numbered w).number
+  stops = ap (λ z. z.number) (handed-on r y h) ∙ sym (ap number_of refused-so)
+
+pub hands : {A B : Type 0} (x : Answer A) (g : A → B) (r : Result B Refusal) (y : Refusal) → IsErrAnd r (λ (z : Refusal). z ≡ y)
+    → answers.number_of y ≡ (numbered x).number → answers.answer_of r ≡ numbered (map_answer g x)
+hands x g r y h n = handed-on r y h ∙ refuses g (refused-by x (answers.number_of y) n (not_0 y))
 
 -- ── cases ──
 

@@ -1,14 +1,12 @@
 -- RULES 10.14, 10.15: ExecuteOpcode. Request: opcode 8, argument signed 48. Response: argument signed 48, ok 1, and seven bits left over.
 use Rattle.std.specs.Prelude.{Bool, List, ℕ, pos, drop}
 use Rattle.bits.specs.Order.{from_bits}
-use Rattle.shape.specs.Answer.{refused, got, Numbered, numbered, map_answer}
+use Rattle.shape.specs.Answer.{Numbered, numbered, map_answer}
 use Rattle.shape.specs.Cast.{signed, saturated}
 use Rattle.shape.specs.Signed.{signed_of}
 use Rattle.shape.specs.Shape.{Shape, end, num, uint, Values, decoded}
 use Rattle.protocol_param.specs.declared.execute_opcode_request.Request.{Request}
-use Rattle.protocol_param.specs.declared.execute_opcode_request.Read as request-read
 use Rattle.protocol_param.specs.declared.execute_opcode_response.Response.{Response}
-use Rattle.protocol_param.specs.declared.execute_opcode_response.Read as response-read
 
 abbrev pub opcode_request : Shape
 opcode_request = uint 8 (num signed saturated 48 end)
@@ -27,14 +25,6 @@ response_values x = (x.argument, (x.ok, tt))
 
 abbrev pub response_of : Values opcode_response → Response
 response_of (argument, (ok, rest)) = record { argument = argument; ok = ok }
-
-abbrev pub request_answer : request-read.Read → Numbered Request
-request_answer (request-read.TheVariants.Refused n) = numbered (refused n)
-request_answer (request-read.TheVariants.Got x) = numbered (got x)
-
-abbrev pub response_answer : response-read.Read → Numbered Response
-response_answer (response-read.TheVariants.Refused n) = numbered (refused n)
-response_answer (response-read.TheVariants.Got x) = numbered (got x)
 
 -- what a payload gives
 abbrev pub request_in : List ℕ → Numbered Request

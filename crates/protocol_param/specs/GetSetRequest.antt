@@ -1,11 +1,9 @@
 -- RULES 10.12: GetSet's request. Index 13, value, name list of at most 92.
 use Rattle.std.specs.Prelude.{ℕ, ◌+◌, List, length, drop}
-use Rattle.shape.specs.Answer.{refused, got, Numbered, numbered, map_answer}
+use Rattle.shape.specs.Answer.{Numbered, numbered, map_answer}
 use Rattle.shape.specs.Shape.{Shape, uint, tail, Values, anything, decoded}
 use Rattle.protocol_param.specs.Value.{union, case_of, size_of, text_in, size_at}
 use Rattle.protocol_param.specs.declared.get_set_request.Request.{Request}
-use Rattle.protocol_param.specs.declared.get_set_request.Read.{Read}
-use Rattle.protocol_param.specs.declared.get_set_request.Read.TheVariants.{Refused, Got}
 
 -- the name, last in request and response: any bytes
 abbrev pub name_only : Shape
@@ -33,10 +31,6 @@ request_of v =
       string_value = record { at = 3; len = length x.text };
       name = record { at = 1 + size_of x.value (length x.text); len = length x.rest };
     }
-
-abbrev pub answer_of : Read → Numbered Request
-answer_of (Refused n) = numbered (refused n)
-answer_of (Got x) = numbered (got x)
 
 -- what a payload gives
 abbrev pub request_in : List ℕ → Numbered Request

@@ -1,13 +1,11 @@
 -- RULES 10.13: GetSet's response. Value and default value, each after 5 bits of padding; maximum and minimum, each after 6; name list of at most 92.
 use Rattle.std.specs.Prelude.{ℕ, ◌+◌, List, [], length, drop}
-use Rattle.shape.specs.Answer.{refused, got, Numbered, numbered, map_answer}
+use Rattle.shape.specs.Answer.{Numbered, numbered, map_answer}
 use Rattle.shape.specs.Shape.{Shape, void, Values, decoded}
 use Rattle.protocol_param.specs.Value.{union, value_values, case_of, size_of, text_in, size_at}
 use Rattle.protocol_param.specs.GetSetRequest.{name_only}
 use Rattle.protocol_param.specs.declared.value.Value.{Value}
 use Rattle.protocol_param.specs.declared.get_set_response.Response.{Response}
-use Rattle.protocol_param.specs.declared.get_set_response.Read.{Read}
-use Rattle.protocol_param.specs.declared.get_set_response.Read.TheVariants.{Refused, Got}
 
 -- from the minimum on, from the maximum on, from the default value on
 abbrev pub min_then : Shape
@@ -64,10 +62,6 @@ response_of v =
       min_value = d.value;
       name = record { at = min + size_of d.value (length d.text); len = length d.rest };
     }
-
-abbrev pub answer_of : Read → Numbered Response
-answer_of (Refused n) = numbered (refused n)
-answer_of (Got x) = numbered (got x)
 
 -- what a payload gives
 abbrev pub response_in : List ℕ → Numbered Response

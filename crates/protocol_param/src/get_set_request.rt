@@ -1,15 +1,15 @@
 // GetSet's request (service 11; RULES 10.12).
 ghost use Rattle.std.specs.Prelude.{◌≡◌};
 ghost use Rattle.shape.specs.Answer as answer;
-ghost use Rattle.shape.specs.Answer.{numbered};
+ghost use Rattle.shape.specs.Answer.{numbered, answer_of};
 ghost use Rattle.shape.specs.Shape.{decoded, written};
 ghost use Rattle.protocol_param.specs.Value.{value_values};
-ghost use Rattle.protocol_param.specs.GetSetRequest.{name_only, request, request_text_in, request_name_at, request_name_in, request_in, answer_of};
+ghost use Rattle.protocol_param.specs.GetSetRequest.{name_only, request, request_text_in, request_name_at, request_name_in, request_in};
 
 use super::value;
 use super::value::Value;
 use bits::field;
-use shape::answer::{Place, Written};
+use shape::answer::{Place, Refusal};
 use shape::{number, part};
 
 #[derive(Drop)]
@@ -19,12 +19,6 @@ pub struct Request {
     // of a value that is no text, empty
     pub string_value: Place,
     pub name: Place,
-}
-
-#[derive(Drop)]
-pub enum Read {
-    Refused(u32),
-    Got(Request),
 }
 
 // Where the name begins: after the value, whose tag is in the second byte.
@@ -48,29 +42,23 @@ pub fn name(payload: &[u8]) -> &[u8]
     part::behind(payload, name_at(payload))
 }
 
-// What the payload is refused for; 0 if it is not.
-fn refusal(payload: &[u8]) -> u32
-    ensures { result ≡ (numbered (decoded request payload.now)).number }
+// What the payload is refused for.
+fn refusal(payload: &[u8]) -> Result<(), Refusal>
+    ensures { (answer_of result).number ≡ (numbered (decoded request payload.now)).number }
 {
-    let n = value::refusal(part::behind(payload, 1), 5);
-    if n != 0 {
-        return n;
-    }
+    value::refusal(part::behind(payload, 1), 5)?;
     if 92 < name(payload).len() {
-        return 16;
+        return Err(Refusal::TooLong);
     }
-    0
+    Ok(())
 }
 
 // Reads a request: 15 for a payload that ends too early, 27 for a tag that no case has, 16 for a list that is too long.
-pub fn decode(payload: &[u8]) -> Read
+pub fn decode(payload: &[u8]) -> Result<Request, Refusal>
     ensures { answer_of result ≡ request_in payload.now }
 {
-    let n = refusal(payload);
-    if n != 0 {
-        return Read::Refused(n);
-    }
-    Read::Got(Request {
+    refusal(payload)?;
+    Ok(Request {
         index: number::read(payload, 0, 13),
         value: value::read(part::behind(payload, 1), 5),
         string_value: Place {
@@ -86,24 +74,30 @@ pub fn decode(payload: &[u8]) -> Read
 
 // Writes a request to the front of `out`, numbers saturated: 27 for a value of no case, then 17 for a list that is too long, then 8 for too
 // little room. The text is written if the value is one, and else not looked at.
-pub fn encode(index: i64, v: Value, string_value: &[u8], name: &[u8], out: &mut [u8]) -> Written
+pub fn encode(
+    index: i64,
+    v: Value,
+    string_value: &[u8],
+    name: &[u8],
+    out: &mut [u8],
+) -> Result<usize, Refusal>
     ensures { (answer.answer_of result, out.new) ≡ written request (index, value_values v string_value.now 5 name_only name.now) out.old }
 {
     let known = value::known(v, 5);
     let fits = value::fits(v, string_value) & (name.len() <= 92);
     if !known {
-        return Written::Refused(27);
+        return Err(Refusal::NoCase);
     }
     if !fits {
-        return Written::Refused(17);
+        return Err(Refusal::NotAllowed);
     }
     let at = 1 + value::written_size(v, string_value);
     let n = at + name.len();
     if out.len() < n {
-        return Written::Refused(8);
+        return Err(Refusal::NoRoom);
     }
     number::write(out, 0, 13, index);
     value::write(out, 1, 5, v, string_value);
     field::write_bytes(out, at, name);
-    Written::Wrote(n)
+    Ok(n)
 }

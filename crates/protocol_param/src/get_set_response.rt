@@ -2,16 +2,16 @@
 ghost use Rattle.std.specs.Prelude.{◌≡◌, ◌+◌, ◌*◌, ◌≤◌, ◌<◌, length};
 ghost use Rattle.bits.specs.Order.{store};
 ghost use Rattle.shape.specs.Answer as answer;
-ghost use Rattle.shape.specs.Answer.{numbered};
+ghost use Rattle.shape.specs.Answer.{numbered, answer_of};
 ghost use Rattle.shape.specs.Shape.{decoded, written};
 ghost use Rattle.protocol_param.specs.Value.{size_of, text_in};
 ghost use Rattle.protocol_param.specs.inside.Value.{all_known, padded_bits, value_bits};
-ghost use Rattle.protocol_param.specs.GetSetResponse.{response, response_values, default_at, max_at, min_at, name_at, default_text_in, name_in, response_in, answer_of};
+ghost use Rattle.protocol_param.specs.GetSetResponse.{response, response_values, default_at, max_at, min_at, name_at, default_text_in, name_in, response_in};
 
 use super::value;
 use super::value::Value;
 use bits::{field, width};
-use shape::answer::{Place, Written};
+use shape::answer::{Place, Refusal};
 use shape::part;
 
 #[derive(Clone, Copy)]
@@ -25,12 +25,6 @@ pub struct Response {
     pub max_value: Value,
     pub min_value: Value,
     pub name: Place,
-}
-
-#[derive(Drop)]
-pub enum Read {
-    Refused(u32),
-    Got(Response),
 }
 
 // Where the values after the first begin, and the name.
@@ -82,42 +76,27 @@ pub fn name(payload: &[u8]) -> &[u8]
     part::behind(payload, name_at(payload))
 }
 
-// What the payload is refused for; 0 if it is not.
-fn refusal(payload: &[u8]) -> u32
-    ensures { result ≡ (numbered (decoded response payload.now)).number }
+// What the payload is refused for.
+fn refusal(payload: &[u8]) -> Result<(), Refusal>
+    ensures { (answer_of result).number ≡ (numbered (decoded response payload.now)).number }
 {
-    let a = value::refusal(payload, 5);
-    if a != 0 {
-        return a;
-    }
-    let b = value::refusal(part::behind(payload, default_at(payload)), 5);
-    if b != 0 {
-        return b;
-    }
-    let c = value::refusal(part::behind(payload, max_at(payload)), 3);
-    if c != 0 {
-        return c;
-    }
-    let d = value::refusal(part::behind(payload, min_at(payload)), 3);
-    if d != 0 {
-        return d;
-    }
+    value::refusal(payload, 5)?;
+    value::refusal(part::behind(payload, default_at(payload)), 5)?;
+    value::refusal(part::behind(payload, max_at(payload)), 3)?;
+    value::refusal(part::behind(payload, min_at(payload)), 3)?;
     if 92 < name(payload).len() {
-        return 16;
+        return Err(Refusal::TooLong);
     }
-    0
+    Ok(())
 }
 
 // Reads a response: 15 for a payload that ends too early, 27 for a tag that no case has, 16 for a list that is too long.
-pub fn decode(payload: &[u8]) -> Read
+pub fn decode(payload: &[u8]) -> Result<Response, Refusal>
     ensures { answer_of result ≡ response_in payload.now }
 {
-    let n = refusal(payload);
-    if n != 0 {
-        return Read::Refused(n);
-    }
+    refusal(payload)?;
     let at = default_at(payload);
-    Read::Got(Response {
+    Ok(Response {
         value: value::read(payload, 5),
         string_value: Place {
             at: 2,
@@ -214,17 +193,17 @@ pub fn encode(
     min_value: Value,
     name: &[u8],
     out: &mut [u8],
-) -> Written
+) -> Result<usize, Refusal>
     ensures { (answer.answer_of result, out.new) ≡ written response (response_values v string_value.now default_value default_string_value.now max_value min_value name.now) out.old }
 {
     let all_known = known(v, default_value, max_value, min_value);
     let texts = value::fits(v, string_value) & value::fits(default_value, default_string_value);
     let fits = texts & (name.len() <= 92);
     if !all_known {
-        return Written::Refused(27);
+        return Err(Refusal::NoCase);
     }
     if !fits {
-        return Written::Refused(17);
+        return Err(Refusal::NotAllowed);
     }
     let at = values_size(
         v,
@@ -236,7 +215,7 @@ pub fn encode(
     );
     let n = at + name.len();
     if out.len() < n {
-        return Written::Refused(8);
+        return Err(Refusal::NoRoom);
     }
     put_values(
         out,
@@ -248,5 +227,5 @@ pub fn encode(
         min_value,
     );
     field::write_bytes(out, at, name);
-    Written::Wrote(n)
+    Ok(n)
 }

@@ -1,12 +1,13 @@
 // The value of a parameter (RULES 10.11): uavcan.protocol.param.Value, a union of five cases, and NumericValue, of the first three of them.
 ghost use Rattle.std.specs.Prelude.{◌≡◌, ◌+◌, ◌*◌, ◌-◌, ◌≤◌, ◌<◌, ltb, length};
 ghost use Rattle.bits.specs.Order.{store};
-ghost use Rattle.shape.specs.Answer.{numbered};
+ghost use Rattle.shape.specs.Answer.{numbered, answer_of};
 ghost use Rattle.shape.specs.Shape.{tag_width};
 ghost use Rattle.protocol_param.specs.Value.{value_of_tag, size_of, tag_at, value_at, text_length, text_in, size_at};
 ghost use Rattle.protocol_param.specs.inside.Value.{sized, tag_of, text_bits, content_bits, union_bits, text_fits};
 
 use bits::{field, width};
+use shape::answer::Refusal;
 use shape::{number, part};
 
 // A number is in the value itself. A text is beside it: a slice for a writer, a place from a reader.
@@ -97,25 +98,25 @@ pub fn size(s: &[u8], cases: u64) -> usize
     }
 }
 
-// Internal. What the value is refused for: 15 where it is cut, 27 for a tag that no case has, 16 for a text that is too long. 0 if it is all there.
-pub fn refusal(s: &[u8], cases: u64) -> u32
+// Internal. What the value is refused for: 15 where it is cut, 27 for a tag that no case has, 16 for a text that is too long.
+pub fn refusal(s: &[u8], cases: u64) -> Result<(), Refusal>
     requires { (2 ≤ cases) × (cases ≤ 5) }
-    ensures { result ≡ (numbered (sized cases s.now)).number }
+    ensures { (answer_of result).number ≡ (numbered (sized cases s.now)).number }
 {
     if s.len() < 1 {
-        return 15;
+        return Err(Refusal::TooShort);
     }
     if cases <= tag(s, cases) {
-        return 27;
+        return Err(Refusal::NoCase);
     }
     let n = size(s, cases);
     if s.len() < n {
-        return 15;
+        return Err(Refusal::TooShort);
     }
     if 130 < n {
-        return 16;
+        return Err(Refusal::TooLong);
     }
-    0
+    Ok(())
 }
 
 // Internal. The value, if it is all there.

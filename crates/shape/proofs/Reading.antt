@@ -20,6 +20,7 @@ use Rattle.std.specs.declared.result.Result.{Result}
 use Rattle.std.proofs.lemmas.Result.{err_from_is_err_and}
 use Rattle.shape.specs.Answer.{Answer, refused, got, numbered, number_of, answer_of, refuse_if, map_answer}
 use Rattle.shape.specs.declared.answer.Refusal.{Refusal}
+use Rattle.shape.specs.declared.answer.Refusal.TheVariants.{NoRoom, TooShort, TooLong, NotAllowed, Padding, NoCase}
 use Rattle.shape.specs.Cast.{Sign, signed, unsigned, saturated, value_of}
 use Rattle.shape.specs.Shape.{Shape, end, num, raw, void, items, list, tail, choice, tag_width, Values, anything, items_of, decode}
 
@@ -94,6 +95,15 @@ refused-from f (got a) n e = absurd (let z : ◌≡◌ {A = ℕ} 0 1 = cc in ome
 -- a refusal that `?` hands on
 pub handed-on : {A : Type 0} (r : Result A Refusal) (y : Refusal) → IsErrAnd r (λ (x : Refusal). x ≡ y) → answer_of r ≡ numbered (refused (number_of y))
 handed-on r y h = let p = err_from_is_err_and r h in rw (p.1, p.2)
+
+-- a refusal's number is not that of success
+pub not_0 : (y : Refusal) → number_of y ≡ 0 → ⊥
+not_0 NoRoom e = absurd (omega arith)
+not_0 TooShort e = absurd (omega arith)
+not_0 TooLong e = absurd (omega arith)
+not_0 NotAllowed e = absurd (omega arith)
+not_0 Padding e = absurd (omega arith)
+not_0 NoCase e = absurd (omega arith)
 
 -- two answers of one payload
 pub never : {A : Type 0} {x : Answer A} {k : ℕ} {v : A} → x ≡ refused k → x ≡ got v → ⊥

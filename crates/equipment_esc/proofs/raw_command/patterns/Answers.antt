@@ -1,5 +1,5 @@
 -- `raw_command::patterns` meets its contract. The invariant: the patterns of the first i stand in front.
-use mathlib.Core.Path.{◌≡◌, refl, ap, ◌∙◌}
+use mathlib.Core.Path.{◌≡◌, ap, ◌∙◌}
 use mathlib.Core.List.{◌++◌, map}
 use Prim.Native.Nat.{ℕ, ◌-◌}
 use native.Mathlib.Omega.{arith}
@@ -10,36 +10,15 @@ use Rattle.equipment_esc.specs.RawCommand.{pattern_of}
 use Rattle.equipment_esc.proofs.RawCommandFacts.{mapped, held}
 use Rattle.equipment_esc.proofs.raw_command.patterns.Goals as goal
 
-pub loop-i-init : goal.loop-i-init
-loop-i-init c = (omega arith, refl)
-
-pub offset_bounds-cmd-i : goal.offset_bounds-cmd-i
-offset_bounds-cmd-i c = omega arith
-
-pub bounds-cmd-i : goal.bounds-cmd-i
-bounds-cmd-i c = omega arith
-
 pub signed-requires : goal.signed-requires
 signed-requires c = (lit≤ tt, lit≤ tt)
-
-pub offset_bounds-p-i : goal.offset_bounds-p-i
-offset_bounds-p-i c = omega arith
-
-pub bounds-p-i : goal.bounds-p-i
-bounds-p-i c = omega arith
-
-pub overflow_add-i : goal.overflow_add-i
-overflow_add-i c = omega arith
-
-pub loop-i-smaller : goal.loop-i-smaller
-loop-i-smaller c = omega arith
 
 pub loop-i-preserved : goal.loop-i-preserved
 loop-i-preserved c =
     let z = get_or c.args.cmd c.loop-i.i (pos 0) in
-    (omega arith, mapped pattern_of c.args.cmd (pos 0) 0 c.loop-i.p c.loop-i.i c.signed.result (omega arith) (omega arith) c.loop-i.invariant.1 (c.signed.ensures ∙ ap (λ (y : ℤ). pattern_of y) (held z c.v-1.given)))
+    mapped pattern_of c.args.cmd (pos 0) 0 c.loop-i.p c.loop-i.i c.signed.result (omega arith) (omega arith) c.loop-i.invariant (c.signed.ensures ∙ ap (λ (y : ℤ). pattern_of y) (held z c.v-1.given))
 
 pub returns : goal.returns
 returns c =
     let e : c.loop-i.i ≡ c.args.n = omega arith in
-    c.loop-i.invariant.1 ∙ ap (λ (k : ℕ). map pattern_of (take k c.args.cmd) ++ replicate (20 - k) 0) e
+    c.loop-i.invariant ∙ ap (λ (k : ℕ). map pattern_of (take k c.args.cmd) ++ replicate (20 - k) 0) e

@@ -1,12 +1,9 @@
 use mathlib.Core.Path.{◌≡◌}
 use mathlib.Core.List.{◌++◌, map}
-use Prim.Native.Nat.{◌-◌, ◌≤◌}
+use Prim.Native.Nat.{◌-◌}
 use lib.ListN.{take, replicate}
 use Rattle.equipment_esc.specs.RawCommand.{pattern_of}
 use Rattle.equipment_esc.proofs.raw_command.patterns.Given as goal
 
 abbrev pub invariant-loop-i : goal.invariant-loop-i
-invariant-loop-i l = (l.i ≤ l.n) × (l.p ≡ map pattern_of (take l.i l.cmd) ++ replicate (20 - l.i) 0)
-
-abbrev pub decreases-loop-i : goal.decreases-loop-i
-decreases-loop-i l = l.n - l.i
+invariant-loop-i l = l.p ≡ map pattern_of (take l.i l.cmd) ++ replicate (20 - l.i) 0

@@ -5,28 +5,28 @@ use Prim.Native.Nat.{ℕ}
 use native.Mathlib.Omega.{arith}
 use lib.ListN.{length, drop}
 use Rattle.bits.proofs.Octets.{octets-all}
-use Rattle.protocol_param.proofs.ValueFacts.{number_of, refused-by, value-all}
+use Rattle.protocol_param.proofs.ValueFacts.{number_of, value-all, stops}
 use Rattle.protocol_param.proofs.GetSetFacts.{request-stop, request-long, request-held}
 use Rattle.protocol_param.specs.inside.Value.{sized}
 use Rattle.protocol_param.proofs.get_set_request.refusal.Goals as goal
 
-pub returns-then-n-ne0 : goal.returns-then-n-ne0
-returns-then-n-ne0 c =
+pub returns-in_err-refusal : goal.returns-in_err-refusal
+returns-in_err-refusal c =
     let p = c.args.payload.now in
     let o = octets-all p (λ i. omega (arith, c.shared_slice_known-1.given i)) in
-    let e = c.refusal-n.ensures ∙ ap (λ (l : List ℕ). number_of (sized 5 l)) c.behind.ensures in
-    sym (ap number_of (request-stop p o c.refusal-n.result (refused-by (sized 5 (drop 1 p)) c.refusal-n.result e c.if-n-ne0.true)))
+    let e = c.in_err-refusal.ensures ∙ ap (λ (l : List ℕ). number_of (sized 5 l)) c.behind.ensures in
+    stops (sized 5 (drop 1 p)) c.from_residual.result c.in_err-refusal.field-0.0 c.from_residual.ensures.1 e (request-stop p o)
 
 pub returns-then-name-gt92 : goal.returns-then-name-gt92
 returns-then-name-gt92 c =
     let p = c.args.payload.now in
     let o = octets-all p (λ i. omega (arith, c.shared_slice_known-1.given i)) in
-    let e = c.refusal-n.ensures ∙ ap (λ (l : List ℕ). number_of (sized 5 l)) c.behind.ensures in
-    sym (ap number_of (request-long p o (value-all 5 (drop 1 p) (sym c.if-n-ne0.false ∙ e)) (omega (arith, ap (λ (l : List ℕ). length l) c.name.ensures, c.if-name-gt92.true))))
+    let e = c.in_ok-refusal.ensures ∙ ap (λ (l : List ℕ). number_of (sized 5 l)) c.behind.ensures in
+    sym (ap number_of (request-long p o (value-all 5 (drop 1 p) e) (omega (arith, ap (λ (l : List ℕ). length l) c.name.ensures, c.if-name-gt92.true))))
 
 pub returns : goal.returns
 returns c =
     let p = c.args.payload.now in
     let o = octets-all p (λ i. omega (arith, c.shared_slice_known-1.given i)) in
-    let e = c.refusal-n.ensures ∙ ap (λ (l : List ℕ). number_of (sized 5 l)) c.behind.ensures in
-    sym (ap number_of (request-held p o (value-all 5 (drop 1 p) (sym c.if-n-ne0.false ∙ e)) (omega (arith, ap (λ (l : List ℕ). length l) c.name.ensures, c.if-name-gt92.false))))
+    let e = c.in_ok-refusal.ensures ∙ ap (λ (l : List ℕ). number_of (sized 5 l)) c.behind.ensures in
+    sym (ap number_of (request-held p o (value-all 5 (drop 1 p) e) (omega (arith, ap (λ (l : List ℕ). length l) c.name.ensures, c.if-name-gt92.false))))
