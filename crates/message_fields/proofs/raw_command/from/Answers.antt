@@ -1,5 +1,5 @@
 -- `raw_command::from` meets its contract. The invariant: the first i numbers are read.
-use mathlib.Core.Path.{◌≡◌, refl, sym, ap, ◌∙◌}
+use mathlib.Core.Path.{◌≡◌, sym, ap, ◌∙◌}
 use mathlib.Core.List.{List}
 use Prim.Native.Nat.{ℕ, ◌+◌, ◌≤◌, ◌<◌}
 use native.Mathlib.Omega.{arith}
@@ -19,9 +19,6 @@ twenty ws h = length-span ws 1 20 h
 -- the number after the count and i more
 word_at : (ws : List ℕ) (i : ℕ) → i < 20 → get_or ws (i + 1) 0 ≡ get_or (span ws 1 20) i 0
 word_at ws i h = ap (λ (k : ℕ). get_or ws k 0) (omega arith) ∙ sym (get_or-take 20 (drop 1 ws) i 0 h ∙ get_or-drop 1 ws i 0)
-
-pub loop-i-init : goal.loop-i-init
-loop-i-init c = refl
 
 pub loop-i-preserved : goal.loop-i-preserved
 loop-i-preserved c =

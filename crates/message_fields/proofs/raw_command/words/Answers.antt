@@ -19,9 +19,6 @@ turn cmd n w i v h k e g =
     ap (λ (l : List ℕ). set l (i + 1) v) e ∙ ap (λ (j : ℕ). set (n ∷ front cmd i) j v) (add-one i)
     ∙ ap (λ (l : List ℕ). n ∷ l) (mapped word cmd (pos 0) 0 (front cmd i) i v h k refl g)
 
-pub loop-i-init : goal.loop-i-init
-loop-i-init c = refl
-
 pub loop-i-preserved : goal.loop-i-preserved
 loop-i-preserved c =
     turn c.args.x.cmd c.args.x.count c.loop-i.w c.loop-i.i c.word.result (omega arith) (omega arith) c.loop-i.invariant (word-of _ (record { sfits = c.v-1.given }) _ c.word.ensures)
