@@ -50,7 +50,7 @@ pub fn decode(payload: &[u8]) -> Result<RawCommand, Refusal>
     })
 }
 
-// The patterns of the first n, saturated, and zeros.
+// The patterns of the first n, saturated, and zeros. Not one with `numbers`: that would take a closure, which the translation to C has not.
 fn patterns(cmd: [i64; 20], n: usize) -> [u64; 20]
     requires { n ≤ 20 }
     ensures { result ≡ map pattern_of (take n cmd) ++ replicate (20 - n) 0 }

@@ -3,7 +3,7 @@
 use Rattle.std.specs.Prelude.{Bool, List, ℕ, pos, length, drop}
 use Rattle.binary16.specs.Convert.{float_of, binary16_of}
 use Rattle.bits.specs.Order.{from_bits}
-use Rattle.shape.specs.Answer.{Answer, Numbered, numbered, map_answer}
+use Rattle.shape.specs.Answer.{Answer, map_answer}
 use Rattle.shape.specs.Shape.{Shape, uint, raw, tail, Values, anything, decoded}
 use Rattle.shape.specs.declared.answer.Place.{Place}
 use Rattle.equipment_power.specs.declared.battery_info.BatteryInfo.{BatteryInfo}

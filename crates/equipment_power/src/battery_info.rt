@@ -99,7 +99,7 @@ pub fn decode_raw(payload: &[u8]) -> Result<(Raw, Place), Refusal>
     Ok((read_numbers(payload), Place { at: 23, len }))
 }
 
-// Each binary16 as an f32 (RULES 9.12).
+// Each binary16 as an f32 (RULES 9.12). No From: a NaN's bits are lost.
 fn widened(m: Raw) -> BatteryInfo
     ensures { result ≡ widened_info m }
 {
@@ -180,7 +180,7 @@ pub fn encode_raw(m: Raw, model_name: &[u8], out: &mut [u8]) -> Result<usize, Re
     Ok(n)
 }
 
-// Each f32 as its nearest binary16 (RULES 9.12).
+// Each f32 as its nearest binary16 (RULES 9.12). No From: it rounds.
 fn narrowed(x: BatteryInfo) -> Raw
     ensures { result ≡ narrowed_info x }
 {

@@ -1,19 +1,18 @@
 -- ExecuteOpcode in a payload, and as it is written.
 use mathlib.Core.Path.{◌≡◌, refl, sym, ap, ◌∙◌}
-use mathlib.Core.Bool.{Bool, true, false, not}
+use mathlib.Core.Bool.{Bool, true, false}
 use mathlib.Core.List.{List, [], ◌∷◌, ◌++◌, append-nil}
 use Prim.Native.Nat.{ℕ, ◌*◌, ◌-◌, ◌≤◌, ◌<◌}
 use native.Mathlib.Omega.{arith}
-use lib.Dec.{leb}
 use lib.IntN.{ℤ, pos}
 use lib.ListN.{length, drop, replicate, length-append, length-drop}
 use Rattle.bits.specs.Order.{unpack, to_bits, from_bits, bytes_for, padding, store}
 use Rattle.bits.proofs.Bytes.{length-unpack}
 use Rattle.bits.proofs.Numbers.{length-to_bits}
-use Rattle.shape.specs.Answer.{Answer, refused, got, numbered, refuse_if}
+use Rattle.shape.specs.Answer.{refused, got}
 use Rattle.shape.specs.Cast.{unsigned, signed, saturated, cast_bits}
 use Rattle.shape.specs.Signed.{signed_of}
-use Rattle.shape.specs.Shape.{end, Values, all_zero, encode, decode, decoded, fits}
+use Rattle.shape.specs.Shape.{end, encode, decode, decoded, fits}
 use Rattle.shape.proofs.Reading.{value, integer, with_head, head_read, head_bytes, head-short, end_none, end-left, refused-on, got-on}
 use Rattle.shape.proofs.Writing.{more}
 use Rattle.protocol_param.specs.ExecuteOpcode.{opcode_request, opcode_response, request_values, request_of, response_values, response_of, request_at, response_at}

@@ -19,7 +19,7 @@ use Rattle.protocol_param.specs.GetSetRequest.{name_only, request, request_name_
 use Rattle.protocol_param.specs.GetSetResponse.{min_then, max_then, default_then, response, default_at, max_at, min_at, name_in, response_of}
 use Rattle.protocol_param.specs.ExecuteOpcode as opcode
 use Rattle.protocol_param.specs.Laws.{request_found, response_found, opcode_request_found, opcode_response_found, Laws}
-use Rattle.protocol_param.proofs.ValueFacts.{eight, three, two, refused-by, either, by_length}
+use Rattle.protocol_param.proofs.ValueFacts.{eight, three, two, either, by_length}
 use Rattle.protocol_param.proofs.GetSetFacts.{request-stop, request-long, request-held, stop-value, stop-default, stop-max, stop-min, response-long, response-held}
 use Rattle.protocol_param.proofs.OpcodeFacts.{cut-request, long-request, held-request, cut-response, stop-response, held-response}
 

@@ -8,10 +8,6 @@ use borrow.Author.Tests.{lt-ltb, le-ltb, lt-leb, le-leb, ltb-true, ltb-false, le
 use lib.Dec.{ltb, leb, lit<, lit≤}
 use lib.ListN.{length, take, drop, length-drop}
 use lib.Seq.{drop-drop, take_all, length-take-le}
-use lib.IntN.{ℤ, pos, negsuc}
-use mir.Syntax.{w64}
-use mir.Val.{SFits, to_z, of_z}
-use mir.ValLaws.{to_z_pos}
 use Rattle.shape.proofs.SignedFacts.{is}
 use Rattle.bits.specs.Order.{Octets, value_from, unpack, number, from_bits}
 use Rattle.bits.specs.Order as order
@@ -29,7 +25,7 @@ use Rattle.shape.specs.declared.answer.Refusal.{Refusal}
 use Rattle.shape.specs.Shape.{Shape, void, list, tag_width, Values, decode}
 use Rattle.shape.proofs.There.{tag_fits}
 use Rattle.shape.proofs.Reading.{Slot, integer, same, value, slots, with_head, map-map, head_bytes, head-short, total, choice-at, choice-short, list-none, list-short, list-long, list_read, refused-on, got-on, handed-on, not_0}
-use Rattle.protocol_param.specs.Value.{value_then, union, value_values, value_of_tag, case_of, size_of, tag_at, case_at, known_or, value_at, announced, text_length, text_in, size_at, value_found}
+use Rattle.protocol_param.specs.Value.{value_then, union, value_values, case_of, size_of, tag_at, case_at, known_or, value_at, announced, text_length, text_in, size_at, value_found}
 use Rattle.protocol_param.specs.inside.Value.{sized}
 use Rattle.protocol_param.specs.declared.value.Value.{Value}
 use Rattle.protocol_param.specs.declared.value.Value.TheVariants.{Empty, Integer, Real, Boolean, Text, Unknown}
@@ -519,18 +515,3 @@ by_length {C} n m f g = go (ltb m n) refl where
   go : (b : Bool) → ltb m n ≡ b → C
   go true e = f (ltb-true m n e)
   go false e = g (ltb-false m n e)
-
--- ── a tag that is given ──
-
--- what the code compares is the number's 64 bits
-pub of-case : (z : ℤ) → SFits w64 z → (k : ℕ) → k < 2 ^ 63 → of_z w64 z ≡ k → z ≡ pos k
-of-case z f k l e = sym (is z f) ∙ ap (λ (n : ℕ). to_z w64 n) e ∙ to_z_pos w64 k l
-
-pub no-case : (z i b : ℤ) (x : ℕ) → (z ≡ pos 0 → ⊥) → (z ≡ pos 1 → ⊥) → (z ≡ pos 2 → ⊥) → (z ≡ pos 3 → ⊥) → (z ≡ pos 4 → ⊥) → Unknown ≡ value_of_tag z i x b
-no-case (pos zero) i b x a c d e f = absurd (a refl)
-no-case (pos (suc zero)) i b x a c d e f = absurd (c refl)
-no-case (pos (suc (suc zero))) i b x a c d e f = absurd (d refl)
-no-case (pos (suc (suc (suc zero)))) i b x a c d e f = absurd (e refl)
-no-case (pos (suc (suc (suc (suc zero))))) i b x a c d e f = absurd (f refl)
-no-case (pos (suc (suc (suc (suc (suc t)))))) i b x a c d e f = refl
-no-case (negsuc t) i b x a c d e f = refl

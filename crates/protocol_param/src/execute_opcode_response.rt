@@ -1,4 +1,4 @@
-// ExecuteOpcode's response (service 10; RULES 10.15).
+// ExecuteOpcode's response (service 10; RULES 10.15). Nothing in common with the request's code: other fields, and bits left over.
 ghost use Rattle.std.specs.Prelude.{◌≡◌};
 ghost use Rattle.shape.specs.Answer as answer;
 ghost use Rattle.shape.specs.Answer.{answer_of};

@@ -1,4 +1,4 @@
-// GetSet's response (service 11; RULES 10.13).
+// GetSet's response (service 11; RULES 10.13). What it has in common with the request is in `value`.
 ghost use Rattle.std.specs.Prelude.{◌≡◌, ◌+◌, ◌*◌, ◌≤◌, ◌<◌, length};
 ghost use Rattle.bits.specs.Order.{store};
 ghost use Rattle.shape.specs.Answer as answer;

@@ -27,22 +27,14 @@ pub enum Value {
 pub fn of_tag(tag: i64, integer_value: i64, real_value: u32, boolean_value: i64) -> Value
     ensures { result ≡ value_of_tag tag integer_value real_value boolean_value }
 {
-    if tag == 0 {
-        return Value::Empty;
+    match tag {
+        0 => Value::Empty,
+        1 => Value::Integer(integer_value),
+        2 => Value::Real(real_value),
+        3 => Value::Boolean(boolean_value),
+        4 => Value::Text,
+        _ => Value::Unknown,
     }
-    if tag == 1 {
-        return Value::Integer(integer_value);
-    }
-    if tag == 2 {
-        return Value::Real(real_value);
-    }
-    if tag == 3 {
-        return Value::Boolean(boolean_value);
-    }
-    if tag == 4 {
-        return Value::Text;
-    }
-    Value::Unknown
 }
 
 // ── reading: s is the payload from the byte on whose lowest bits are the tag ──

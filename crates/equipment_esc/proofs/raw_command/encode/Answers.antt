@@ -8,12 +8,6 @@ use Rattle.equipment_esc.proofs.raw_command.encode.Goals as goal
 pub returns-then-n-gt20 : goal.returns-then-n-gt20
 returns-then-n-gt20 c = let a = c.args in too_many a.x a.out.now c.if-n-gt20.true
 
-pub overflow_mul-len : goal.overflow_mul-len
-overflow_mul-len c = omega (arith, c.if-n-gt20.false)
-
-pub overflow_add-len : goal.overflow_add-len
-overflow_add-len c = omega (arith, c.if-n-gt20.false)
-
 pub returns-then-out-len : goal.returns-then-out-len
 returns-then-out-len c =
     too_short c.args.x c.args.out.now (search rules) c.if-n-gt20.false c.if-out-len.true

@@ -3,9 +3,6 @@ use native.Mathlib.Omega.{arith}
 use Rattle.protocol_param.proofs.WriteFacts.{size_none}
 use Rattle.protocol_param.proofs.get_set_response.values_size.Goals as goal
 
-pub overflow_add-result-2 : goal.overflow_add-result-2
-overflow_add-result-2 c = omega (arith, c.written_size.ensures, c.written_size-2.ensures, c.written_size-3.ensures, size_none c.args.max_value)
-
 pub overflow_add-result-3 : goal.overflow_add-result-3
 overflow_add-result-3 c =
     let a = c.args in
