@@ -1,22 +1,17 @@
--- Whether bytes begin the own unique ID, byte by byte.
-use mathlib.Core.Path.{◌≡◌}
-use mathlib.Core.Bool.{true, false}
-use mathlib.Core.List.{List}
-use Prim.Native.Nat.{ℕ, suc, ◌≤◌, ◌<◌}
-use borrow.Author.Tests.{eq-eqb, ne_eqb}
-use lib.ListN.{length, drop, get_or, drop_of_length-le}
-use lib.Seq.{drop-cons}
+-- Whether bytes begin the own unique ID, as the comparison of slices says it.
+use mathlib.Core.Path.{◌≡◌, refl, ap}
+use mathlib.Core.Bool.{Bool, ◌&&◌}
+use mathlib.Core.List.{List, [], ◌∷◌}
+use Prim.Native.Nat.{ℕ, zero, suc, ◌≤◌}
+use native.Mathlib.Omega.{arith}
+use lib.Dec.{eqb}
+use lib.ListN.{length, take}
+use lib.Pointwise.{pointwise}
 use Rattle.allocatee.specs.Calls.{begins}
 
-module _ (u y : List ℕ) (i : ℕ) (h : i < length u) (l : i < length y) where
-  pub same : get_or u i 0 ≡ get_or y i 0 → begins (drop (suc i) u) (drop (suc i) y) ≡ begins (drop i u) (drop i y)
-  unfolding begins
-  same e = rw (drop-cons u i 0 h, drop-cons y i 0 l, eq-eqb (get_or u i 0) (get_or y i 0) e)
-
-  pub differs : (get_or u i 0 ≡ get_or y i 0 → ⊥) → false ≡ begins (drop i u) (drop i y)
-  unfolding begins
-  differs n = rw (drop-cons u i 0 h, drop-cons y i 0 l, ne_eqb (get_or u i 0) (get_or y i 0) n)
-
-pub over : (u y : List ℕ) (i : ℕ) → length u ≤ i → true ≡ begins (drop i u) (drop i y)
+pub same_front : (u m : List ℕ) (n : ℕ) → length u ≤ n → length u ≤ length m → pointwise eqb u (take (length u) m) ≡ begins u (take n m)
 unfolding begins
-over u y i h = rw (drop_of_length-le u h)
+same_front [] m n h l = refl
+same_front (x ∷ u) [] n h l = absurd (omega arith)
+same_front (x ∷ u) (y ∷ m) zero h l = absurd (omega arith)
+same_front (x ∷ u) (y ∷ m) (suc n) h l = ap (λ (b : Bool). eqb x y && b) (same_front u m n (omega arith) (omega arith))

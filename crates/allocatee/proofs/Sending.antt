@@ -12,9 +12,10 @@ use mir.Syntax.{w64}
 use mir.Val.{to_z}
 use mir.ValLaws.{to_z_pos}
 use Rattle.bits.specs.Part.{span}
-use Rattle.shape.specs.Answer.{Answer, refused, got, Numbered, numbered, answer_of, wrote}
-use Rattle.shape.specs.declared.answer.Written.{Written}
-use Rattle.shape.specs.declared.answer.Written.TheVariants as variants
+use Rattle.std.specs.Prelude.{Ok, Err}
+use Rattle.std.specs.declared.result.Result.{Result}
+use Rattle.shape.specs.Answer.{Answer, refused, got, Numbered, numbered, number_of, answer_of, wrote}
+use Rattle.shape.specs.declared.answer.Refusal.{Refusal}
 use Rattle.shape.specs.Shape.{encoded, written}
 use Rattle.protocol_dynamic_node_id.specs.Allocation.{allocation}
 use Rattle.allocatee.specs.Calls.{returned, sent_as, sent}
@@ -36,13 +37,14 @@ module _ (m m' out out' : List ℕ) (t n : ℕ) where
       let b : out' ≡ bs ++ drop (length bs) out = ap (λ (x : Numbered ℕ × List ℕ). x.1) p in
       cc
 
-  -- the writer's answer is an enum
-  pub refused-sent : (e : Answer (List ℕ)) (w : Written) → w ≡ variants.Refused n → ◌≡◌ {A = Numbered ℕ × List ℕ} (answer_of w, out') (wrote e out) → returned (Refused n) m out' ≡ sent_as e m m' t out
-  refused-sent e w q p = refused-by e (ap (λ (x : Written). (answer_of x, out')) (sym q) ∙ p)
+  -- the writer's answer is a Result
+  pub refused-sent : (e : Answer (List ℕ)) (w : Result ℕ Refusal) (r : Refusal) → w ≡ Err r → n ≡ number_of r → ◌≡◌ {A = Numbered ℕ × List ℕ} (answer_of w, out') (wrote e out)
+      → returned (Refused n) m out' ≡ sent_as e m m' t out
+  refused-sent e w r q i p = refused-by e (ap (λ (x : ℕ). (numbered (refused x), out')) i ∙ ap (λ (x : Result ℕ Refusal). (answer_of x, out')) (sym q) ∙ p)
 
-  pub wrote-sent : (e : Answer (List ℕ)) (w : Written) → w ≡ variants.Wrote n → ◌≡◌ {A = Numbered ℕ × List ℕ} (answer_of w, out') (wrote e out)
+  pub wrote-sent : (e : Answer (List ℕ)) (w : Result ℕ Refusal) → w ≡ Ok n → ◌≡◌ {A = Numbered ℕ × List ℕ} (answer_of w, out') (wrote e out)
       → returned (Sends (record { len = n; wait = wait_of m' t })) m' out' ≡ sent_as e m m' t out
-  wrote-sent e w q p = wrote_by e (ap (λ (x : Written). (answer_of x, out')) (sym q) ∙ p)
+  wrote-sent e w q p = wrote_by e (ap (λ (x : Result ℕ Refusal). (answer_of x, out')) (sym q) ∙ p)
 
 -- the preferred node ID, as a number of 64 bits
 pub node-sent : (n first : ℕ) (g out : List ℕ) → n < 256 → written allocation (to_z w64 n, (pos first, g)) out ≡ written allocation (pos n, (pos first, g)) out
@@ -56,15 +58,15 @@ module _ (first : ℕ) (part m m' : List ℕ) (t : ℕ) (out : List ℕ) where
   sent-room h = rw (le-ltb (length out) request_max h)
 
 -- the writer's answer for a payload that has room
-module _ (first : ℕ) (g part m m' out out' : List ℕ) (p t n : ℕ) (is : p ≡ preferred_of m) (small : p < 256) (bytes : g ≡ part) (room : request_max ≤ length out) (w : Written)
+module _ (first : ℕ) (g part m m' out out' : List ℕ) (p t n : ℕ) (is : p ≡ preferred_of m) (small : p < 256) (bytes : g ≡ part) (room : request_max ≤ length out) (w : Result ℕ Refusal)
     (e : ◌≡◌ {A = Numbered ℕ × List ℕ} (answer_of w, out') (written allocation (to_z w64 p, (pos first, g)) out)) where
   told : ◌≡◌ {A = Numbered ℕ × List ℕ} (answer_of w, out') (wrote (encoded allocation (pos (preferred_of m), (pos first, part)) (length out)) out)
   told = e ∙ node-sent p first g out small ∙ ap₂ (λ (x : ℕ) y. written allocation (pos x, (pos first, y)) out) is bytes
 
-  pub not-sent : w ≡ variants.Refused n → returned (Refused n) m out' ≡ sent first part m m' t out
-  not-sent q = refused-sent m m' out out' t n (encoded allocation (pos (preferred_of m), (pos first, part)) (length out)) w q told ∙ sent-room first part m m' t out room
+  pub not-sent : (r : Refusal) → w ≡ Err r → n ≡ number_of r → returned (Refused n) m out' ≡ sent first part m m' t out
+  not-sent r q i = refused-sent m m' out out' t n (encoded allocation (pos (preferred_of m), (pos first, part)) (length out)) w r q i told ∙ sent-room first part m m' t out room
 
-  pub is-sent : w ≡ variants.Wrote n → (m₁ : List ℕ) → m₁ ≡ m' → (k : ℕ) → k ≡ wait_of m₁ t → returned (Sends (record { len = n; wait = k })) m₁ out' ≡ sent first part m m' t out
+  pub is-sent : w ≡ Ok n → (m₁ : List ℕ) → m₁ ≡ m' → (k : ℕ) → k ≡ wait_of m₁ t → returned (Sends (record { len = n; wait = k })) m₁ out' ≡ sent first part m m' t out
   is-sent q m₁ e₁ k ek =
       ap₂ (λ (x : ℕ) y. returned (Sends (record { len = n; wait = x })) y out') (ek ∙ ap (λ y. wait_of y t) e₁) e₁
       ∙ wrote-sent m m' out out' t n (encoded allocation (pos (preferred_of m), (pos first, part)) (length out)) w q told ∙ sent-room first part m m' t out room

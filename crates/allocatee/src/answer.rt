@@ -10,6 +10,7 @@ pub struct Sending {
 }
 
 // `Waits` holds the microseconds until there is something to do, `Has` the node ID, `Refused` the number 8, 13, 15, 16 or 17.
+// No Result: three answers are no refusals, and each has a value of its own. A number, not an enum: `sent_as` and `on_read` hand on what a description refuses with.
 #[derive(Clone, Copy)]
 pub enum Answer {
     Waits(u64),

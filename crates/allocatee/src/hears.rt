@@ -13,14 +13,7 @@ fn matches(bytes: &[u8], u: &[u8]) -> bool
     requires { (size ≤ length bytes.now) × (length u.now ≤ unique_id_max) }
     ensures { result ≡ begins u.now (unique_of bytes.now) }
 {
-    let mut i = 0;
-    while i < u.len() {
-        if u[i] != bytes[i] {
-            return false;
-        }
-        i += 1;
-    }
-    true
+    bytes.starts_with(u)
 }
 
 // The message is from a named node, and for this one.

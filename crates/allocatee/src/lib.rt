@@ -19,7 +19,6 @@ use answer::Answer;
 use layout::SIZE;
 use limits::{NODE, UNIQUE_ID};
 use protocol_dynamic_node_id::allocation;
-use protocol_dynamic_node_id::allocation::Read;
 
 // What an allocatee is set up with, but for its unique ID.
 #[derive(Drop)]
@@ -92,9 +91,8 @@ pub fn hear(bytes: &mut [u8], q: Heard, payload: &[u8]) -> Answer
     if node != 0 {
         return Answer::Has(node);
     }
-    let read = allocation::decode(payload);
-    match read {
-        Read::Refused(n) => Answer::Refused(n),
-        Read::Got(a) => hears::message(bytes, q, a.node_id as u64, allocation::unique_id(payload)),
+    match allocation::decode(payload) {
+        Err(r) => Answer::Refused(r.number()),
+        Ok(a) => hears::message(bytes, q, a.node_id as u64, allocation::unique_id(payload)),
     }
 }

@@ -9,7 +9,6 @@ use super::layout::UNIQUE_AT;
 use super::limits::{REQUEST, STAGE, UNIQUE_ID};
 use super::{store, view};
 use protocol_dynamic_node_id::allocation;
-use shape::answer::Written;
 
 // A part of the unique ID ends here: six bytes after where it starts, or with the ID.
 fn part_end(at: usize) -> usize
@@ -34,8 +33,8 @@ pub fn follow_up(bytes: &mut [u8], t: u64, out: &mut [u8]) -> Answer
     let end = part_end(at);
     let sent = allocation::encode(view::preferred(bytes) as i64, 0, &bytes[at..end], out);
     match sent {
-        Written::Refused(n) => Answer::Refused(n),
-        Written::Wrote(n) => {
+        Err(r) => Answer::Refused(r.number()),
+        Ok(n) => {
             store::pending(bytes, 0);
             let wait = view::wait(bytes, t);
             Answer::Sends(Sending { len: n, wait })
@@ -58,8 +57,8 @@ pub fn request(bytes: &mut [u8], t: u64, x: u64, out: &mut [u8]) -> Answer
         out,
     );
     match sent {
-        Written::Refused(n) => Answer::Refused(n),
-        Written::Wrote(n) => {
+        Err(r) => Answer::Refused(r.number()),
+        Ok(n) => {
             store::timer(bytes, t, x);
             let wait = view::wait(bytes, t);
             Answer::Sends(Sending { len: n, wait })

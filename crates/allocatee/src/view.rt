@@ -5,7 +5,7 @@ ghost use Rattle.allocatee.specs.Layout.{size, preferred_of, node_of, pending_of
 use super::layout::{DELAY_AT, NODE_AT, PENDING_AT, PERIOD_AT, PREFERRED_AT, SINCE_AT};
 use super::limits::{PERIOD, SPREAD};
 
-// The node ID that was taken, or 0.
+// The node ID that was taken, or 0, as the state has it.
 pub fn node(bytes: &[u8]) -> u32
     requires { size ≤ length bytes.now }
     ensures { (result ≡ node_of bytes.now) × (result < 256) }
@@ -20,7 +20,7 @@ pub fn preferred(bytes: &[u8]) -> u32
     bytes[PREFERRED_AT] as u32
 }
 
-// One more than the number of bytes that a follow-up skips; 0 if none is pending.
+// One more than the number of bytes that a follow-up skips; 0 if none is pending, as the state has it.
 pub fn pending(bytes: &[u8]) -> usize
     requires { size ≤ length bytes.now }
     ensures { (result ≡ pending_of bytes.now) × (result < 256) }

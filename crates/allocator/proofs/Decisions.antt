@@ -1,12 +1,12 @@
 -- What is decided, case by case.
-use mathlib.Core.Path.{◌≡◌, refl, sym, ap, ◌∙◌}
+use mathlib.Core.Path.{◌≡◌, ap, ◌∙◌}
 use mathlib.Core.Bool.{true, false}
 use mathlib.Core.List.{List}
 use mathlib.Core.Option.{Option, none, some}
-use mathlib.Mathlib.Data.Bool.Basic.{and_elim_left, and_elim_right}
+use mathlib.Mathlib.Data.Bool.Basic.{and_elim_right}
 use Prim.Native.Nat.{ℕ, ◌+◌, ◌≤◌, ◌<◌}
 use native.Mathlib.Omega.{arith}
-use borrow.Author.Tests.{eq-eqb, ne_eqb, lt-ltb, le-ltb, ltb-true, leb-true}
+use borrow.Author.Tests.{eq-eqb, ne_eqb, lt-ltb, le-ltb, leb-true}
 use lib.Dec.{eqb, ltb}
 use lib.ListN.{length, length-append}
 use Rattle.bits.specs.Little.{le}
@@ -15,11 +15,10 @@ use Rattle.bits.proofs.Splice.{length-span}
 use Rattle.allocator_table.specs.Layout.{gathered_at, entry_count, table_of, sound_state}
 use Rattle.allocator_table.specs.Limits.{unique_id_max, node_max}
 use Rattle.allocator_table.specs.Table.{node_of, is_givable, is_free, given}
-use Rattle.allocator_table.specs.inside.Code.{or_zero}
-use Rattle.allocator_table.proofs.Room.{known-givable, free-positive, room}
+use Rattle.allocator_table.proofs.Room.{known-givable, room}
 use Rattle.allocator_table.proofs.Search.{given-takes}
 use Rattle.allocator_table.proofs.Soundness.{long-enough, gathered-few, table-sound}
-use Rattle.allocator.specs.Allocate.{ignored, awaits, gathers, knows, gives, exhausted, allots, completes, Fields, decide}
+use Rattle.allocator.specs.Allocate.{ignored, awaits, gathers, knows, gives, exhausted, completes, Fields, decide}
 use Rattle.allocator.specs.Stage.{stage_of, expected_at, accepts, kept_at, joined, preferred}
 use Rattle.allocator.specs.declared.Request.{Request}
 use Rattle.allocator.proofs.Stages.{kept-le}
@@ -75,43 +74,22 @@ module _ (m : List ℕ) (q : Request) (g : List ℕ) (p : ℕ) (s : sound_state 
   abbrev chosen : Option ℕ
   chosen = given (is_free q.reserved (table_of m)) (preferred p)
 
-  pub is_known : (x : ℕ) → x ≡ or_zero (node_of (le g) (table_of m)) → (x ≡ 0 → ⊥) → completes m q g p ≡ knows x
-  unfolding completes
-  is_known x e z = go (node_of (le g) (table_of m)) e where
-    go : (o : Option ℕ) → x ≡ or_zero o → allots o chosen ≡ knows x
-    go none k = absurd (z k)
-    go (some n) k = ap knows (sym k)
-
-  pub known-low : (x : ℕ) → x ≡ or_zero (node_of (le g) (table_of m)) → x ≤ node_max
-  known-low x e = go (node_of (le g) (table_of m)) refl e where
-    go : (o : Option ℕ) → node_of (le g) (table_of m) ≡ o → x ≡ or_zero o → x ≤ node_max
-    go none k z = omega arith
-    go (some n) k z = omega (arith, known_small m (le g) n s k)
-
-  unknown : or_zero (node_of (le g) (table_of m)) ≡ 0 → node_of (le g) (table_of m) ≡ none
-  unknown e = go (node_of (le g) (table_of m)) refl e where
-    go : (o : Option ℕ) → node_of (le g) (table_of m) ≡ o → or_zero o ≡ 0 → o ≡ none
-    go none k z = refl
-    go (some n) k z = absurd (omega (arith, ltb-true 0 n (and_elim_left _ _ (known-givable (table_of m) (le g) n (table-sound m s) k))))
-
-  module _ (new : or_zero (node_of (le g) (table_of m)) ≡ 0) (y : ℕ) (e : y ≡ or_zero (given (is_free q.reserved (table_of m)) (preferred p))) where
-    pub none_left : y ≡ 0 → completes m q g p ≡ exhausted
+  module _ (n : ℕ) (e : node_of (le g) (table_of m) ≡ some n) where
+    pub is_known : completes m q g p ≡ knows n
     unfolding completes
-    none_left z = ap (λ (o : Option ℕ). allots o chosen) (unknown new) ∙ go chosen refl (sym e ∙ z) where
-      go : (o : Option ℕ) → chosen ≡ o → or_zero o ≡ 0 → allots none o ≡ exhausted
-      go none k w = refl
-      go (some n) k w = absurd (omega (arith, free-positive q.reserved (table_of m) n (given-takes (is_free q.reserved (table_of m)) (preferred p) n k)))
+    is_known = rw e
 
-    module _ (z : y ≡ 0 → ⊥) where
-      is-chosen : chosen ≡ some y
-      is-chosen = go chosen e where
-        go : (o : Option ℕ) → y ≡ or_zero o → o ≡ some y
-        go none k = absurd (z k)
-        go (some n) k = ap some (sym k)
+    pub known-low : n ≤ node_max
+    known-low = known_small m (le g) n s e
 
-      pub one_left : completes m q g p ≡ gives y
-      unfolding completes
-      one_left = ap (λ (o : Option ℕ). allots o chosen) (unknown new) ∙ ap (allots none) is-chosen
+  module _ (new : node_of (le g) (table_of m) ≡ none) where
+    pub none_left : given (is_free q.reserved (table_of m)) (preferred p) ≡ none → completes m q g p ≡ exhausted
+    unfolding completes
+    none_left e = rw (new, e)
 
-      pub room-left : entry_count m < node_max
-      room-left = room q.reserved m y s (given-takes (is_free q.reserved (table_of m)) (preferred p) y is-chosen)
+    pub one_left : (n : ℕ) → given (is_free q.reserved (table_of m)) (preferred p) ≡ some n → completes m q g p ≡ gives n
+    unfolding completes
+    one_left n e = rw (new, e)
+
+    pub room-left : (n : ℕ) → given (is_free q.reserved (table_of m)) (preferred p) ≡ some n → entry_count m < node_max
+    room-left n e = room q.reserved m n s (given-takes (is_free q.reserved (table_of m)) (preferred p) n e)

@@ -12,15 +12,16 @@ use lib.Signed.{non_neg}
 use mir.Syntax.{w64}
 use mir.Val.{Fits, to_z, of_z}
 use Rattle.bits.specs.Order.{Octets, unpack, from_bits}
-use Rattle.shape.specs.Answer.{Answer, refused, got, Numbered, numbered, refuse_if, map_answer}
+use Rattle.std.specs.Prelude.{Ok, Err}
+use Rattle.std.specs.declared.result.Result.{Result}
+use Rattle.shape.specs.Answer.{Answer, refused, got, Numbered, numbered, number_of, answer_of, refuse_if, map_answer}
+use Rattle.shape.specs.declared.answer.Refusal.{Refusal}
 use Rattle.shape.specs.Shape.{Values, tail, anything, decode, decoded}
 use Rattle.shape.proofs.CastFacts.{number-below}
 use Rattle.shape.proofs.SignedFacts.{is}
-use Rattle.protocol_dynamic_node_id.specs.Allocation.{allocation, unique_id_in, allocation_of, allocation_in, answer_of}
+use Rattle.protocol_dynamic_node_id.specs.Allocation.{allocation, unique_id_in, allocation_of, allocation_in}
 use Rattle.protocol_dynamic_node_id.specs.Laws.{allocation_found}
 use Rattle.protocol_dynamic_node_id.specs.declared.allocation.Allocation.{Allocation}
-use Rattle.protocol_dynamic_node_id.specs.declared.allocation.Read.{Read}
-use Rattle.protocol_dynamic_node_id.specs.declared.allocation.Read.TheVariants.{Refused, Got}
 use Rattle.protocol_dynamic_node_id.proofs.AllocationFacts.{short}
 use Rattle.protocol_dynamic_node_id.proofs.Trips.{laws}
 use Rattle.allocator.specs.Allocate.{Fields, fields_of}
@@ -56,11 +57,11 @@ module _ (z : ℤ) (h : Held z) where
   pub cast_is : nat_abs (to_z w64 (of_z w64 z)) ≡ nat_abs z
   cast_is = ap nat_abs (as-held ∙ sym h.same)
 
-module _ (p : List ℕ) (r : Read) (e : answer_of r ≡ allocation_in p) where
-  pub read-refused : (n : ℕ) → r ≡ Refused n → decoded allocation p ≡ refused n
-  read-refused n q = refused-by n (decoded allocation p) (ap answer_of (sym q) ∙ e)
+module _ (p : List ℕ) (r : Result Allocation Refusal) (e : answer_of r ≡ allocation_in p) where
+  pub read-refused : (x : Refusal) → r ≡ Err x → decoded allocation p ≡ refused (number_of x)
+  read-refused x q = refused-by (number_of x) (decoded allocation p) (ap answer_of (sym q) ∙ e)
 
-  read-long : Octets p → (a : Allocation) → r ≡ Got a → 1 ≤ length p
+  read-long : Octets p → (a : Allocation) → r ≡ Ok a → 1 ≤ length p
   read-long o a q = go (ltb (length p) 1) refl where
     go : (b : Bool) → ltb (length p) 1 ≡ b → 1 ≤ length p
     go true w =
@@ -68,20 +69,20 @@ module _ (p : List ℕ) (r : Read) (e : answer_of r ≡ allocation_in p) where
         absurd (let z : ◌≡◌ {A = ℕ} 0 1 = cc in omega arith)
     go false w = ltb-false (length p) 1 w
 
-  read_is : Octets p → (a : Allocation) → r ≡ Got a → (decoded allocation p ≡ got (allocation_found p)) × (a ≡ allocation_of (allocation_found p))
+  read_is : Octets p → (a : Allocation) → r ≡ Ok a → (decoded allocation p ≡ got (allocation_found p)) × (a ≡ allocation_of (allocation_found p))
   read_is o a q = got-by a (decoded allocation p) (ap answer_of (sym q) ∙ e) (allocation_found p) (laws.allocations.placed p o)
 
-  pub node-held : Octets p → (a : Allocation) → r ≡ Got a → Held a.node_id
+  pub node-held : Octets p → (a : Allocation) → r ≡ Ok a → Held a.node_id
   node-held o a q =
       let n = ap (λ (x : Allocation). x.node_id) (read_is o a q).1 in
       record { size = from_bits 7 (unpack p); same = n; small = number-below p 0 7 (lit≤ tt) (omega (arith, read-long o a q)) a.node_id n }
 
-  pub first-held : Octets p → (a : Allocation) → r ≡ Got a → Held a.first_part_of_unique_id
+  pub first-held : Octets p → (a : Allocation) → r ≡ Ok a → Held a.first_part_of_unique_id
   first-held o a q =
       let f = ap (λ (x : Allocation). x.first_part_of_unique_id) (read_is o a q).1 in
       record { size = from_bits 1 (drop 7 (unpack p)); same = f; small = number-below p 7 1 (lit≤ tt) (omega (arith, read-long o a q)) a.first_part_of_unique_id f }
 
-  pub read-got : Octets p → (a : Allocation) → r ≡ Got a → decoded allocation p ≡ got (a.node_id, (a.first_part_of_unique_id, unique_id_in p))
+  pub read-got : Octets p → (a : Allocation) → r ≡ Ok a → decoded allocation p ≡ got (a.node_id, (a.first_part_of_unique_id, unique_id_in p))
   read-got o a q =
       let b = read_is o a q in
       let n = ap (λ (x : Allocation). x.node_id) b.1 in

@@ -8,10 +8,11 @@ use lib.ListN.{length, drop}
 use mir.Syntax.{w64}
 use mir.Val.{to_z}
 use mir.ValLaws.{to_z_pos}
-use Rattle.shape.specs.Answer.{Answer, refused, got, Numbered, numbered, answer_of, wrote}
+use Rattle.std.specs.Prelude.{Ok, Err}
+use Rattle.std.specs.declared.result.Result.{Result}
+use Rattle.shape.specs.Answer.{Answer, refused, got, Numbered, numbered, number_of, answer_of, wrote}
 use Rattle.shape.specs.Shape.{written}
-use Rattle.shape.specs.declared.answer.Written.{Written}
-use Rattle.shape.specs.declared.answer.Written.TheVariants as variants
+use Rattle.shape.specs.declared.answer.Refusal.{Refusal}
 use Rattle.protocol_dynamic_node_id.specs.Allocation.{allocation}
 use Rattle.allocator_table.specs.Limits.{node_max}
 use Rattle.allocator.specs.Allocate.{returned, answered}
@@ -34,9 +35,10 @@ module _ (m m' out out' : List ℕ) (n : ℕ) where
       let b : out' ≡ bs ++ drop (length bs) out = ap (λ (x : Numbered ℕ × List ℕ). x.1) p in
       cc
 
-  -- the writer's answer is an enum
-  pub refused-reply : (e : Answer (List ℕ)) (w : Written) → w ≡ variants.Refused n → ◌≡◌ {A = Numbered ℕ × List ℕ} (answer_of w, out') (wrote e out) → returned (Refused n) m out' ≡ answered e m m' out
-  refused-reply e w q p = refused-by e (ap (λ (x : Written). (answer_of x, out')) (sym q) ∙ p)
+  -- the writer's answer is a Result
+  pub refused-reply : (e : Answer (List ℕ)) (w : Result ℕ Refusal) (r : Refusal) → w ≡ Err r → n ≡ number_of r → ◌≡◌ {A = Numbered ℕ × List ℕ} (answer_of w, out') (wrote e out)
+      → returned (Refused n) m out' ≡ answered e m m' out
+  refused-reply e w r q i p = refused-by e (ap (λ (x : ℕ). (numbered (refused x), out')) i ∙ ap (λ (x : Result ℕ Refusal). (answer_of x, out')) (sym q) ∙ p)
 
-  pub wrote-reply : (e : Answer (List ℕ)) (w : Written) → w ≡ variants.Wrote n → ◌≡◌ {A = Numbered ℕ × List ℕ} (answer_of w, out') (wrote e out) → returned (Replied n) m' out' ≡ answered e m m' out
-  wrote-reply e w q p = wrote_by e (ap (λ (x : Written). (answer_of x, out')) (sym q) ∙ p)
+  pub wrote-reply : (e : Answer (List ℕ)) (w : Result ℕ Refusal) → w ≡ Ok n → ◌≡◌ {A = Numbered ℕ × List ℕ} (answer_of w, out') (wrote e out) → returned (Replied n) m' out' ≡ answered e m m' out
+  wrote-reply e w q p = wrote_by e (ap (λ (x : Result ℕ Refusal). (answer_of x, out')) (sym q) ∙ p)

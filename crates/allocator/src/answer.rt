@@ -3,6 +3,7 @@ ghost use Rattle.std.specs.Prelude.{◌≡◌};
 ghost use Rattle.allocator.specs.Answer.{number_of, length_in};
 
 // `Replied` holds the length of the reply, `Refused` the number 8, 13, 15 or 16.
+// No Result: with `Exhausted` too the call is done and the state changes. A number, not an enum: `answered` and `on_message` hand on what a description refuses with.
 #[derive(Clone, Copy)]
 pub enum Answer {
     Silent,

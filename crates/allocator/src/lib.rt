@@ -17,7 +17,6 @@ use allocator_table::sound;
 use answer::Answer;
 use answers::SetupError;
 use protocol_dynamic_node_id::allocation;
-use protocol_dynamic_node_id::allocation::Read;
 
 // What is asked, but for the message: the own node ID with the marks of static nodes, the source of the message, and its time.
 #[derive(Drop)]
@@ -60,10 +59,9 @@ pub fn allocate(state: &mut [u8], q: Request, payload: &[u8], out: &mut [u8]) ->
     if 127 < reserved.own {
         return Answer::Refused(13);
     }
-    let read = allocation::decode(payload);
-    match read {
-        Read::Refused(n) => Answer::Refused(n),
-        Read::Got(a) => serve::message(
+    match allocation::decode(payload) {
+        Err(r) => Answer::Refused(r.number()),
+        Ok(a) => serve::message(
             state,
             q,
             a.node_id as u64,

@@ -12,17 +12,15 @@ use allocator_table::layout::GATHERED_AT;
 use allocator_table::limits::UNIQUE_ID;
 use allocator_table::{entry, find, free, store};
 use protocol_dynamic_node_id::allocation;
-use shape::answer::Written;
 
 // The reply to a part of a unique ID, g so far.
 fn follow_up(state: &mut [u8], t: u64, g: &[u8], out: &mut [u8]) -> Answer
     requires { (size ≤ length state.old) × (length g.now ≤ unique_id_max) }
     ensures { returned result state.new out.new ≡ performs gathers state.old t g.now out.old }
 {
-    let reply = allocation::encode(0, 0, g, out);
-    match reply {
-        Written::Refused(n) => Answer::Refused(n),
-        Written::Wrote(n) => {
+    match allocation::encode(0, 0, g, out) {
+        Err(r) => Answer::Refused(r.number()),
+        Ok(n) => {
             store::gathered(state, g);
             store::time(state, t);
             Answer::Replied(n)
@@ -35,10 +33,9 @@ fn confirm(state: &mut [u8], t: u64, g: &[u8], node: usize, out: &mut [u8]) -> A
     requires { (size ≤ length state.old) × (node ≤ node_max) }
     ensures { returned result state.new out.new ≡ performs (knows node) state.old t g.now out.old }
 {
-    let reply = allocation::encode(node as i64, 0, g, out);
-    match reply {
-        Written::Refused(n) => Answer::Refused(n),
-        Written::Wrote(n) => {
+    match allocation::encode(node as i64, 0, g, out) {
+        Err(r) => Answer::Refused(r.number()),
+        Ok(n) => {
             store::gathered_count(state, 0);
             store::time(state, t);
             Answer::Replied(n)
@@ -51,10 +48,9 @@ fn enter(state: &mut [u8], t: u64, g: &[u8], node: usize, out: &mut [u8]) -> Ans
     requires { (sound_state state.old ≡ true) × ((entry_count state.old < node_max) × ((length g.now ≡ unique_id_max) × (node ≤ node_max))) }
     ensures { returned result state.new out.new ≡ performs (gives node) state.old t g.now out.old }
 {
-    let reply = allocation::encode(node as i64, 0, g, out);
-    match reply {
-        Written::Refused(n) => Answer::Refused(n),
-        Written::Wrote(n) => {
+    match allocation::encode(node as i64, 0, g, out) {
+        Err(r) => Answer::Refused(r.number()),
+        Ok(n) => {
             store::entry(state, g, node);
             store::gathered_count(state, 0);
             store::time(state, t);
@@ -68,17 +64,16 @@ fn complete(state: &mut [u8], q: Request, g: &[u8], p: u64, out: &mut [u8]) -> A
     requires { (sound_state state.old ≡ true) × (length g.now ≡ unique_id_max) }
     ensures { returned result state.new out.new ≡ performs (completes state.old q g.now p) state.old q.time g.now out.old }
 {
-    let known = find::node_of(state, entry::read(g, 0));
-    if known != 0 {
-        return confirm(state, q.time, g, known, out);
+    if let Some(node) = find::node_of(state, entry::read(g, 0)) {
+        return confirm(state, q.time, g, node, out);
     }
-    let reserved = q.reserved;
-    let node = free::given(state, reserved, stage::preferred(p));
-    if node == 0 {
-        store::gathered_count(state, 0);
-        return Answer::Exhausted;
+    match free::given(state, q.reserved, stage::preferred(p)) {
+        Some(node) => enter(state, q.time, g, node, out),
+        None => {
+            store::gathered_count(state, 0);
+            Answer::Exhausted
+        }
     }
-    enter(state, q.time, g, node, out)
 }
 
 // The n bytes that are gathered, and those of the message.

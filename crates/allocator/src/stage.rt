@@ -8,7 +8,7 @@ ghost use Rattle.allocator_table.specs.Limits.{unique_id_max, node_max};
 use allocator_table::entry;
 use allocator_table::limits::{FOLLOWUP_TIMEOUT, NODES, STAGE, UNIQUE_ID};
 
-// The stage of a message with n bytes of a unique ID, or 0.
+// The stage of a message with n bytes of a unique ID, or 0: a number, as `stage_of` says.
 fn of(first: u64, n: usize) -> u32
     ensures { result ≡ stage_of first n }
 {
@@ -28,7 +28,7 @@ fn of(first: u64, n: usize) -> u32
     0
 }
 
-// The stage that is expected after n gathered bytes, or 0.
+// The stage that is expected after n gathered bytes, or 0: a number, as `expected_at` says.
 fn expected(n: usize) -> u32
     ensures { result ≡ expected_at n }
 {

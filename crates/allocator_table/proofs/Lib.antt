@@ -1,7 +1,6 @@
 pub mod Numbers
 pub mod Walk
 pub mod Soundness
-pub mod Moved
 pub mod Search
 pub mod Tables
 pub mod Room

@@ -4,6 +4,7 @@ use mathlib.Core.Bool.{Bool, true, false, not}
 use mathlib.Core.List.{List}
 use mathlib.Core.Option.{Option, none, some}
 use mathlib.Mathlib.Data.Bool.Basic.{and_elim_left}
+use Rattle.std.specs.Prelude.{None, Some}
 use Prim.Native.Nat.{ℕ, zero, suc, ◌+◌, ◌-◌, ◌≤◌, ◌<◌}
 use native.Mathlib.Omega.{arith}
 use borrow.Author.Tests.{eq-eqb, ne_eqb, le-leb, lt-ltb, le-ltb, ltb-true, ltb-false}
@@ -11,8 +12,8 @@ use lib.Dec.{ltb}
 use Rattle.rules.specs.Tests.{pick}
 use Rattle.allocator_table.specs.declared.free.Reserved.{Reserved}
 use Rattle.allocator_table.specs.Limits.{node_max}
+use Rattle.allocator_table.specs.inside.Code.{optional}
 use Rattle.allocator_table.specs.Table.{Entry, holds, is_marked, is_free, lowest_from, highest_below, or_else, given}
-use Rattle.allocator_table.specs.inside.Code.{or_zero}
 
 -- ── one node ID ──
 
@@ -94,20 +95,23 @@ given-takes f p x e = go (lowest_from f p (suc node_max - p)) refl e where
   go none q s = high-takes f p x s
   go (some y) q s = let w : y ≡ x = cc in low-takes f (suc node_max - p) p x (q ∙ ap some w)
 
-module _ (f : ℕ → Bool) (p : ℕ) (positive : (x : ℕ) → f x ≡ true → 0 < x) where
-  pub given-up : (x : ℕ) → x ≡ or_zero (lowest_from f p (suc node_max - p)) → (x ≡ 0 → ⊥) → x ≡ or_zero (given f p)
-  unfolding given
-  given-up x e z = go (lowest_from f p (suc node_max - p)) e where
-    go : (o : Option ℕ) → x ≡ or_zero o → x ≡ or_zero (or_else o (highest_below f p))
-    go none q = absurd (z q)
-    go (some y) q = q
+-- what the code's option says
+pub is-some : (n : ℕ) (o : Option ℕ) → Some n ≡ optional o → o ≡ some n
+is-some n none e = cc
+is-some n (some k) e = cc
 
-  pub given-down : (x y : ℕ) → x ≡ or_zero (lowest_from f p (suc node_max - p)) → x ≡ 0 → y ≡ or_zero (highest_below f p) → y ≡ or_zero (given f p)
+pub is-none : (o : Option ℕ) → None ≡ optional o → o ≡ none
+is-none none e = refl
+is-none (some k) e = cc
+
+module _ (f : ℕ → Bool) (p : ℕ) where
+  pub given_up : (n : ℕ) → Some n ≡ optional (lowest_from f p (suc node_max - p)) → Some n ≡ optional (given f p)
   unfolding given
-  given-down x y e z d = go (lowest_from f p (suc node_max - p)) refl e where
-    go : (o : Option ℕ) → lowest_from f p (suc node_max - p) ≡ o → x ≡ or_zero o → y ≡ or_zero (or_else o (highest_below f p))
-    go none q s = d
-    go (some w) q s = absurd (omega (arith, positive w (low-takes f (suc node_max - p) p w q)))
+  given_up n e = rw (is-some n (lowest_from f p (suc node_max - p)) e)
+
+  pub given_down : None ≡ optional (lowest_from f p (suc node_max - p)) → optional (highest_below f p) ≡ optional (given f p)
+  unfolding given
+  given_down e = rw (is-none (lowest_from f p (suc node_max - p)) e)
 
 -- ── what is passed ──
 

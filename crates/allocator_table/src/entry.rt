@@ -9,6 +9,7 @@ ghost use Rattle.allocator_table.specs.inside.Code.{number_of};
 use super::layout::{ENTRIES_AT, ENTRY, ENTRY_COUNT_AT, GATHERED_COUNT_AT, TIME_AT};
 use super::limits::UNIQUE_ID;
 
+// Compared by hand: derived comparisons call generic functions, which are not translated to C.
 #[derive(Clone, Copy)]
 pub struct UniqueId {
     pub low: u64,
@@ -30,20 +31,14 @@ pub fn read(s: &[u8], at: usize) -> UniqueId
 pub fn is_less(a: UniqueId, b: UniqueId) -> bool
     ensures { result ≡ ltb (number_of a) (number_of b) }
 {
-    if a.high == b.high {
-        return a.low < b.low;
-    }
-    a.high < b.high
+    a.high < b.high || (a.high == b.high && a.low < b.low)
 }
 
 // Internal. The two are the same unique ID.
 pub fn is_same(a: UniqueId, b: UniqueId) -> bool
     ensures { result ≡ eqb (number_of a) (number_of b) }
 {
-    if a.high == b.high {
-        return a.low == b.low;
-    }
-    false
+    a.high == b.high && a.low == b.low
 }
 
 // Internal. The time of the last message processed.

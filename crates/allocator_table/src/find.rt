@@ -2,25 +2,23 @@
 ghost use Rattle.std.specs.Prelude.{true, ◌≡◌};
 ghost use Rattle.allocator_table.specs.Layout.{table_of, sound_state};
 ghost use Rattle.allocator_table.specs.Table.{holds, node_of, place_for};
-ghost use Rattle.allocator_table.specs.inside.Code.{number_of, or_zero};
+ghost use Rattle.allocator_table.specs.inside.Code.{number_of, optional};
 
 use super::entry;
 use super::entry::UniqueId;
 
-// Internal. The node ID of a unique ID, or 0.
-pub fn node_of(state: &[u8], u: UniqueId) -> usize
+// Internal. The node ID of a unique ID.
+pub fn node_of(state: &[u8], u: UniqueId) -> Option<usize>
     requires { sound_state state.now ≡ true }
-    ensures { result ≡ or_zero (node_of (number_of u) (table_of state.now)) }
+    ensures { result ≡ optional (node_of (number_of u) (table_of state.now)) }
 {
     let n = entry::count(state);
-    let mut i = 0;
-    while i < n {
+    for i in 0..n {
         if entry::is_same(entry::unique_id(state, i), u) {
-            return entry::node(state, i);
+            return Some(entry::node(state, i));
         }
-        i += 1;
     }
-    0
+    None
 }
 
 // Internal. The node ID is that of an entry.
@@ -29,12 +27,10 @@ pub fn is_held(state: &[u8], node: usize) -> bool
     ensures { result ≡ holds node (table_of state.now) }
 {
     let n = entry::count(state);
-    let mut i = 0;
-    while i < n {
+    for i in 0..n {
         if entry::node(state, i) == node {
             return true;
         }
-        i += 1;
     }
     false
 }
@@ -45,12 +41,10 @@ pub fn place_for(state: &[u8], u: UniqueId) -> usize
     ensures { result ≡ place_for (number_of u) (table_of state.now) }
 {
     let n = entry::count(state);
-    let mut i = 0;
-    while i < n {
+    for i in 0..n {
         if !entry::is_less(entry::unique_id(state, i), u) {
             return i;
         }
-        i += 1;
     }
-    i
+    n
 }

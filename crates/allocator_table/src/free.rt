@@ -1,10 +1,10 @@
 // The search for a free node ID (RULES 16.7). A new entry is rare, so each candidate is looked up by itself.
-ghost use Rattle.std.specs.Prelude.{true, ◌≡◌, suc, ◌-◌, ◌≤◌, ◌<◌};
+ghost use Rattle.std.specs.Prelude.{true, ◌≡◌, suc, ◌-◌, ◌≤◌, ◌<◌, IfSome};
 ghost use Rattle.allocator_table.specs.Layout.{table_of, sound_state};
 ghost use Rattle.allocator_table.specs.Limits.{node_max};
 ghost use Rattle.allocator_table.specs.Table.{is_marked, lowest_from, highest_below};
 ghost use Rattle.allocator_table.specs.Table as table;
-ghost use Rattle.allocator_table.specs.inside.Code.{or_zero};
+ghost use Rattle.allocator_table.specs.inside.Code.{optional};
 
 use super::find;
 use super::limits::NODES;
@@ -45,44 +45,41 @@ fn is_free(state: &[u8], r: Reserved, n: usize) -> bool
     !find::is_held(state, n)
 }
 
-// The lowest free node ID from p up to 125, or 0.
-fn upwards(state: &[u8], r: Reserved, p: usize) -> usize
+// The lowest free node ID from p up to 125.
+fn upwards(state: &[u8], r: Reserved, p: usize) -> Option<usize>
     requires { (sound_state state.now ≡ true) × (p ≤ node_max) }
-    ensures { (result ≡ or_zero (lowest_from (table.is_free r (table_of state.now)) p (suc node_max - p))) × (result ≤ node_max) }
+    ensures { (result ≡ optional (lowest_from (table.is_free r (table_of state.now)) p (suc node_max - p))) × IfSome result (λ n. n ≤ node_max) }
 {
-    let mut n = p;
-    while n <= NODES {
+    for n in p..NODES + 1 {
         if is_free(state, r, n) {
-            return n;
-        }
-        n += 1;
-    }
-    0
-}
-
-// The highest free node ID below p, or 0.
-fn downwards(state: &[u8], r: Reserved, p: usize) -> usize
-    requires { (sound_state state.now ≡ true) × (p ≤ node_max) }
-    ensures { (result ≡ or_zero (highest_below (table.is_free r (table_of state.now)) p)) × (result ≤ node_max) }
-{
-    let mut n = p;
-    while 0 < n {
-        n -= 1;
-        if is_free(state, r, n) {
-            return n;
+            return Some(n);
         }
     }
-    0
+    None
 }
 
-// Internal. The node ID for a new unique ID that prefers p, or 0 if none is free.
-pub fn given(state: &[u8], r: Reserved, p: usize) -> usize
+// The highest free node ID below p.
+fn downwards(state: &[u8], r: Reserved, p: usize) -> Option<usize>
     requires { (sound_state state.now ≡ true) × (p ≤ node_max) }
-    ensures { (result ≡ or_zero (table.given (table.is_free r (table_of state.now)) p)) × (result ≤ node_max) }
+    ensures { (result ≡ optional (highest_below (table.is_free r (table_of state.now)) p)) × IfSome result (λ n. n ≤ node_max) }
 {
-    let up = upwards(state, r, p);
-    if up != 0 {
-        return up;
+    for n in (0..p).rev() {
+        if is_free(state, r, n) {
+            return Some(n);
+        }
     }
-    downwards(state, r, p)
+    None
+}
+
+// Internal. The node ID for a new unique ID that prefers p, if one is free.
+#[tactic(auto, using(crate::proofs::Search::given_up, crate::proofs::Search::given_down))]
+pub fn given(state: &[u8], r: Reserved, p: usize) -> Option<usize>
+    requires { (sound_state state.now ≡ true) × (p ≤ node_max) }
+    ensures { (result ≡ optional (table.given (table.is_free r (table_of state.now)) p)) × IfSome result (λ n. n ≤ node_max) }
+{
+    // A match, not `or_else`: C, which reaches this, has no closures.
+    match upwards(state, r, p) {
+        Some(n) => Some(n),
+        None => downwards(state, r, p),
+    }
 }

@@ -39,9 +39,7 @@ fn entries_sound(state: &[u8], n: usize) -> bool
     ensures { result ≡ sound (tabulate (entry_at state.now) 0 n) }
 {
     let mut seen = [0u8; 128];
-    let mut i = n;
-    while 0 < i {
-        i -= 1;
+    for i in (0..n).rev() {
         if !entry_fits(state, i, n, &seen) {
             return false;
         }

@@ -1,7 +1,6 @@
 // Writing to a lent state (RULES 16.9).
-ghost use Rattle.std.specs.Prelude.{true, ◌≡◌, ◌+◌, ◌≤◌, ◌<◌, length};
-ghost use Rattle.bits.specs.Part.{span, splice};
-ghost use Rattle.allocator_table.specs.Layout.{size, entry_size, entry_count, sound_state, with_time, with_count, with_gathered, with_entry_at, with_entry};
+ghost use Rattle.std.specs.Prelude.{true, ◌≡◌, ◌≤◌, ◌<◌, length};
+ghost use Rattle.allocator_table.specs.Layout.{size, entry_count, sound_state, with_time, with_count, with_gathered, with_entry_at, with_entry};
 ghost use Rattle.allocator_table.specs.Limits.{unique_id_max, node_max};
 
 use super::layout::{ENTRIES_AT, ENTRY, ENTRY_COUNT_AT, GATHERED_AT, GATHERED_COUNT_AT, TIME_AT};
@@ -33,18 +32,6 @@ pub fn gathered(state: &mut [u8], g: &[u8])
     bits::part::copy_at(state, GATHERED_AT, g);
 }
 
-// The n bytes from `at` on one entry up, the last one first.
-fn move_up(state: &mut [u8], at: usize, n: usize)
-    requires { at + entry_size + n ≤ length state.old }
-    ensures { state.new ≡ splice state.old (at + entry_size) (span state.old at n) }
-{
-    let mut i = n;
-    while 0 < i {
-        i -= 1;
-        state[at + ENTRY + i] = state[at + i];
-    }
-}
-
 // An entry more at place p of n: the unique ID u, 16 bytes, and its node ID.
 fn entry_at(state: &mut [u8], p: usize, n: usize, u: &[u8], node: usize)
     requires size_in_bounds { (size ≤ length state.old) × ((p ≤ n) × (n < node_max)) }
@@ -52,7 +39,7 @@ fn entry_at(state: &mut [u8], p: usize, n: usize, u: &[u8], node: usize)
     ensures { state.new ≡ with_entry_at state.old p u.now node }
 {
     let at = ENTRIES_AT + p * ENTRY;
-    move_up(state, at, (n - p) * ENTRY);
+    moves::up(state, at, (n - p) * ENTRY, ENTRY);
     bits::part::copy_at(state, at, u);
     bits::le::put_at(state, at + UNIQUE_ID, 1, node as u64);
     bits::le::put_at(state, ENTRY_COUNT_AT, 1, n as u64 + 1);

@@ -1,7 +1,7 @@
 // BatteryInfo: its floats by an array, its other numbers as those of NodeStatus.
 use equipment_power::battery_info;
-use equipment_power::battery_info::{BatteryInfo, Read};
-use shape::answer::{Place, Written};
+use equipment_power::battery_info::BatteryInfo;
+use shape::answer::Place;
 use shape::signed::size;
 
 fn number(x: BatteryInfo, name: Place) -> u64 {
@@ -15,8 +15,8 @@ fn number(x: BatteryInfo, name: Place) -> u64 {
 
 pub fn bench_battery_decode(payload: &[u8], floats: &mut [f32; 7]) -> u64 {
     match battery_info::decode(payload) {
-        Read::Refused(n) => u64::MAX - n as u64,
-        Read::Got(x, name) => {
+        Err(r) => u64::MAX - r.number() as u64,
+        Ok((x, name)) => {
             floats[0] = x.temperature;
             floats[1] = x.voltage;
             floats[2] = x.current;
@@ -51,7 +51,7 @@ pub fn bench_battery_encode(
         model_instance_id: v[5],
     };
     match battery_info::encode(x, model_name, out) {
-        Written::Refused(n) => u64::MAX - n as u64,
-        Written::Wrote(n) => n as u64,
+        Err(r) => u64::MAX - r.number() as u64,
+        Ok(n) => n as u64,
     }
 }

@@ -1,9 +1,8 @@
 // The response of GetNodeInfo, with the same results as those of NodeStatus.
 use super::status::of_status;
 use protocol::get_node_info_response;
-use protocol::get_node_info_response::{Numbers, Read, SoftwareVersion};
+use protocol::get_node_info_response::{Numbers, SoftwareVersion};
 use protocol::node_status::NodeStatus;
-use shape::answer::Written;
 use shape::signed::size;
 
 fn of_software(v: SoftwareVersion) -> u64 {
@@ -15,8 +14,8 @@ fn of_software(v: SoftwareVersion) -> u64 {
 
 pub fn bench_info_decode(payload: &[u8]) -> u64 {
     match get_node_info_response::decode(payload) {
-        Read::Refused(n) => u64::MAX - n as u64,
-        Read::Got(x) => {
+        Err(r) => u64::MAX - r.number() as u64,
+        Ok(x) => {
             let s = x.status;
             let v = x.software_version;
             let h = x.hardware_version;
@@ -62,7 +61,7 @@ pub fn bench_info_encode(
         hardware_version_minor: v[10],
     };
     match get_node_info_response::encode(m, unique_id, certificate, name, out) {
-        Written::Refused(n) => u64::MAX - n as u64,
-        Written::Wrote(n) => n as u64,
+        Err(r) => u64::MAX - r.number() as u64,
+        Ok(n) => n as u64,
     }
 }

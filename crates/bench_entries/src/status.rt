@@ -1,7 +1,6 @@
 // NodeStatus.
 use protocol::node_status;
-use protocol::node_status::{NodeStatus, Read};
-use shape::answer::Written;
+use protocol::node_status::NodeStatus;
 use shape::signed::size;
 
 // Internal. One number made of the fields, so that none can be left unread.
@@ -16,8 +15,8 @@ pub fn of_status(x: NodeStatus) -> u64 {
 // Of a refusal, its number from the top.
 pub fn bench_status_decode(payload: &[u8]) -> u64 {
     match node_status::decode(payload) {
-        Read::Refused(n) => u64::MAX - n as u64,
-        Read::Got(x) => of_status(x),
+        Err(r) => u64::MAX - r.number() as u64,
+        Ok(x) => of_status(x),
     }
 }
 
@@ -31,7 +30,7 @@ pub fn bench_status_encode(v: &[i64; 5], out: &mut [u8]) -> u64 {
         vendor_specific_status_code: v[4],
     };
     match node_status::encode(x, out) {
-        Written::Refused(n) => u64::MAX - n as u64,
-        Written::Wrote(n) => n as u64,
+        Err(r) => u64::MAX - r.number() as u64,
+        Ok(n) => n as u64,
     }
 }

@@ -5,14 +5,13 @@ use codec_text::answer::Encoded;
 use codec_text::{answer, fields, names};
 use console::Console;
 use protocol_dynamic_node_id::allocation;
-use protocol_dynamic_node_id::allocation::Read;
 
 const NAMES: [u8; 41] = *b"node_id first_part_of_unique_id unique_id";
 
 pub fn decode(console: &mut Console, payload: &[u8], out: &mut [u8], at: usize) -> usize {
     match allocation::decode(payload) {
-        Read::Refused(n) => answer::refused(console, out, at, n),
-        Read::Got(x) => {
+        Err(r) => answer::refused(console, out, at, r.number()),
+        Ok(x) => {
             let v = [x.node_id, x.first_part_of_unique_id];
             let o = answer::numbers(console, out, at, &NAMES, &v);
             answer::list(

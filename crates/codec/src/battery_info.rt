@@ -6,8 +6,8 @@ use codec_text::answer::Encoded;
 use codec_text::{answer, fields, float, names};
 use console::Console;
 use equipment_power::battery_info;
-use equipment_power::battery_info::{Raw, ReadRaw};
-use shape::answer::Written;
+use equipment_power::battery_info::Raw;
+use shape::answer::Refusal;
 
 const NAMES: [u8; 233] =
     *b"temperature voltage current average_power_10sec remaining_capacity_wh full_charge_capacity_wh hours_to_full_charge \
@@ -34,8 +34,8 @@ fn values(m: Raw) -> [i64; 13] {
 
 pub fn decode(console: &mut Console, payload: &[u8], out: &mut [u8], at: usize) -> usize {
     match battery_info::decode_raw(payload) {
-        ReadRaw::Refused(n) => answer::refused(console, out, at, n),
-        ReadRaw::Got(m, _) => {
+        Err(r) => answer::refused(console, out, at, r.number()),
+        Ok((m, _)) => {
             let v = values(m);
             let a = answer::numbers(console, out, at, &NAMES, &v);
             answer::list(
@@ -51,15 +51,7 @@ pub fn decode(console: &mut Console, payload: &[u8], out: &mut [u8], at: usize) 
 
 // Whether each of the floats is of 32 bits.
 fn are_floats(v: [i64; 13]) -> bool {
-    let mut i = 0;
-    while i < 7 {
-        let x = v[i];
-        if !float::is_pattern(x) {
-            return false;
-        }
-        i += 1;
-    }
-    true
+    v[..7].iter().all(|x| float::is_pattern(*x))
 }
 
 fn half(v: i64) -> u16 {
@@ -85,9 +77,9 @@ fn raw_of(v: [i64; 13]) -> Raw {
 }
 
 // The call on fields that were read.
-fn written(v: [i64; 13], model_name: &[u8], out: &mut [u8]) -> Written {
+fn written(v: [i64; 13], model_name: &[u8], out: &mut [u8]) -> Result<usize, Refusal> {
     if !are_floats(v) {
-        return Written::Refused(17);
+        return Err(Refusal::NotAllowed);
     }
     battery_info::encode_raw(raw_of(v), model_name, out)
 }

@@ -5,14 +5,14 @@ use codec_text::answer::Encoded;
 use codec_text::{answer, fields};
 use console::Console;
 use protocol_param::execute_opcode_request;
-use protocol_param::execute_opcode_request::{Read, Request};
+use protocol_param::execute_opcode_request::Request;
 
 const NAMES: [u8; 15] = *b"opcode argument";
 
 pub fn decode(console: &mut Console, payload: &[u8], out: &mut [u8], at: usize) -> usize {
     match execute_opcode_request::decode(payload) {
-        Read::Refused(n) => answer::refused(console, out, at, n),
-        Read::Got(x) => {
+        Err(r) => answer::refused(console, out, at, r.number()),
+        Ok(x) => {
             let v = [x.opcode, x.argument];
             answer::numbers(console, out, at, &NAMES, &v)
         }

@@ -5,14 +5,14 @@ use codec_text::answer::Encoded;
 use codec_text::{answer, fields};
 use console::Console;
 use protocol_param::execute_opcode_response;
-use protocol_param::execute_opcode_response::{Read, Response};
+use protocol_param::execute_opcode_response::Response;
 
 const NAMES: [u8; 11] = *b"argument ok";
 
 pub fn decode(console: &mut Console, payload: &[u8], out: &mut [u8], at: usize) -> usize {
     match execute_opcode_response::decode(payload) {
-        Read::Refused(n) => answer::refused(console, out, at, n),
-        Read::Got(x) => {
+        Err(r) => answer::refused(console, out, at, r.number()),
+        Ok(x) => {
             let v = [x.argument, x.ok];
             answer::numbers(console, out, at, &NAMES, &v)
         }

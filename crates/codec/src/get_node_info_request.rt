@@ -3,12 +3,11 @@ use codec_text::answer;
 use codec_text::answer::Encoded;
 use console::Console;
 use protocol::get_node_info_request;
-use protocol::get_node_info_request::Read;
 
 pub fn decode(console: &mut Console, payload: &[u8], out: &mut [u8], at: usize) -> usize {
     match get_node_info_request::decode(payload) {
-        Read::Refused(n) => answer::refused(console, out, at, n),
-        Read::Got => answer::numbers(console, out, at, b"", &[0i64; 0]),
+        Err(r) => answer::refused(console, out, at, r.number()),
+        Ok(()) => answer::numbers(console, out, at, b"", &[0i64; 0]),
     }
 }
 

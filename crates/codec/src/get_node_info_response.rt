@@ -5,9 +5,9 @@ use codec_text::answer::Encoded;
 use codec_text::{answer, fields, names};
 use console::Console;
 use protocol::get_node_info_response;
-use protocol::get_node_info_response::{HardwareVersion, Numbers, Read, SoftwareVersion};
+use protocol::get_node_info_response::{HardwareVersion, Numbers, SoftwareVersion};
 use protocol::node_status::NodeStatus;
-use shape::answer::Written;
+use shape::answer::Refusal;
 
 const NAMES: [u8; 356] =
     *b"status.uptime_sec status.health status.mode status.sub_mode status.vendor_specific_status_code \
@@ -57,8 +57,8 @@ fn put_lists(console: &mut Console, payload: &[u8], out: &mut [u8], at: usize) -
 
 pub fn decode(console: &mut Console, payload: &[u8], out: &mut [u8], at: usize) -> usize {
     match get_node_info_response::decode(payload) {
-        Read::Refused(n) => answer::refused(console, out, at, n),
-        Read::Got(x) => {
+        Err(r) => answer::refused(console, out, at, r.number()),
+        Ok(x) => {
             let s = x.status;
             let w = x.software_version;
             let h = x.hardware_version;
@@ -91,7 +91,7 @@ fn numbers(v: [i64; 12], image_crc: u64) -> Numbers {
 }
 
 // The call on fields that were read.
-fn written(words: &[u8], v: [i64; 12], bytes: &[u8], out: &mut [u8]) -> Written {
+fn written(words: &[u8], v: [i64; 12], bytes: &[u8], out: &mut [u8]) -> Result<usize, Refusal> {
     let image_crc = fields::unsigned(words, names::nth(&NAMES, 9));
     let unique_id = fields::list(words, names::nth(&NAMES, 12), bytes);
     let certificate = fields::list(words, names::nth(&NAMES, 13), bytes);

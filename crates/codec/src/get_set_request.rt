@@ -6,8 +6,8 @@ use codec_text::answer::Encoded;
 use codec_text::{answer, fields, names, put};
 use console::Console;
 use protocol_param::get_set_request;
-use protocol_param::get_set_request::{Read, Request};
-use shape::answer::Written;
+use protocol_param::get_set_request::Request;
+use shape::answer::Refusal;
 
 const NAMES: [u8; 96] =
     *b"index value.tag value.integer_value value.real_value value.boolean_value value.string_value name";
@@ -34,8 +34,8 @@ fn put_fields(
 
 pub fn decode(console: &mut Console, payload: &[u8], out: &mut [u8], at: usize) -> usize {
     match get_set_request::decode(payload) {
-        Read::Refused(n) => answer::refused(console, out, at, n),
-        Read::Got(x) => {
+        Err(r) => answer::refused(console, out, at, r.number()),
+        Ok(x) => {
             let o = put::byte(console, out, at, 48);
             put_fields(console, x, payload, out, o)
         }
@@ -43,9 +43,9 @@ pub fn decode(console: &mut Console, payload: &[u8], out: &mut [u8], at: usize) 
 }
 
 // The call on fields that were read.
-fn written(v: [i64; 5], text: &[u8], name: &[u8], out: &mut [u8]) -> Written {
+fn written(v: [i64; 5], text: &[u8], name: &[u8], out: &mut [u8]) -> Result<usize, Refusal> {
     if param_value::is_no_float(v[1], v[3]) {
-        return Written::Refused(17);
+        return Err(Refusal::NotAllowed);
     }
     let x = param_value::given(v[1], v[2], v[3], v[4]);
     get_set_request::encode(v[0], x, text, name, out)

@@ -6,8 +6,8 @@ use codec_text::answer::Encoded;
 use codec_text::{answer, fields, names, put};
 use console::Console;
 use protocol_param::get_set_response;
-use protocol_param::get_set_response::{Read, Response};
-use shape::answer::Written;
+use protocol_param::get_set_response::Response;
+use shape::answer::Refusal;
 
 const NAMES: [u8; 334] = *b"value.tag value.integer_value value.real_value value.boolean_value \
 default_value.tag default_value.integer_value default_value.real_value default_value.boolean_value \
@@ -75,8 +75,8 @@ fn put_fields(
 
 pub fn decode(console: &mut Console, payload: &[u8], out: &mut [u8], at: usize) -> usize {
     match get_set_response::decode(payload) {
-        Read::Refused(n) => answer::refused(console, out, at, n),
-        Read::Got(x) => {
+        Err(r) => answer::refused(console, out, at, r.number()),
+        Ok(x) => {
             let o = put::byte(console, out, at, 48);
             put_fields(console, x, payload, out, o)
         }
@@ -84,7 +84,13 @@ pub fn decode(console: &mut Console, payload: &[u8], out: &mut [u8], at: usize) 
 }
 
 // The call on fields that were read.
-fn call(v: [i64; 14], text: &[u8], other: &[u8], name: &[u8], out: &mut [u8]) -> Written {
+fn call(
+    v: [i64; 14],
+    text: &[u8],
+    other: &[u8],
+    name: &[u8],
+    out: &mut [u8],
+) -> Result<usize, Refusal> {
     let value = param_value::given(v[0], v[1], v[2], v[3]);
     let default_value = param_value::given(v[4], v[5], v[6], v[7]);
     let max_value = param_value::given(v[8], v[9], v[10], 0);
@@ -102,23 +108,24 @@ fn call(v: [i64; 14], text: &[u8], other: &[u8], name: &[u8], out: &mut [u8]) ->
 }
 
 // A float that is none answers 17, after 27.
-fn refused(w: Written) -> Written {
-    match w {
-        Written::Refused(n) => {
-            if n == 27 {
-                return Written::Refused(27);
-            }
-            Written::Refused(17)
-        }
-        Written::Wrote(_) => Written::Refused(17),
+fn refused(answer: Result<usize, Refusal>) -> Refusal {
+    match answer {
+        Err(Refusal::NoCase) => Refusal::NoCase,
+        _ => Refusal::NotAllowed,
     }
 }
 
-fn written(v: [i64; 14], text: &[u8], other: &[u8], name: &[u8], out: &mut [u8]) -> Written {
+fn written(
+    v: [i64; 14],
+    text: &[u8],
+    other: &[u8],
+    name: &[u8],
+    out: &mut [u8],
+) -> Result<usize, Refusal> {
     let values = param_value::is_no_float(v[0], v[2]) | param_value::is_no_float(v[4], v[6]);
     let limits = param_value::is_no_float(v[8], v[10]) | param_value::is_no_float(v[11], v[13]);
     if values | limits {
-        return refused(call(v, text, other, name, &mut out[0..0]));
+        return Err(refused(call(v, text, other, name, &mut out[0..0])));
     }
     call(v, text, other, name, out)
 }

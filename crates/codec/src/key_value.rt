@@ -5,15 +5,14 @@ use codec_text::answer::Encoded;
 use codec_text::{answer, fields, float, names};
 use console::Console;
 use protocol_debug::key_value;
-use protocol_debug::key_value::Read;
-use shape::answer::Written;
+use shape::answer::Refusal;
 
 const NAMES: [u8; 9] = *b"value key";
 
 pub fn decode(console: &mut Console, payload: &[u8], out: &mut [u8], at: usize) -> usize {
     match key_value::decode(payload) {
-        Read::Refused(n) => answer::refused(console, out, at, n),
-        Read::Got(x) => {
+        Err(r) => answer::refused(console, out, at, r.number()),
+        Ok(x) => {
             let v = [x.value as i64];
             let o = answer::numbers(console, out, at, &NAMES, &v);
             answer::list(
@@ -28,9 +27,9 @@ pub fn decode(console: &mut Console, payload: &[u8], out: &mut [u8], at: usize) 
 }
 
 // The call on fields that were read.
-fn written(value: i64, key: &[u8], out: &mut [u8]) -> Written {
+fn written(value: i64, key: &[u8], out: &mut [u8]) -> Result<usize, Refusal> {
     if !float::is_pattern(value) {
-        return Written::Refused(17);
+        return Err(Refusal::NotAllowed);
     }
     key_value::encode(float::bits(value), key, out)
 }

@@ -5,14 +5,13 @@ use codec_text::answer::Encoded;
 use codec_text::{answer, fields, names};
 use console::Console;
 use protocol_debug::log_message;
-use protocol_debug::log_message::Read;
 
 const NAMES: [u8; 23] = *b"level.value source text";
 
 pub fn decode(console: &mut Console, payload: &[u8], out: &mut [u8], at: usize) -> usize {
     match log_message::decode(payload) {
-        Read::Refused(n) => answer::refused(console, out, at, n),
-        Read::Got(x) => {
+        Err(r) => answer::refused(console, out, at, r.number()),
+        Ok(x) => {
             let v = [x.level];
             let a = answer::numbers(console, out, at, &NAMES, &v);
             let b = answer::list(

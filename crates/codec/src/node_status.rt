@@ -5,14 +5,14 @@ use codec_text::answer::Encoded;
 use codec_text::{answer, fields};
 use console::Console;
 use protocol::node_status;
-use protocol::node_status::{NodeStatus, Read};
+use protocol::node_status::NodeStatus;
 
 const NAMES: [u8; 59] = *b"uptime_sec health mode sub_mode vendor_specific_status_code";
 
 pub fn decode(console: &mut Console, payload: &[u8], out: &mut [u8], at: usize) -> usize {
     match node_status::decode(payload) {
-        Read::Refused(n) => answer::refused(console, out, at, n),
-        Read::Got(x) => {
+        Err(r) => answer::refused(console, out, at, r.number()),
+        Ok(x) => {
             let v = [
                 x.uptime_sec,
                 x.health,

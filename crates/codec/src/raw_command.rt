@@ -15,15 +15,14 @@ fn shown(console: &mut Console, cmd: [i64; 20], n: usize, out: &mut [u8], at: us
 }
 
 pub fn decode(console: &mut Console, payload: &[u8], out: &mut [u8], at: usize) -> usize {
-    let r = raw_command::decode(payload);
-    let number = r.number;
-    if number != 0 {
-        return answer::refused(console, out, at, number);
+    match raw_command::decode(payload) {
+        Err(r) => answer::refused(console, out, at, r.number()),
+        Ok(x) => {
+            let n = x.count;
+            let cmd = x.cmd;
+            shown(console, cmd, n, out, at)
+        }
     }
-    let x = r.message;
-    let n = x.count;
-    let cmd = x.cmd;
-    shown(console, cmd, n, out, at)
 }
 
 // Internal.

@@ -4,14 +4,14 @@ ghost use Rattle.std.specs.Prelude.{◌≤◌};
 use super::number::Number;
 use super::{names, put, signed};
 use console::Console;
-use shape::answer::Written;
+use shape::answer::Refusal;
 use shape::part;
 
 // What a request to write a message comes to.
 #[derive(Drop)]
 pub enum Encoded {
     IllFormed,
-    Answer(Written),
+    Answer(Result<usize, Refusal>),
 }
 
 // A name, after a space, and the equals sign.
@@ -85,8 +85,8 @@ pub fn written(
     match e {
         Encoded::IllFormed => put::ill_formed(console, out, at),
         Encoded::Answer(w) => match w {
-            Written::Refused(n) => refused(console, out, at, n),
-            Written::Wrote(n) => {
+            Err(r) => refused(console, out, at, r.number()),
+            Ok(n) => {
                 let o = put::bytes(console, out, at, b"0 ");
                 put::list(console, out, o, part::within(message, 0, n))
             }

@@ -4,7 +4,7 @@ ghost use Rattle.row.specs.Row as form;
 ghost use Rattle.message_fields.specs.Allocation.{allocation_words, allocation_in, allocation_made};
 
 use protocol_dynamic_node_id::allocation;
-use protocol_dynamic_node_id::allocation::{Allocation, Read};
+use protocol_dynamic_node_id::allocation::Allocation;
 
 fn words(x: Allocation) -> [u64; 4]
     ensures { result ≡ allocation_words x }
@@ -23,8 +23,8 @@ pub fn decode(payload: &[u8], fields: &mut [u64]) -> u32
     ensures { (result, fields.new) ≡ form.row (allocation_in payload.now) fields.old }
 {
     match allocation::decode(payload) {
-        Read::Refused(n) => n,
-        Read::Got(x) => {
+        Err(r) => r.number(),
+        Ok(x) => {
             let w = words(x);
             row::put(&w, fields)
         }

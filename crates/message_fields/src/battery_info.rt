@@ -7,7 +7,7 @@ ghost use Rattle.message_fields.specs.BatteryInfo.{info_words, info_in, info_fro
 
 use binary16::pattern;
 use equipment_power::battery_info;
-use equipment_power::battery_info::{Raw, ReadRaw};
+use equipment_power::battery_info::Raw;
 use shape::answer::Place;
 
 fn wide(h: u16) -> u64
@@ -43,8 +43,8 @@ pub fn decode(payload: &[u8], fields: &mut [u64]) -> u32
     ensures { (result, fields.new) ≡ form.row (info_in payload.now) fields.old }
 {
     match battery_info::decode_raw(payload) {
-        ReadRaw::Refused(n) => n,
-        ReadRaw::Got(x, name) => {
+        Err(r) => r.number(),
+        Ok((x, name)) => {
             let w = words(x, name);
             row::put(&w, fields)
         }
@@ -56,12 +56,10 @@ fn are_floats(fields: &[u64]) -> bool
     requires { 15 ≤ length fields.now }
     ensures { result ≡ all_below (2 ^ 32) (take 7 fields.now) }
 {
-    let mut i = 0;
-    while i < 7 {
+    for i in 0..7 {
         if 0xFFFFFFFF < fields[i] {
             return false;
         }
-        i += 1;
     }
     true
 }

@@ -4,7 +4,7 @@ ghost use Rattle.row.specs.Row as form;
 ghost use Rattle.message_fields.specs.ExecuteOpcode.{request_words, request_in, request_from, request_made};
 
 use protocol_param::execute_opcode_request;
-use protocol_param::execute_opcode_request::{Read, Request};
+use protocol_param::execute_opcode_request::Request;
 
 fn words(x: Request) -> [u64; 2]
     ensures { result ≡ request_words x }
@@ -17,8 +17,8 @@ pub fn decode(payload: &[u8], fields: &mut [u64]) -> u32
     ensures { (result, fields.new) ≡ form.row (request_in payload.now) fields.old }
 {
     match execute_opcode_request::decode(payload) {
-        Read::Refused(n) => n,
-        Read::Got(x) => {
+        Err(r) => r.number(),
+        Ok(x) => {
             let w = words(x);
             row::put(&w, fields)
         }

@@ -4,7 +4,7 @@ ghost use Rattle.row.specs.Row as form;
 ghost use Rattle.message_fields.specs.ExecuteOpcode.{response_words, response_in, response_from, response_made};
 
 use protocol_param::execute_opcode_response;
-use protocol_param::execute_opcode_response::{Read, Response};
+use protocol_param::execute_opcode_response::Response;
 
 fn words(x: Response) -> [u64; 2]
     ensures { result ≡ response_words x }
@@ -17,8 +17,8 @@ pub fn decode(payload: &[u8], fields: &mut [u64]) -> u32
     ensures { (result, fields.new) ≡ form.row (response_in payload.now) fields.old }
 {
     match execute_opcode_response::decode(payload) {
-        Read::Refused(n) => n,
-        Read::Got(x) => {
+        Err(r) => r.number(),
+        Ok(x) => {
             let w = words(x);
             row::put(&w, fields)
         }

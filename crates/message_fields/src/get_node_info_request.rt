@@ -4,15 +4,14 @@ ghost use Rattle.row.specs.Row as form;
 ghost use Rattle.message_fields.specs.GetNodeInfo.{request_in, request_made};
 
 use protocol::get_node_info_request;
-use protocol::get_node_info_request::Read;
 
 // Reads a request: 16 for any byte.
 pub fn decode(payload: &[u8], fields: &mut [u64]) -> u32
     ensures { (result, fields.new) ≡ form.row (request_in payload.now) fields.old }
 {
     match get_node_info_request::decode(payload) {
-        Read::Refused(n) => n,
-        Read::Got => 0,
+        Err(r) => r.number(),
+        Ok(()) => 0,
     }
 }
 

@@ -5,7 +5,7 @@ ghost use Rattle.message_fields.specs.GetNodeInfo.{software_words, response_word
 
 use super::node_status;
 use protocol::get_node_info_response;
-use protocol::get_node_info_response::{Numbers, Read, Response, SoftwareVersion};
+use protocol::get_node_info_response::{Numbers, Response, SoftwareVersion};
 
 fn software_words(v: SoftwareVersion) -> [u64; 5]
     ensures { result ≡ software_words v }
@@ -55,8 +55,8 @@ pub fn decode(payload: &[u8], fields: &mut [u64]) -> u32
     ensures { (result, fields.new) ≡ form.row (response_in payload.now) fields.old }
 {
     match get_node_info_response::decode(payload) {
-        Read::Refused(n) => n,
-        Read::Got(x) => {
+        Err(r) => r.number(),
+        Ok(x) => {
             let w = words(x);
             row::put(&w, fields)
         }

@@ -5,7 +5,7 @@ ghost use Rattle.message_fields.specs.GetSet.{request_words, request_in, request
 
 use super::param_value;
 use protocol_param::get_set_request;
-use protocol_param::get_set_request::{Read, Request};
+use protocol_param::get_set_request::Request;
 
 fn words(x: Request) -> [u64; 7]
     ensures { result ≡ request_words x }
@@ -30,8 +30,8 @@ pub fn decode(payload: &[u8], fields: &mut [u64]) -> u32
     ensures { (result, fields.new) ≡ form.row (request_in payload.now) fields.old }
 {
     match get_set_request::decode(payload) {
-        Read::Refused(n) => n,
-        Read::Got(x) => {
+        Err(r) => r.number(),
+        Ok(x) => {
             let w = words(x);
             row::put(&w, fields)
         }

@@ -6,7 +6,7 @@ ghost use Rattle.message_fields.specs.inside.Value.{any_too_large, all_known};
 
 use super::param_value;
 use protocol_param::get_set_response;
-use protocol_param::get_set_response::{Read, Response};
+use protocol_param::get_set_response::Response;
 
 fn words(x: Response) -> [u64; 14]
     ensures { result ≡ response_words x }
@@ -45,8 +45,8 @@ pub fn decode(payload: &[u8], fields: &mut [u64]) -> u32
     ensures { (result, fields.new) ≡ form.row (response_in payload.now) fields.old }
 {
     match get_set_response::decode(payload) {
-        Read::Refused(n) => n,
-        Read::Got(x) => {
+        Err(r) => r.number(),
+        Ok(x) => {
             let w = words(x);
             row::put(&w, fields)
         }

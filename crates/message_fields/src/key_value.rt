@@ -4,7 +4,7 @@ ghost use Rattle.row.specs.Row as form;
 ghost use Rattle.message_fields.specs.KeyValue.{key_value_words, key_value_in, key_value_made};
 
 use protocol_debug::key_value;
-use protocol_debug::key_value::{KeyValue, Read};
+use protocol_debug::key_value::KeyValue;
 
 fn words(x: KeyValue) -> [u64; 3]
     ensures { result ≡ key_value_words x }
@@ -18,8 +18,8 @@ pub fn decode(payload: &[u8], fields: &mut [u64]) -> u32
     ensures { (result, fields.new) ≡ form.row (key_value_in payload.now) fields.old }
 {
     match key_value::decode(payload) {
-        Read::Refused(n) => n,
-        Read::Got(x) => {
+        Err(r) => r.number(),
+        Ok(x) => {
             let w = words(x);
             row::put(&w, fields)
         }

@@ -4,7 +4,7 @@ ghost use Rattle.row.specs.Row as form;
 ghost use Rattle.message_fields.specs.LogMessage.{log_message_words, log_message_in, log_message_made};
 
 use protocol_debug::log_message;
-use protocol_debug::log_message::{LogMessage, Read};
+use protocol_debug::log_message::LogMessage;
 
 fn words(x: LogMessage) -> [u64; 5]
     ensures { result ≡ log_message_words x }
@@ -25,8 +25,8 @@ pub fn decode(payload: &[u8], fields: &mut [u64]) -> u32
     ensures { (result, fields.new) ≡ form.row (log_message_in payload.now) fields.old }
 {
     match log_message::decode(payload) {
-        Read::Refused(n) => n,
-        Read::Got(x) => {
+        Err(r) => r.number(),
+        Ok(x) => {
             let w = words(x);
             row::put(&w, fields)
         }

@@ -4,7 +4,7 @@ ghost use Rattle.row.specs.Row as form;
 ghost use Rattle.message_fields.specs.NodeStatus.{status_words, status_from, status_in, status_made};
 
 use protocol::node_status;
-use protocol::node_status::{NodeStatus, Read};
+use protocol::node_status::NodeStatus;
 
 // Internal. Its words.
 pub fn words(x: NodeStatus) -> [u64; 5]
@@ -24,8 +24,8 @@ pub fn decode(payload: &[u8], fields: &mut [u64]) -> u32
     ensures { (result, fields.new) ≡ form.row (status_in payload.now) fields.old }
 {
     match node_status::decode(payload) {
-        Read::Refused(n) => n,
-        Read::Got(x) => {
+        Err(r) => r.number(),
+        Ok(x) => {
             let w = words(x);
             row::put(&w, fields)
         }

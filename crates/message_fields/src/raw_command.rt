@@ -12,11 +12,9 @@ fn words(x: RawCommand) -> [u64; 21]
     let cmd = x.cmd;
     let mut w = [0u64; 21];
     w[0] = x.count as u64;
-    let mut i = 0;
-    while i < 20 {
+    for i in 0..20 {
         let v = cmd[i];
         w[i + 1] = row::word(v);
-        i += 1;
     }
     w
 }
@@ -25,12 +23,13 @@ fn words(x: RawCommand) -> [u64; 21]
 pub fn decode(payload: &[u8], fields: &mut [u64]) -> u32
     ensures { (result, fields.new) ≡ form.row (commands_in payload.now) fields.old }
 {
-    let r = raw_command::decode(payload);
-    if r.number != 0 {
-        return r.number;
+    match raw_command::decode(payload) {
+        Err(r) => r.number(),
+        Ok(x) => {
+            let w = words(x);
+            row::put(&w, fields)
+        }
     }
-    let w = words(r.message);
-    row::put(&w, fields)
 }
 
 fn from(fields: &[u64]) -> RawCommand
@@ -38,10 +37,8 @@ fn from(fields: &[u64]) -> RawCommand
     ensures { result ≡ command_from fields.now }
 {
     let mut cmd = [0i64; 20];
-    let mut i = 0;
-    while i < 20 {
+    for i in 0..20 {
         cmd[i] = row::number(fields, i + 1);
-        i += 1;
     }
     RawCommand {
         count: fields[0] as usize,

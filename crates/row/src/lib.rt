@@ -7,7 +7,7 @@ ghost use Rattle.shape.specs.Cast.{low_bits};
 ghost use Rattle.row.specs.Laws.{WordLaws};
 ghost use Rattle.row.specs.Row.{count_at, number_at, row, word_of};
 
-use shape::answer::Written;
+use shape::answer::Refusal;
 use shape::{cast, signed};
 
 // Internal. A signed number as a word.
@@ -49,13 +49,14 @@ pub fn put(words: &[u64], fields: &mut [u64]) -> u32
 }
 
 // Internal. A writer's answer as a result word.
-pub fn of_written(a: Written) -> u64
+#[tactic(auto, unfolding(crate::specs::Row::word_of))]
+pub fn of_written(a: Result<usize, Refusal>) -> u64
     requires { word_of (answer_of a) < 2 ^ 64 }
     ensures { result ≡ word_of (answer_of a) }
 {
     match a {
-        Written::Refused(n) => n as u64,
-        Written::Wrote(n) => n as u64 * 256,
+        Ok(n) => n as u64 * 256,
+        Err(r) => r.number() as u64,
     }
 }
 

@@ -65,34 +65,34 @@ returns-then-reserved-gt127 c =
 pub overflow_cast-a : goal.overflow_cast-a
 overflow_cast-a c =
     let p = c.args.payload.now in
-    let x = c.in-Got.a in
-    casts x.node_id (node-held p c.decode-read.result c.decode-read.ensures (octets-all p (λ i. omega (arith, c.shared_slice_known-1.given i))) x c.in-Got.is)
+    let x = c.in-Ok.a in
+    casts x.node_id (node-held p c.decode.result c.decode.ensures (octets-all p (λ i. omega (arith, c.shared_slice_known-1.given i))) x c.in-Ok.is)
 
-pub overflow_cast-a-in-Got : goal.overflow_cast-a-in-Got
-overflow_cast-a-in-Got c =
+pub overflow_cast-a-in-Ok : goal.overflow_cast-a-in-Ok
+overflow_cast-a-in-Ok c =
     let p = c.args.payload.now in
-    let x = c.in-Got.a in
-    casts x.first_part_of_unique_id (first-held p c.decode-read.result c.decode-read.ensures (octets-all p (λ i. omega (arith, c.shared_slice_known-1.given i))) x c.in-Got.is)
+    let x = c.in-Ok.a in
+    casts x.first_part_of_unique_id (first-held p c.decode.result c.decode.ensures (octets-all p (λ i. omega (arith, c.shared_slice_known-1.given i))) x c.in-Ok.is)
 
 pub message-requires : goal.message-requires
 message-requires c = sym c.is_sound.ensures ∙ c.if-not-is_sound.false
 
-pub returns-in-Refused : goal.returns-in-Refused
-returns-in-Refused c =
+pub returns-in-Err : goal.returns-in-Err
+returns-in-Err c =
     let a = c.args in
-    unread c.in-Refused.n (decoded allocation a.payload.now) a.state.now a.q a.out.now
-    (read-refused a.payload.now c.decode-read.result c.decode-read.ensures c.in-Refused.n c.in-Refused.is)
+    unread c.number.result (decoded allocation a.payload.now) a.state.now a.q a.out.now
+    (read-refused a.payload.now c.decode.result c.decode.ensures c.in-Err.r c.in-Err.is ∙ ap refused (sym c.number.ensures))
     ∙ by-message a.state.now a.q a.payload.now a.out.now (sym c.is_sound.ensures ∙ c.if-not-is_sound.false) c.if-reserved-eq0.false (omega arith)
 
-pub returns-in-Got : goal.returns-in-Got
-returns-in-Got c =
+pub returns-in-Ok : goal.returns-in-Ok
+returns-in-Ok c =
     let a = c.args in
     let p = a.payload.now in
-    let x = c.in-Got.a in
+    let x = c.in-Ok.a in
     let o = octets-all p (λ i. omega (arith, c.shared_slice_known-1.given i)) in
-    let node = cast_is x.node_id (node-held p c.decode-read.result c.decode-read.ensures o x c.in-Got.is) in
-    let first = cast_is x.first_part_of_unique_id (first-held p c.decode-read.result c.decode-read.ensures o x c.in-Got.is) in
+    let node = cast_is x.node_id (node-held p c.decode.result c.decode.ensures o x c.in-Ok.is) in
+    let first = cast_is x.first_part_of_unique_id (first-held p c.decode.result c.decode.ensures o x c.in-Ok.is) in
     c.message.ensures
     ∙ ap (λ (v : Fields). performs (decide a.state.now a.q v) a.state.now a.q.time (joined a.state.now a.q.time v.1.1) a.out.now) (fields node first c.unique_id.ensures)
-    ∙ read (x.node_id, (x.first_part_of_unique_id, unique_id_in p)) (decoded allocation p) a.state.now a.q a.out.now (read-got p c.decode-read.result c.decode-read.ensures o x c.in-Got.is)
+    ∙ read (x.node_id, (x.first_part_of_unique_id, unique_id_in p)) (decoded allocation p) a.state.now a.q a.out.now (read-got p c.decode.result c.decode.ensures o x c.in-Ok.is)
     ∙ by-message a.state.now a.q p a.out.now (sym c.is_sound.ensures ∙ c.if-not-is_sound.false) c.if-reserved-eq0.false (omega arith)

@@ -30,19 +30,19 @@ slice_bounds-encode-start c = ⊎_elim (λ x. omega (arith, x.0, c.pending-at.en
 pub slice_bounds-encode-end : goal.slice_bounds-encode-end
 slice_bounds-encode-end c = ⊎_elim (λ x. omega (arith, x.0, c.pending-at.ensures.0)) (λ x. omega (arith, x.0, x.1)) c.part_end-end.ensures
 
-pub returns-in-Refused : goal.returns-in-Refused
+pub returns-in-Err : goal.returns-in-Err
 unfolding follows_up
-returns-in-Refused c =
+returns-in-Err c =
     let a = c.args in
     let at = c.pending-at.result - 1 in
-    not-sent 0 _ (span (unique_of a.bytes.now) (pending_of a.bytes.now - 1) stage_max) a.bytes.now (with_pending a.bytes.now 0) a.out.now c.encode-sent.new.out c.preferred.result a.t c.in-Refused.n
-    c.preferred.ensures.0 c.preferred.ensures.1 (same-part a.bytes.now c.pending-at.result c.pending-at.ensures.0 c.part_end-end.result c.requires.1.0 c.requires.1.1 c.requires.0 c.part_end-end.ensures) c.if-out-lt-REQUEST.false c.encode-sent.result c.encode-sent.ensures c.in-Refused.is
+    not-sent 0 _ (span (unique_of a.bytes.now) (pending_of a.bytes.now - 1) stage_max) a.bytes.now (with_pending a.bytes.now 0) a.out.now c.encode-sent.new.out c.preferred.result a.t c.number.result
+    c.preferred.ensures.0 c.preferred.ensures.1 (same-part a.bytes.now c.pending-at.result c.pending-at.ensures.0 c.part_end-end.result c.requires.1.0 c.requires.1.1 c.requires.0 c.part_end-end.ensures) c.if-out-lt-REQUEST.false c.encode-sent.result c.encode-sent.ensures c.in-Err.r c.in-Err.is c.number.ensures
 
-pub returns-in-Wrote : goal.returns-in-Wrote
+pub returns-in-Ok : goal.returns-in-Ok
 unfolding follows_up
-returns-in-Wrote c =
+returns-in-Ok c =
     let a = c.args in
     let at = c.pending-at.result - 1 in
-    is-sent 0 _ (span (unique_of a.bytes.now) (pending_of a.bytes.now - 1) stage_max) a.bytes.now (with_pending a.bytes.now 0) a.out.now c.encode-sent.new.out c.preferred.result a.t c.in-Wrote.n
-    c.preferred.ensures.0 c.preferred.ensures.1 (same-part a.bytes.now c.pending-at.result c.pending-at.ensures.0 c.part_end-end.result c.requires.1.0 c.requires.1.1 c.requires.0 c.part_end-end.ensures) c.if-out-lt-REQUEST.false c.encode-sent.result c.encode-sent.ensures c.in-Wrote.is
+    is-sent 0 _ (span (unique_of a.bytes.now) (pending_of a.bytes.now - 1) stage_max) a.bytes.now (with_pending a.bytes.now 0) a.out.now c.encode-sent.new.out c.preferred.result a.t c.in-Ok.n
+    c.preferred.ensures.0 c.preferred.ensures.1 (same-part a.bytes.now c.pending-at.result c.pending-at.ensures.0 c.part_end-end.result c.requires.1.0 c.requires.1.1 c.requires.0 c.part_end-end.ensures) c.if-out-lt-REQUEST.false c.encode-sent.result c.encode-sent.ensures c.in-Ok.is
     c.pending.new.bytes c.pending.ensures c.wait-wait.result c.wait-wait.ensures

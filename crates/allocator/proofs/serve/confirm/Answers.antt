@@ -12,19 +12,19 @@ use Rattle.allocator.specs.declared.answer.Answer.TheVariants.{Replied}
 use Rattle.allocator.proofs.Replies.{node-sent, refused-reply, wrote-reply}
 use Rattle.allocator.proofs.serve.confirm.Goals as goal
 
-pub returns-in-Refused : goal.returns-in-Refused
+pub returns-in-Err : goal.returns-in-Err
 unfolding performs
-returns-in-Refused c =
+returns-in-Err c =
     let a = c.args in
-    refused-reply a.state.now (with_time (with_count a.state.now 0) a.t) a.out.now c.encode-reply.new.out c.in-Refused.n
-    (encoded allocation (pos a.node, (pos 0, a.g.now)) (length a.out.now)) c.encode-reply.result c.in-Refused.is (c.encode-reply.ensures ∙ node-sent a.node a.g.now a.out.now c.requires.1)
+    refused-reply a.state.now (with_time (with_count a.state.now 0) a.t) a.out.now c.encode.new.out c.number.result
+    (encoded allocation (pos a.node, (pos 0, a.g.now)) (length a.out.now)) c.encode.result c.in-Err.r c.in-Err.is c.number.ensures (c.encode.ensures ∙ node-sent a.node a.g.now a.out.now c.requires.1)
 
-pub returns-in-Wrote : goal.returns-in-Wrote
+pub returns-in-Ok : goal.returns-in-Ok
 unfolding performs
-returns-in-Wrote c =
+returns-in-Ok c =
     let a = c.args in
-    let n = c.in-Wrote.n in
-    let o = c.encode-reply.new.out in
+    let n = c.in-Ok.n in
+    let o = c.encode.new.out in
     ap (λ (x : List ℕ). returned (Replied n) x o) (c.time.ensures ∙ ap (λ (x : List ℕ). with_time x a.t) c.gathered_count.ensures)
     ∙ wrote-reply a.state.now (with_time (with_count a.state.now 0) a.t) a.out.now o n
-    (encoded allocation (pos a.node, (pos 0, a.g.now)) (length a.out.now)) c.encode-reply.result c.in-Wrote.is (c.encode-reply.ensures ∙ node-sent a.node a.g.now a.out.now c.requires.1)
+    (encoded allocation (pos a.node, (pos 0, a.g.now)) (length a.out.now)) c.encode.result c.in-Ok.is (c.encode.ensures ∙ node-sent a.node a.g.now a.out.now c.requires.1)

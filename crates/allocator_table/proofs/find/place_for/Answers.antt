@@ -13,9 +13,6 @@ use Rattle.allocator_table.proofs.find.place_for.Goals as goal
 pub count-n-requires : goal.count-n-requires
 count-n-requires c = long-enough _ c.requires
 
-pub loop-i-init : goal.loop-i-init
-loop-i-init c = (omega arith, omega arith)
-
 pub unique_id-requires : goal.unique_id-requires
 unique_id-requires c =
     let l = long-enough c.args.state.now c.requires in
@@ -27,24 +24,18 @@ returns-then-not-is_less c =
     let u = number_of a.u in
     let e = ap (λ (x : ℕ). ltb x u) (sym c.unique_id.ensures) ∙ sym c.is_less.ensures ∙ c.if-not-is_less.true in
     let z = place-hit a.state.now c.loop-i.i c.count-n.result (omega arith) u e in
-    omega (arith, c.loop-i.invariant.1, ap (place_for u) (by_count a.state.now c.count-n.result c.count-n.ensures))
-
-pub overflow_add-i : goal.overflow_add-i
-overflow_add-i c = omega arith
-
-pub loop-i-smaller : goal.loop-i-smaller
-loop-i-smaller c = omega arith
+    omega (arith, c.loop-i.invariant, ap (place_for u) (by_count a.state.now c.count-n.result c.count-n.ensures))
 
 pub loop-i-preserved : goal.loop-i-preserved
 loop-i-preserved c =
     let a = c.args in
     let u = number_of a.u in
     let e = ap (λ (x : ℕ). ltb x u) (sym c.unique_id.ensures) ∙ sym c.is_less.ensures ∙ c.if-not-is_less.false in
-    (omega arith, rw add-one (omega (arith, place-miss a.state.now c.loop-i.i c.count-n.result (omega arith) u e, c.loop-i.invariant.1)))
+    rw add-one (omega (arith, place-miss a.state.now c.loop-i.i c.count-n.result (omega arith) u e, c.loop-i.invariant))
 
 pub returns : goal.returns
 returns c =
     let a = c.args in
     let u = number_of a.u in
     let z = place_none a.state.now c.loop-i.i c.count-n.result u (omega arith) in
-    omega (arith, c.loop-i.invariant.1, ap (place_for u) (by_count a.state.now c.count-n.result c.count-n.ensures))
+    omega (arith, c.loop-i.invariant, ap (place_for u) (by_count a.state.now c.count-n.result c.count-n.ensures))

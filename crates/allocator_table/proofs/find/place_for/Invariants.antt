@@ -1,12 +1,9 @@
 use mathlib.Core.Path.{◌≡◌}
-use Prim.Native.Nat.{◌+◌, ◌-◌, ◌≤◌}
+use Prim.Native.Nat.{◌+◌}
 use Rattle.allocator_table.specs.Table.{place_for}
 use Rattle.allocator_table.specs.inside.Code.{number_of}
 use Rattle.allocator_table.proofs.Walk.{rest}
 use Rattle.allocator_table.proofs.find.place_for.Given as goal
 
 abbrev pub invariant-loop-i : goal.invariant-loop-i
-invariant-loop-i l = (l.i ≤ l.n) × (l.i + place_for (number_of l.u) (rest l.state l.i l.n) ≡ place_for (number_of l.u) (rest l.state 0 l.n))
-
-abbrev pub decreases-loop-i : goal.decreases-loop-i
-decreases-loop-i l = l.n - l.i
+invariant-loop-i l = l.i + place_for (number_of l.u) (rest l.state l.i l.n) ≡ place_for (number_of l.u) (rest l.state 0 l.n)

@@ -1,7 +1,7 @@
 use mathlib.Core.Path.{◌≡◌}
 use mathlib.Core.Bool.{Bool}
 use mathlib.Core.List.{List}
-use Prim.Native.Nat.{ℕ, ◌≤◌}
+use Prim.Native.Nat.{ℕ}
 use Rattle.allocator_table.specs.declared.free.Reserved.{Reserved}
 use Rattle.allocator_table.specs.Layout.{table_of}
 use Rattle.allocator_table.specs.Table.{is_free, highest_below}
@@ -11,7 +11,4 @@ abbrev pub free : List ℕ → Reserved → ℕ → Bool
 free m r = is_free r (table_of m)
 
 abbrev pub invariant-loop-n : goal.invariant-loop-n
-invariant-loop-n l = (l.n ≤ l.p) × (highest_below (free l.state l.r) l.n ≡ highest_below (free l.state l.r) l.p)
-
-abbrev pub decreases-loop-n : goal.decreases-loop-n
-decreases-loop-n l = l.n
+invariant-loop-n l = highest_below (free l.state l.r) l.n ≡ highest_below (free l.state l.r) l.p

@@ -1,16 +1,13 @@
 -- `free::upwards` meets its contract: no node ID passed is free.
-use mathlib.Core.Path.{refl, sym, ap, ◌∙◌}
+use mathlib.Core.Path.{sym, ap, ◌∙◌}
 use Prim.Native.Nat.{suc}
 use native.Mathlib.Numerals.{add-one}
 use native.Mathlib.Omega.{arith}
 use Rattle.allocator_table.specs.Limits.{node_max}
-use Rattle.allocator_table.specs.inside.Code.{or_zero}
+use Rattle.allocator_table.specs.inside.Code.{optional}
 use Rattle.allocator_table.proofs.Search.{low-hit, low-miss, low-none}
 use Rattle.allocator_table.proofs.free.upwards.Invariants.{free}
 use Rattle.allocator_table.proofs.free.upwards.Goals as goal
-
-pub loop-n-init : goal.loop-n-init
-loop-n-init c = (omega arith, refl)
 
 pub is_free-requires : goal.is_free-requires
 is_free-requires c = (c.requires.0, omega arith)
@@ -19,21 +16,15 @@ pub returns-then-is_free : goal.returns-then-is_free
 returns-then-is_free c =
     let a = c.args in
     let e = sym c.is_free.ensures ∙ c.if-is_free.true in
-    (ap or_zero (sym (low-hit (free a.state.now a.r) c.loop-n.n (suc node_max) (omega arith) e) ∙ c.loop-n.invariant.1), omega arith)
-
-pub overflow_add-n : goal.overflow_add-n
-overflow_add-n c = omega arith
-
-pub loop-n-smaller : goal.loop-n-smaller
-loop-n-smaller c = omega arith
+    (ap optional (sym (low-hit (free a.state.now a.r) c.loop-n.n (suc node_max) (omega arith) e) ∙ c.loop-n.invariant), omega arith)
 
 pub loop-n-preserved : goal.loop-n-preserved
 loop-n-preserved c =
     let a = c.args in
     let e = sym c.is_free.ensures ∙ c.if-is_free.false in
-    (omega arith, rw add-one (sym (low-miss (free a.state.now a.r) c.loop-n.n (suc node_max) (omega arith) e) ∙ c.loop-n.invariant.1))
+    rw add-one (sym (low-miss (free a.state.now a.r) c.loop-n.n (suc node_max) (omega arith) e) ∙ c.loop-n.invariant)
 
 pub returns : goal.returns
 returns c =
     let a = c.args in
-    (ap or_zero (sym (low-none (free a.state.now a.r) c.loop-n.n (suc node_max) (omega arith)) ∙ c.loop-n.invariant.1), omega arith)
+    (ap optional (sym (low-none (free a.state.now a.r) c.loop-n.n (suc node_max) (omega arith)) ∙ c.loop-n.invariant), tt)

@@ -22,10 +22,7 @@ none m n = ap sound (rest_end m n n (omega arith))
 pub loop-i-init : goal.loop-i-init
 loop-i-init c =
     let a = c.args in
-    ((omega arith, none a.state.now a.n), seen_none a.state.now a.n _ refl)
-
-pub overflow_sub-i : goal.overflow_sub-i
-overflow_sub-i c = omega arith
+    (none a.state.now a.n, seen_none a.state.now a.n _ refl)
 
 pub entry_fits-requires : goal.entry_fits-requires
 entry_fits-requires c =
@@ -46,17 +43,11 @@ returns-then-not-entry_fits c =
     let f = sym k.entry_fits.ensures ∙ c.if-not-entry_fits.true in
     sym (unsound-before m a.n j (omega arith) (sound-step m j a.n (omega arith) ∙ ap (λ b. b && sound (rest m (suc j) a.n)) f)) ∙ ap (λ (k : ℕ). sound (tabulate (entry_at m) 0 k)) (sub-zero a.n)
 
-pub node-node-requires : goal.node-node-requires
-node-node-requires c = omega arith
-
 pub bounds-seen-node : goal.bounds-seen-node
 bounds-seen-node c =
     let a = c.args in
     let w = node-small (entry_at a.state.now (c.loop-i.i - 1)) _ (sym c.entry_fits.ensures ∙ c.if-not-entry_fits.false) in
     omega (arith, c.node-node.ensures, c.loop-i.invariant.1.long)
-
-pub loop-i-smaller : goal.loop-i-smaller
-loop-i-smaller c = omega arith
 
 pub loop-i-preserved : goal.loop-i-preserved
 loop-i-preserved c =
@@ -65,10 +56,10 @@ loop-i-preserved c =
     let j = c.loop-i.i - 1 in
     let e : c.loop-i.i ≡ suc j = omega arith in
     let f = sym c.entry_fits.ensures ∙ c.if-not-entry_fits.false in
-    let s = ap (λ (i : ℕ). sound (rest m i a.n)) (sym e) ∙ c.loop-i.invariant.0.1 in
+    let s = ap (λ (i : ℕ). sound (rest m i a.n)) (sym e) ∙ c.loop-i.invariant.0 in
     let q = rest-step m j a.n (omega arith) in
     let w = seen_more c.loop-i.seen (entry_at m j) (rest m (suc j) a.n) (omega (arith, node-small (entry_at m j) _ f)) (subst (λ (i : ℕ). Seen c.loop-i.seen (rest m i a.n)) e c.loop-i.invariant.1) in (
-      (omega arith, sound-step m j a.n (omega arith) ∙ ap₂ ◌&&◌ f s),
+      sound-step m j a.n (omega arith) ∙ ap₂ ◌&&◌ f s,
       subst (λ (t : List ℕ). Seen t (rest m j a.n)) (ap (λ (x : ℕ). set c.loop-i.seen x 1) (sym c.node-node.ensures)) (subst (λ (t : List Entry). Seen (set c.loop-i.seen (node_at m j) 1) t) (sym q) w),
     )
 
@@ -76,4 +67,4 @@ pub returns : goal.returns
 returns c =
     let a = c.args in
     let z : c.loop-i.i ≡ 0 = omega arith in
-    sym (ap (λ (i : ℕ). sound (rest a.state.now i a.n)) (sym z) ∙ c.loop-i.invariant.0.1) ∙ ap (λ (k : ℕ). sound (tabulate (entry_at a.state.now) 0 k)) (sub-zero a.n)
+    sym (ap (λ (i : ℕ). sound (rest a.state.now i a.n)) (sym z) ∙ c.loop-i.invariant.0) ∙ ap (λ (k : ℕ). sound (tabulate (entry_at a.state.now) 0 k)) (sub-zero a.n)

@@ -31,5 +31,5 @@ module _ (m : List ℕ) (p n node : ℕ) (u m₁ m₂ m₃ m₄ : List ℕ) (is 
 pub returns : goal.returns
 returns c =
     let a = c.args in
-    stored a.state.now a.p a.n a.node a.u.now c.move_up.new.state c.copy_at.new.dst c.put_at.new.s c.put_at-2.new.s c.requires.u_len.1
-    c.move_up.ensures c.copy_at.ensures c.put_at.ensures c.put_at-2.ensures
+    stored a.state.now a.p a.n a.node a.u.now c.up.new.s c.copy_at.new.dst c.put_at.new.s c.put_at-2.new.s c.requires.u_len.1
+    c.up.ensures c.copy_at.ensures c.put_at.ensures c.put_at-2.ensures

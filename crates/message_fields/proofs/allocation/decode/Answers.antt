@@ -1,19 +1,19 @@
 -- `allocation::decode` meets its contract: what the message call gives, as words.
 use mathlib.Core.Path.{sym, ap, ◌∙◌}
-use Rattle.shape.specs.Answer.{map_answer}
+use Rattle.shape.specs.Answer.{map_answer, answer_of}
 use Rattle.shape.specs.Shape.{decoded}
-use Rattle.protocol_dynamic_node_id.specs.Allocation.{allocation, allocation_of, answer_of}
+use Rattle.protocol_dynamic_node_id.specs.Allocation.{allocation, allocation_of}
 use Rattle.message_fields.specs.Allocation.{allocation_words}
 use Rattle.row.proofs.Rows.{read-refused, read-got}
 use Rattle.message_fields.proofs.allocation.decode.Goals as goal
 
-pub returns-in-Refused : goal.returns-in-Refused
-returns-in-Refused c =
+pub returns-in-Err : goal.returns-in-Err
+returns-in-Err c =
     let a = c.args in
-    read-refused allocation_words (map_answer allocation_of (decoded allocation a.payload.now)) a.fields.now _ (sym (ap answer_of c.in-Refused.is) ∙ c.decode.ensures)
+    rw c.number.ensures (read-refused allocation_words (map_answer allocation_of (decoded allocation a.payload.now)) a.fields.now _ (sym (ap answer_of c.in-Err.is) ∙ c.decode.ensures))
 
-pub returns-in-Got : goal.returns-in-Got
-returns-in-Got c =
+pub returns-in-Ok : goal.returns-in-Ok
+returns-in-Ok c =
     let a = c.args in
-    read-got allocation_words (map_answer allocation_of (decoded allocation a.payload.now)) a.fields.now c.in-Got.x (sym (ap answer_of c.in-Got.is) ∙ c.decode.ensures)
+    read-got allocation_words (map_answer allocation_of (decoded allocation a.payload.now)) a.fields.now c.in-Ok.x (sym (ap answer_of c.in-Ok.is) ∙ c.decode.ensures)
     c.words-w.result c.words-w.ensures _ c.put.ensures

@@ -7,28 +7,16 @@ use Rattle.message_fields.proofs.Floats.{all-floats, no-float}
 use Rattle.message_fields.proofs.battery_info.are_floats.Goals as goal
 
 pub loop-i-init : goal.loop-i-init
-loop-i-init c = (omega arith, λ k h. absurd (omega arith))
-
-pub offset_bounds-fields-i : goal.offset_bounds-fields-i
-offset_bounds-fields-i c = omega arith
-
-pub bounds-fields-i : goal.bounds-fields-i
-bounds-fields-i c = omega arith
+loop-i-init c = λ k h. absurd (omega arith)
 
 pub returns-then-fields-i-gt4294967295 : goal.returns-then-fields-i-gt4294967295
 returns-then-fields-i-gt4294967295 c =
     no-float c.args.fields.now (omega arith) c.loop-i.i (omega arith) (omega arith)
 
-pub overflow_add-i : goal.overflow_add-i
-overflow_add-i c = omega arith
-
-pub loop-i-smaller : goal.loop-i-smaller
-loop-i-smaller c = omega arith
-
 pub loop-i-preserved : goal.loop-i-preserved
 loop-i-preserved c =
-    (omega arith, below_more (λ (k : ℕ). get_or c.args.fields.now k 0 < 2 ^ 32) c.loop-i.i c.loop-i.invariant.1 (omega arith))
+    below_more (λ (k : ℕ). get_or c.args.fields.now k 0 < 2 ^ 32) c.loop-i.i c.loop-i.invariant (omega arith)
 
 pub returns : goal.returns
 returns c =
-    all-floats c.args.fields.now (omega arith) (λ k h. c.loop-i.invariant.1 k (omega arith))
+    all-floats c.args.fields.now (omega arith) (λ k h. c.loop-i.invariant k (omega arith))

@@ -1,19 +1,19 @@
 -- `get_set_response::decode` meets its contract: what the message call gives, as words.
 use mathlib.Core.Path.{sym, ap, ◌∙◌}
-use Rattle.shape.specs.Answer.{map_answer}
+use Rattle.shape.specs.Answer.{map_answer, answer_of}
 use Rattle.shape.specs.Shape.{decoded}
-use Rattle.protocol_param.specs.GetSetResponse.{response, response_of, answer_of}
+use Rattle.protocol_param.specs.GetSetResponse.{response, response_of}
 use Rattle.message_fields.specs.GetSet.{response_words}
 use Rattle.row.proofs.Rows.{read-refused, read-got}
 use Rattle.message_fields.proofs.get_set_response.decode.Goals as goal
 
-pub returns-in-Refused : goal.returns-in-Refused
-returns-in-Refused c =
+pub returns-in-Err : goal.returns-in-Err
+returns-in-Err c =
     let a = c.args in
-    read-refused response_words (map_answer response_of (decoded response a.payload.now)) a.fields.now _ (sym (ap answer_of c.in-Refused.is) ∙ c.decode.ensures)
+    rw c.number.ensures (read-refused response_words (map_answer response_of (decoded response a.payload.now)) a.fields.now _ (sym (ap answer_of c.in-Err.is) ∙ c.decode.ensures))
 
-pub returns-in-Got : goal.returns-in-Got
-returns-in-Got c =
+pub returns-in-Ok : goal.returns-in-Ok
+returns-in-Ok c =
     let a = c.args in
-    read-got response_words (map_answer response_of (decoded response a.payload.now)) a.fields.now c.in-Got.x (sym (ap answer_of c.in-Got.is) ∙ c.decode.ensures)
+    read-got response_words (map_answer response_of (decoded response a.payload.now)) a.fields.now c.in-Ok.x (sym (ap answer_of c.in-Ok.is) ∙ c.decode.ensures)
     c.words-w.result c.words-w.ensures _ c.put.ensures

@@ -1,5 +1,5 @@
 -- `raw_command::from` meets its contract. The invariant: the first i numbers are read.
-use mathlib.Core.Path.{◌≡◌, refl, sym, ap, ◌∙◌}
+use mathlib.Core.Path.{◌≡◌, sym, ap, ◌∙◌}
 use mathlib.Core.List.{List}
 use Prim.Native.Nat.{ℕ, ◌+◌, ◌≤◌, ◌<◌}
 use native.Mathlib.Omega.{arith}
@@ -20,37 +20,13 @@ twenty ws h = length-span ws 1 20 h
 word_at : (ws : List ℕ) (i : ℕ) → i < 20 → get_or ws (i + 1) 0 ≡ get_or (span ws 1 20) i 0
 word_at ws i h = ap (λ (k : ℕ). get_or ws k 0) (omega arith) ∙ sym (get_or-take 20 (drop 1 ws) i 0 h ∙ get_or-drop 1 ws i 0)
 
-pub loop-i-init : goal.loop-i-init
-loop-i-init c = (omega arith, refl)
-
-pub overflow_add-i : goal.overflow_add-i
-overflow_add-i c = omega arith
-
-pub number-requires : goal.number-requires
-number-requires c = omega arith
-
-pub offset_bounds-cmd-i : goal.offset_bounds-cmd-i
-offset_bounds-cmd-i c = omega arith
-
-pub bounds-cmd-i : goal.bounds-cmd-i
-bounds-cmd-i c = omega arith
-
-pub overflow_add-i-in-loop-i : goal.overflow_add-i-in-loop-i
-overflow_add-i-in-loop-i c = omega arith
-
-pub loop-i-smaller : goal.loop-i-smaller
-loop-i-smaller c = omega arith
-
 pub loop-i-preserved : goal.loop-i-preserved
 loop-i-preserved c =
     let ws = c.args.fields.now in
     let i = c.loop-i.i in
-    (omega arith, mapped (signed_of 64) (span ws 1 20) 0 (pos 0) c.loop-i.cmd i _ (omega (arith, twenty ws (omega arith))) (omega arith) c.loop-i.invariant.1 (held _ _ c.number.ensures ∙ ap (λ (n : ℕ). signed_of 64 n) (word_at ws i (omega arith))))
-
-pub bounds-fields-0 : goal.bounds-fields-0
-bounds-fields-0 c = omega arith
+    mapped (signed_of 64) (span ws 1 20) 0 (pos 0) c.loop-i.cmd i _ (omega (arith, twenty ws (omega arith))) (omega arith) c.loop-i.invariant (held _ _ c.number.ensures ∙ ap (λ (n : ℕ). signed_of 64 n) (word_at ws i (omega arith)))
 
 pub returns : goal.returns
 returns c =
     let ws = c.args.fields.now in
-    ap (λ (z : List ℤ). record { count = get_or ws 0 0; cmd = z }) (all-mapped (signed_of 64) (span ws 1 20) (pos 0) c.loop-i.cmd c.loop-i.i (twenty ws (omega arith)) (omega arith) c.loop-i.invariant.1)
+    ap (λ (z : List ℤ). record { count = get_or ws 0 0; cmd = z }) (all-mapped (signed_of 64) (span ws 1 20) (pos 0) c.loop-i.cmd c.loop-i.i (twenty ws (omega arith)) (omega arith) c.loop-i.invariant)

@@ -19,34 +19,10 @@ turn cmd n w i v h k e g =
     ap (λ (l : List ℕ). set l (i + 1) v) e ∙ ap (λ (j : ℕ). set (n ∷ front cmd i) j v) (add-one i)
     ∙ ap (λ (l : List ℕ). n ∷ l) (mapped word cmd (pos 0) 0 (front cmd i) i v h k refl g)
 
-pub loop-i-init : goal.loop-i-init
-loop-i-init c = (omega arith, refl)
-
-pub offset_bounds-cmd-i : goal.offset_bounds-cmd-i
-offset_bounds-cmd-i c = omega arith
-
-pub bounds-cmd-i : goal.bounds-cmd-i
-bounds-cmd-i c = omega arith
-
-pub overflow_add-w : goal.overflow_add-w
-overflow_add-w c = omega arith
-
-pub offset_bounds-w-i : goal.offset_bounds-w-i
-offset_bounds-w-i c = omega arith
-
-pub bounds-w-i : goal.bounds-w-i
-bounds-w-i c = omega arith
-
-pub overflow_add-i : goal.overflow_add-i
-overflow_add-i c = omega arith
-
-pub loop-i-smaller : goal.loop-i-smaller
-loop-i-smaller c = omega arith
-
 pub loop-i-preserved : goal.loop-i-preserved
 loop-i-preserved c =
-    (omega arith, turn c.args.x.cmd c.args.x.count c.loop-i.w c.loop-i.i c.word.result (omega arith) (omega arith) c.loop-i.invariant.1 (word-of _ (record { sfits = c.v-1.given }) _ c.word.ensures))
+    turn c.args.x.cmd c.args.x.count c.loop-i.w c.loop-i.i c.word.result (omega arith) (omega arith) c.loop-i.invariant (word-of _ (record { sfits = c.v-1.given }) _ c.word.ensures)
 
 pub returns : goal.returns
 returns c =
-    c.loop-i.invariant.1 ∙ ap (λ (m : List ℕ). c.args.x.count ∷ m) (all-mapped word c.args.x.cmd 0 (front c.args.x.cmd c.loop-i.i) c.loop-i.i (search rules) (omega arith) refl)
+    c.loop-i.invariant ∙ ap (λ (m : List ℕ). c.args.x.count ∷ m) (all-mapped word c.args.x.cmd 0 (front c.args.x.cmd c.loop-i.i) c.loop-i.i (search rules) (omega arith) refl)

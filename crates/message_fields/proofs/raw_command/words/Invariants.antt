@@ -1,6 +1,6 @@
 use mathlib.Core.Path.{◌≡◌}
 use mathlib.Core.List.{List, ◌∷◌, ◌++◌, map}
-use Prim.Native.Nat.{ℕ, ◌-◌, ◌≤◌}
+use Prim.Native.Nat.{ℕ, ◌-◌}
 use lib.IntN.{ℤ}
 use lib.ListN.{take, get_or, replicate}
 use Rattle.row.specs.Row.{word}
@@ -11,7 +11,4 @@ abbrev pub front : List ℤ → ℕ → List ℕ
 front cmd i = map word (take i cmd) ++ replicate (20 - i) 0
 
 abbrev pub invariant-loop-i : goal.invariant-loop-i
-invariant-loop-i l = (l.i ≤ 20) × (l.w ≡ get_or l.initial.w 0 0 ∷ front l.cmd l.i)
-
-abbrev pub decreases-loop-i : goal.decreases-loop-i
-decreases-loop-i l = 20 - l.i
+invariant-loop-i l = l.w ≡ get_or l.initial.w 0 0 ∷ front l.cmd l.i
