@@ -12,8 +12,7 @@ ghost use Rattle.state.specs.Layout.{size, setup_of};
 
 use answers::Outcome;
 use capture_convert::trailer;
-use records::Fed;
-use verdict::Verdict;
+use verdict::{Refusal, Verdict};
 
 // The verdict on a capture under the subscriptions of a receiver's state.
 fn of_capture(state: &[u8], capture: &[u8]) -> Verdict
@@ -22,14 +21,14 @@ fn of_capture(state: &[u8], capture: &[u8]) -> Verdict
 {
     let t = trailer::find(capture);
     if !t.ok {
-        return Verdict::NoCapture;
+        return Err(Refusal::NoCapture);
     }
     let from = t.from;
     let to = capture.len() - trailer::SIZE;
     let mut table = [0u64; judge_streams::SIZE];
     match records::feed(state, &mut table, &capture[from..to]) {
-        Fed::On => Verdict::Pass,
-        Fed::Off(number, i) => Verdict::Fails(number, i),
+        Ok(()) => Ok(()),
+        Err(failure) => Err(Refusal::Fails(failure)),
     }
 }
 
@@ -42,7 +41,7 @@ pub fn judge(subscriptions: &[u8], capture: &[u8]) -> Verdict
     let mut state = [0u8; state::layout::SIZE];
     match setup::setup(&mut state, 0, subscriptions) {
         Outcome::Done => of_capture(&state, capture),
-        Outcome::Unacceptable => Verdict::Unacceptable,
-        Outcome::Short => Verdict::Unacceptable,
+        Outcome::Unacceptable => Err(Refusal::Unacceptable),
+        Outcome::Short => Err(Refusal::Unacceptable),
     }
 }
