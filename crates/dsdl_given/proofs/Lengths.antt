@@ -13,9 +13,6 @@ use Rattle.dsdl_given.specs.Given.{definitions, too_long}
 use Rattle.dsdl.specs.Definition.{text_max}
 use Rattle.dsdl_given.proofs.Turns.{tab-turn, tab-end}
 
-true-is-not-false : ◌≡◌ {A = Bool} true false → ⊥
-true-is-not-false e = let z : ◌≡◌ {A = ℕ} 0 1 = cc in omega arith
-
 module _ (f : ℕ → ℕ) (k n : ℕ) (inside : k + 1 < n) where
   pub pair : tabulate f k (n - k) ≡ f k ∷ (f (k + 1) ∷ tabulate f (k + 2) (n - (k + 2)))
   pair =
@@ -52,8 +49,8 @@ pub reaches : (f : ℕ → ℕ) (k n left : ℕ) → k + 1 < n → too_long left
 reaches f k n left h e = go (ltb text_max (f (k + 1))) refl (ltb left (f k + f (k + 1))) refl where
   go : (a : Bool) → ltb text_max (f (k + 1)) ≡ a → (b : Bool) → ltb left (f k + f (k + 1)) ≡ b
       → Reaches left (f k) (f (k + 1)) (λ (l : ℕ). too_long l (tabulate f (k + 2) (n - (k + 2))))
-  go true p b q = absurd (true-is-not-false (long-text f k n h left (f k) (f (k + 1)) refl refl (ltb-true text_max (f (k + 1)) p) ∙ e))
-  go false p true q = absurd (true-is-not-false (past f k n h left (f k) (f (k + 1)) refl refl (ltb-false text_max (f (k + 1)) p) (ltb-true left (f k + f (k + 1)) q) ∙ e))
+  go true p b q = let t = long-text f k n h left (f k) (f (k + 1)) refl refl (ltb-true text_max (f (k + 1)) p) ∙ e in cc
+  go false p true q = let t = past f k n h left (f k) (f (k + 1)) refl refl (ltb-false text_max (f (k + 1)) p) (ltb-true left (f k + f (k + 1)) q) ∙ e in cc
   go false p false q =
       let s = ltb-false text_max (f (k + 1)) p in
       let t = ltb-false left (f k + f (k + 1)) q in

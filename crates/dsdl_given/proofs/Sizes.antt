@@ -1,29 +1,16 @@
 -- Laws of `oversized`, of lengths in bytes.
-use mathlib.Core.Path.{◌≡◌, refl, sym, ap, ◌∙◌}
-use mathlib.Core.Bool.{Bool, true, false, ◌||◌}
+use mathlib.Core.Path.{◌≡◌, sym, ap, ◌∙◌}
+use mathlib.Core.Bool.{true, false}
 use mathlib.Core.List.{List}
 use Prim.Native.Nat.{ℕ, ◌*◌, ◌/◌, ◌≤◌, ◌<◌}
-use native.Mathlib.Omega.{arith}
 use borrow.Author.Tests.{ltb-false, lt-ltb, le-ltb}
 use lib.Dec.{ltb}
 use lib.ListN.{length}
+use Rattle.std.proofs.lemmas.Bool.{or_parts}
 use Rattle.dsdl_given.specs.Given.{definitions, definition_max, length_at, lengths_in, name_twice, too_long, oversized}
 use Rattle.dsdl_given.specs.inside.Places.{given, Bounds, Inside}
 use Rattle.dsdl_given.proofs.Lengths.{counted}
 use Rattle.dsdl_given.proofs.Located.{placed, inside}
-
-or_left : (a b : Bool) → a || b ≡ false → a ≡ false
-or_left false b e = refl
-or_left true b e = e
-
-or-middle : (a b c : Bool) → a || (b || c) ≡ false → b ≡ false
-or-middle false b c e = or_left b c e
-or-middle true b c e = let z : ◌≡◌ {A = ℕ} 0 1 = cc in absurd (omega arith)
-
-or-last : (a b c : Bool) → a || (b || c) ≡ false → c ≡ false
-or-last false false c e = e
-or-last false true c e = let z : ◌≡◌ {A = ℕ} 0 1 = cc in absurd (omega arith)
-or-last true b c e = let z : ◌≡◌ {A = ℕ} 0 1 = cc in absurd (omega arith)
 
 module _ (source lengths : List ℕ) where
   -- as many definitions as there are two lengths
@@ -51,15 +38,15 @@ module _ (source lengths : List ℕ) where
   module _ (fine : oversized source (lengths_in lengths) ≡ false) where
     pub at-most : count ≤ definition_max
     unfolding oversized
-    at-most = ltb-false definition_max count (sym few ∙ or_left _ _ fine)
+    at-most = ltb-false definition_max count (sym few ∙ (or_parts _ _ fine).0)
 
     pub no-twice : (bounds : List ℕ) → Bounds (length_at lengths) bounds (count * 2) → name_twice (given source bounds count) ≡ false
     unfolding oversized
     no-twice bounds b =
         ap name_twice (sym (placed lengths bounds count b source))
-        ∙ or-last (ltb definition_max (length (definitions source (lengths_in lengths)))) (too_long (length source) (lengths_in lengths)) (name_twice (definitions source (lengths_in lengths))) fine
+        ∙ (or_parts _ _ (or_parts _ _ fine).1).1
 
     pub all-kept : (bounds : List ℕ) → Bounds (length_at lengths) bounds (count * 2) → Inside source bounds count
     unfolding oversized
     all-kept bounds b =
-        inside lengths bounds count b source at-most (or-middle (ltb definition_max (length (definitions source (lengths_in lengths)))) (too_long (length source) (lengths_in lengths)) (name_twice (definitions source (lengths_in lengths))) fine)
+        inside lengths bounds count b source at-most (or_parts _ _ (or_parts _ _ fine).1).0

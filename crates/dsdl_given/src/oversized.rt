@@ -14,12 +14,10 @@ const TEXT: usize = 4096;
 fn too_long(size: usize, lengths: &[u8]) -> bool
     ensures { result ≡ too_long size (lengths_in lengths.now) }
 {
-    let n = lengths.len() / 8 * 2;
     let mut left = size;
-    let mut k = 0;
-    while k < n {
-        let name = places::length(lengths, k);
-        let text = places::length(lengths, k + 1);
+    for i in 0..lengths.len() / 8 {
+        let name = places::length(lengths, i * 2);
+        let text = places::length(lengths, i * 2 + 1);
         if TEXT < text {
             return true;
         }
@@ -27,7 +25,6 @@ fn too_long(size: usize, lengths: &[u8]) -> bool
             return true;
         }
         left -= name + text;
-        k += 2;
     }
     false
 }
@@ -38,12 +35,10 @@ fn is_again(source: &[u8], bounds: [usize; BOUNDS], i: usize, n: usize) -> bool
     ensures { result ≡ is_among (definition_at source.now bounds i).name (names_from source.now bounds (i + 1) n) }
 {
     let name = places::name(source, bounds, i);
-    let mut j = i + 1;
-    while j < n {
+    for j in i + 1..n {
         if text::same(name, places::name(source, bounds, j)) {
             return true;
         }
-        j += 1;
     }
     false
 }
@@ -53,12 +48,10 @@ fn name_twice(source: &[u8], bounds: [usize; BOUNDS], n: usize) -> bool
     requires { Inside source.now bounds n }
     ensures { result ≡ name_twice (given source.now bounds n) }
 {
-    let mut i = 0;
-    while i < n {
+    for i in 0..n {
         if is_again(source, bounds, i, n) {
             return true;
         }
-        i += 1;
     }
     false
 }

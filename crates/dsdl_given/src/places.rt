@@ -26,11 +26,9 @@ pub fn bounds(lengths: &[u8], n: usize) -> [usize; BOUNDS]
 {
     let mut ends = [0usize; BOUNDS];
     let mut at = 0;
-    let mut k = 0;
-    while k < n * 2 {
+    for k in 0..n * 2 {
         at += length(lengths, k);
-        k += 1;
-        ends[k] = at;
+        ends[k + 1] = at;
     }
     ends
 }

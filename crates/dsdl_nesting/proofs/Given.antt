@@ -1,5 +1,5 @@
 -- Laws of values by name, and of 41.
-use mathlib.Core.Path.{◌≡◌, refl, ap₂, ◌∙◌}
+use mathlib.Core.Path.{◌≡◌, refl, sym, ap₂, ◌∙◌}
 use mathlib.Core.Bool.{Bool, true, false, not, cond, ◌&&◌, ◌||◌}
 use mathlib.Core.List.{List, [], ◌∷◌, map}
 use Prim.Native.Nat.{ℕ, zero, suc, ◌+◌, ◌≤◌, ◌<◌}
@@ -8,6 +8,7 @@ use native.Mathlib.Omega.{arith}
 use lib.Dec.{eqb}
 use borrow.Author.Tests.{eqb-true}
 use lib.ListN.{get_or}
+use Rattle.std.proofs.lemmas.Bool.{true≢false, and_parts, or_parts}
 use Rattle.bits.specs.Tabulate.{tabulate, every}
 use Rattle.dsdl_text.specs.Text.{same}
 use Rattle.dsdl.specs.Definition.{is_among}
@@ -18,22 +19,6 @@ use Rattle.dsdl_nesting.specs.inside.Kept.{index_of, Kept}
 abbrev names : List Definition → List (List ℕ)
 names ds = map (λ (d : Definition). d.name) ds
 
-or_left : (a b : Bool) → a || b ≡ false → a ≡ false
-or_left true b e = e
-or_left false b e = refl
-
-or_right : (a b : Bool) → a || b ≡ false → b ≡ false
-or_right true b e = let z : ◌≡◌ {A = ℕ} 0 1 = cc in absurd (omega arith)
-or_right false b e = e
-
-pub and_left : (a b : Bool) → a && b ≡ true → a ≡ true
-and_left true b e = refl
-and_left false b e = e
-
-pub and_right : (a b : Bool) → a && b ≡ true → b ≡ true
-and_right true b e = e
-and_right false b e = let z : ◌≡◌ {A = ℕ} 0 1 = cc in absurd (omega arith)
-
 or-none : (a : Bool) → a ≡ (true && a) || false
 or-none true = refl
 or-none false = refl
@@ -41,19 +26,20 @@ or-none false = refl
 same_true : (a b : List ℕ) → same a b ≡ true → a ≡ b
 unfolding same
 same_true [] [] e = refl
-same_true [] (y ∷ ys) e = let z : ◌≡◌ {A = ℕ} 0 1 = cc in absurd (omega arith)
-same_true (x ∷ xs) [] e = let z : ◌≡◌ {A = ℕ} 0 1 = cc in absurd (omega arith)
+same_true [] (y ∷ ys) e = absurd (true≢false (sym e))
+same_true (x ∷ xs) [] e = absurd (true≢false (sym e))
 same_true (x ∷ xs) (y ∷ ys) e =
-    ap₂ (λ (c : ℕ) (cs : List ℕ). c ∷ cs) (eqb-true x y (and_left (eqb x y) (same xs ys) e)) (same_true xs ys (and_right (eqb x y) (same xs ys) e))
+    let p = and_parts (eqb x y) (same xs ys) e in
+    ap₂ (λ (c : ℕ) (cs : List ℕ). c ∷ cs) (eqb-true x y p.0) (same_true xs ys p.1)
 
 -- a name that no definition has is not given
 unnamed : (ds : List Definition) (x : List ℕ) → is_among x (names ds) ≡ false → is_given ds x ≡ false
 unfolding is_among is_given
 unnamed [] x e = refl
-unnamed (d ∷ ds) x e = rw (or_left (same x d.name) (is_among x (names ds)) e, unnamed ds x (or_right (same x d.name) (is_among x (names ds)) e))
+unnamed (d ∷ ds) x e = let p = or_parts (same x d.name) (is_among x (names ds)) e in rw (p.0, unnamed ds x p.1)
 
 pub given-named : (ds : List Definition) (x : List ℕ) → is_given ds x ≡ true → is_among x (names ds) ≡ false → ⊥
-given-named ds x g e = let u = unnamed ds x e in let z : ◌≡◌ {A = ℕ} 0 1 = cc in omega arith
+given-named ds x g e = true≢false (sym g ∙ unnamed ds x e)
 
 -- ── a list by its index ──
 
@@ -104,7 +90,7 @@ module _ (vs : List Bool) (d : ℕ → Definition) (x : List ℕ) where
       → name_twice (tabulate d j m) ≡ false → get_or vs (j + index_of (tabulate d j m) x) false ≡ is_given (tabulate d j m) x
   unfolding tabulate index_of is_given name_twice
   look-given zero j at other t = other
-  look-given (suc m) j at other t = go (same x (d j).name) refl (look-given m (suc j) (λ i l h. at i (omega arith) (omega arith)) (rw next at other) (or_right (is_among (d j).name (names (tabulate d (suc j) m))) (name_twice (tabulate d (suc j) m)) t)) where
+  look-given (suc m) j at other t = go (same x (d j).name) refl (look-given m (suc j) (λ i l h. at i (omega arith) (omega arith)) (rw next at other) (or_parts (is_among (d j).name (names (tabulate d (suc j) m))) (name_twice (tabulate d (suc j) m)) t).1) where
     next : j + suc m ≡ suc j + m
     next = omega arith
 
@@ -113,7 +99,7 @@ module _ (vs : List Bool) (d : ℕ → Definition) (x : List ℕ) where
         → get_or vs (j + cond b 0 (suc (index_of (tabulate d (suc j) m) x))) false ≡ (b && not (is_service_of (d j))) || is_given (tabulate d (suc j) m) x
     go true e ih =
         let q : j + 0 ≡ j = omega arith in
-        let u : is_given (tabulate d (suc j) m) x ≡ false = unnamed (tabulate d (suc j) m) x (rw (same_true x (d j).name e) (or_left (is_among (d j).name (names (tabulate d (suc j) m))) (name_twice (tabulate d (suc j) m)) t)) in
+        let u : is_given (tabulate d (suc j) m) x ≡ false = unnamed (tabulate d (suc j) m) x (rw (same_true x (d j).name e) (or_parts (is_among (d j).name (names (tabulate d (suc j) m))) (name_twice (tabulate d (suc j) m)) t).0) in
         rw (q, u) (at j (omega arith) (omega arith) ∙ or-none (not (is_service_of (d j))))
     go false e ih =
         let q : j + suc (index_of (tabulate d (suc j) m) x) ≡ suc j + index_of (tabulate d (suc j) m) x = omega arith in

@@ -4,6 +4,7 @@ use mathlib.Core.Bool.{Bool, true, false, not, cond, ◌||◌}
 use mathlib.Core.List.{List, [], ◌∷◌}
 use Prim.Native.Nat.{ℕ, zero, suc, ◌+◌, ◌*◌, ◌<◌}
 use native.Mathlib.Omega.{arith}
+use Rattle.std.proofs.lemmas.Bool.{true≢false, and_parts}
 use lib.ListN.{get_or, replicate, length-replicate, get_or-replicate}
 use Rattle.bits.proofs.Every.{every-at}
 use Rattle.bits.proofs.Tabulate.{length-tabulate}
@@ -19,7 +20,7 @@ use Rattle.dsdl_nesting.specs.Signature.{extended_by, signature_within, signatur
 use Rattle.dsdl_nesting.specs.inside.Kept.{value_of, Kept}
 use Rattle.dsdl_nesting.specs.inside.Sets.{has_index, row_holds}
 use Rattle.dsdl_nesting.proofs.Rows.{by_row}
-use Rattle.dsdl_nesting.proofs.Given.{every-same, every-definition, every-name, look_up, given-at, given-named, and_left, and_right}
+use Rattle.dsdl_nesting.proofs.Given.{every-same, every-definition, every-name, look_up, given-at, given-named}
 
 -- level 0: one value for all
 pub level-0 : {A : Type 0} (z v : A) (f : ℕ → A) (n : ℕ) → n < 9 → ((i : ℕ) → v ≡ f i) → Kept z f v n n (replicate 9 v)
@@ -49,12 +50,13 @@ extended-same : (f g : List ℕ → ℕ) (p : List ℕ → Bool) → ((x : List 
 unfolding extended_by every_name
 extended-same f g p e [] a t = refl
 extended-same f g p e (x ∷ xs) a t =
-    rw (e x (and_left (p x) (every_name p xs) t)) (extended-same f g p e xs (extended a (g x)) (and_right (p x) (every_name p xs) t))
+    let q = and_parts (p x) (every_name p xs) t in
+    rw (e x q.0) (extended-same f g p e xs (extended a (g x)) q.1)
 
 -- the signature is the same at every level that the chains fit
 stays : (k : ℕ) (ds : List Definition) (e : Definition) → within k ds e ≡ true → signature_within k ds e ≡ signature_within (suc k) ds e
 unfolding within signature_within
-stays zero ds e t = let z : ◌≡◌ {A = ℕ} 0 1 = cc in absurd (omega arith)
+stays zero ds e t = absurd (true≢false (sym t))
 stays (suc k) ds e t =
     extended-same (λ (x : List ℕ). signature_within k ds (find ds x)) (λ (x : List ℕ). signature_within (suc k) ds (find ds x)) (λ (x : List ℕ). within k ds (find ds x))
     (λ x q. stays k ds (find ds x) q) (nested_of e) (hash_from 0 (form e)) t

@@ -1,6 +1,6 @@
 -- Laws of the full names of nested types.
 use mathlib.Core.Path.{◌≡◌, refl, sym, ap, ◌∙◌}
-use mathlib.Core.Bool.{Bool, true, false, ◌&&◌}
+use mathlib.Core.Bool.{Bool, true, false, ◌&&◌, and_assoc}
 use mathlib.Core.List.{List, [], ◌∷◌, ◌++◌}
 use Prim.Native.Nat.{ℕ, ◌≤◌, ◌<◌}
 use native.Mathlib.Omega.{arith}
@@ -10,16 +10,12 @@ use Rattle.dsdl_text.proofs.Texts.{unlike}
 use Rattle.dsdl_text.specs.Text.{same}
 use Rattle.dsdl_text.specs.Names.{has_dot, full_name}
 
-pub and_assoc : (a b c : Bool) → a && (b && c) ≡ (a && b) && c
-and_assoc true b c = refl
-and_assoc false b c = refl
-
 same-append : (a b c : List ℕ) → length a ≤ length c → same (a ++ b) c ≡ same a (take (length a) c) && same b (drop (length a) c)
 unfolding same
 same-append [] b c h = refl
 same-append (x ∷ xs) b [] h = absurd (omega arith)
 same-append (x ∷ xs) b (y ∷ ys) h =
-    rw (same-append xs b ys (omega arith)) (and_assoc (eqb x y) (same xs (take (length xs) ys)) (same b (drop (length xs) ys)))
+    rw (same-append xs b ys (omega arith)) (sym (and_assoc (eqb x y) (same xs (take (length xs) ys)) (same b (drop (length xs) ys))))
 
 module _ (space base name : List ℕ) where
   pub full : (r : Bool) → has_dot base ≡ true → r ≡ same base name → r ≡ same (full_name space base) name

@@ -1,6 +1,6 @@
 -- Laws of the rows of nested types.
 use mathlib.Core.Path.{◌≡◌, refl, sym, ap, ◌∙◌}
-use mathlib.Core.Bool.{Bool, true, false, not, cond, or-false, ◌&&◌, ◌||◌}
+use mathlib.Core.Bool.{Bool, true, false, not, cond, or-false, or-true, ◌&&◌, ◌||◌}
 use mathlib.Core.List.{List, [], ◌∷◌}
 use Prim.Native.Nat.{ℕ, suc, ◌+◌, ◌*◌, ◌≤◌, ◌<◌}
 use native.Mathlib.Omega.{arith}
@@ -28,10 +28,6 @@ index-le (d ∷ ds) x = go (same x d.name) (index-le ds x) where
 
 -- ── marks set in a row ──
 
-or-true : (a b : Bool) → true || b ≡ a || (true || b)
-or-true true b = refl
-or-true false b = refl
-
 module _ (ds : List Definition) (few : length ds < 9) (i : ℕ) where
   length_marked : (s : List Bool) (xs : List (List ℕ)) → length (marked_by (place_in i ds) s xs) ≡ length s
   unfolding marked_by
@@ -50,7 +46,7 @@ module _ (ds : List Definition) (few : length ds < 9) (i : ℕ) where
             let p : i * 9 + j ≡ place_in i ds x = omega (arith, eqb-true (index_of ds x) j e) in
             ap (λ (k : ℕ). get_or (set s (place_in i ds x) true) k false || has_index ds j xs) p
             ∙ (ap (λ (b : Bool). b || has_index ds j xs) (get_or-set_same s (place_in i ds x) true false (omega (arith, index-le ds x)))
-            ∙ or-true (get_or s (i * 9 + j) false) (has_index ds j xs))
+            ∙ sym (or-true (get_or s (i * 9 + j) false)))
         go false e =
             ap (λ (b : Bool). b || has_index ds j xs) (get_or-set_other s (place_in i ds x) (i * 9 + j) true false (λ q. eqb-false (index_of ds x) j e (omega arith)))
 

@@ -1,6 +1,6 @@
 -- Laws of the nested types of a text, line by line. What is worked out over them goes from value to value, as `extended_by` and `marked_by` do.
 use mathlib.Core.Path.{◌≡◌, refl, sym, ◌∙◌}
-use mathlib.Core.Bool.{Bool, true, false, cond}
+use mathlib.Core.Bool.{Bool, true}
 use mathlib.Core.List.{List, [], ◌∷◌, ◌++◌, map}
 use Prim.Native.Nat.{ℕ, ◌-◌, ◌≤◌, ◌<◌}
 use native.Mathlib.Omega.{arith}
@@ -44,15 +44,6 @@ marked-goes f = record { none = λ s. refl; join = marked-join f }
 pub nested_same : (name x text y : List ℕ) (k : ℕ) → k ≡ last_dot 0 0 name → name ≡ x → text ≡ y
     → nested_types (take (k - 0) name) (lines_of text) ≡ nested_types (space_of x) (lines_of y)
 nested_same name x text y k e p q = let z : k - 0 ≡ k = omega arith in rw (z, e, p, q)
-
--- ── one line, which has a nested type or none ──
-
-module _ {A : Type 0} (f : A → List (List ℕ) → A) (g : Goes f) (xs : List (List ℕ)) (b : Bool) (x : List ℕ) (e : xs ≡ cond b (x ∷ []) []) (a : A) where
-  pub without : b ≡ false → a ≡ f a xs
-  without q = rw (e, q) (sym (g.none a))
-
-  pub with-one : (r : A) → b ≡ true → r ≡ f a (x ∷ []) → r ≡ f a xs
-  with-one r q h = rw (e, q) h
 
 -- ── line by line ──
 

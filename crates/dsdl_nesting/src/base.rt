@@ -1,9 +1,9 @@
 // The nested type of a line (RULES 17.10), by its place in the line.
-ghost use Rattle.std.specs.Prelude.{◌≡◌, List, ℕ, ◌≤◌, length};
+ghost use Rattle.std.specs.Prelude.{◌≡◌, List, ℕ, ◌≤◌, length, IfSome};
 ghost use Rattle.dsdl_line.specs.Line.{line_of};
 ghost use Rattle.dsdl_line.specs.inside.Places.{word_of};
 ghost use Rattle.dsdl.specs.Form.{nested_in};
-ghost use Rattle.dsdl_nesting.specs.inside.Bases.{nested_at, nested_by, no_base};
+ghost use Rattle.dsdl_nesting.specs.inside.Bases.{nested_at, nested_by};
 
 use dsdl_line::shape;
 use dsdl_line::shape::Places;
@@ -11,14 +11,6 @@ use dsdl_text::class;
 use dsdl_text::class::Class;
 use dsdl_text::word::Word;
 use dsdl_type::base as type_base;
-
-// Whether a line has a nested type, and where the text is that names it.
-#[derive(Drop)]
-pub struct Base {
-    pub found: bool,
-    pub at: usize,
-    pub end: usize,
-}
 
 // The word w as far as the line reaches.
 fn within(line: &[u8], w: Word) -> Word
@@ -39,43 +31,25 @@ fn within(line: &[u8], w: Word) -> Word
     w
 }
 
-fn none() -> Base
-    ensures { result ≡ no_base }
-{
-    Base {
-        found: false,
-        at: 0,
-        end: 0,
-    }
-}
-
 // The nested type of a field with the type word w.
-fn of_type(line: &[u8], w: Word) -> Base
-    ensures { ((space : List ℕ) → nested_by space (word_of line.now w) ≡ nested_at space line.now result) × ((result.at ≤ result.end) × (result.end ≤ length line.now)) }
+fn of_type(line: &[u8], w: Word) -> Option<Word>
+    ensures { ((space : List ℕ) → nested_by space (word_of line.now w) ≡ nested_at space line.now result) × IfSome result (λ b. (b.at ≤ b.end) × (b.end ≤ length line.now)) }
 {
     let v = within(line, w);
-    let at = v.at;
-    let stop = v.end;
-    let end = at + class::run(Class::Unbracketed, &line[at..stop]);
-    Base {
-        found: type_base::is_nested(type_base::read(&line[at..end])),
-        at: at,
-        end: end,
+    let end = v.at + class::run(Class::Unbracketed, &line[v.at..v.end]);
+    if type_base::is_nested(type_base::read(&line[v.at..end])) {
+        Some(Word { at: v.at, end })
+    } else {
+        None
     }
 }
 
-// Internal. The nested type of a line.
-pub fn read(line: &[u8]) -> Base
-    ensures { ((space : List ℕ) → nested_in space (line_of line.now) ≡ nested_at space line.now result) × ((result.at ≤ result.end) × (result.end ≤ length line.now)) }
+// Internal. Where the text is in a line that names its nested type.
+pub fn read(line: &[u8]) -> Option<Word>
+    ensures { ((space : List ℕ) → nested_in space (line_of line.now) ≡ nested_at space line.now result) × IfSome result (λ b. (b.at ≤ b.end) × (b.end ≤ length line.now)) }
 {
-    let p = shape::read(line);
-    match p {
-        Places::Nothing => none(),
-        Places::Marker => none(),
-        Places::Union => none(),
-        Places::Padding(_) => none(),
+    match shape::read(line) {
         Places::Field(_, w, _) => of_type(line, w),
-        Places::Constant(_, _, _) => none(),
-        Places::Wrong => none(),
+        _ => None,
     }
 }

@@ -16,12 +16,10 @@ pub fn find(source: &[u8], bounds: [usize; BOUNDS], n: usize, space: &[u8], base
     requires { Inside source.now bounds n }
     ensures { (result ≡ index_of (given source.now bounds n) (full_name space.now base.now)) × (result ≤ n) }
 {
-    let mut i = 0;
-    while i < n {
+    for i in 0..n {
         if named::is(space, base, places::name(source, bounds, i)) {
             return i;
         }
-        i += 1;
     }
-    i
+    n
 }

@@ -17,10 +17,7 @@ use dsdl_given::places::BOUNDS;
 fn holds(nested: bool, marked: bool) -> bool
     ensures { result ≡ not nested || marked }
 {
-    if nested {
-        return marked;
-    }
-    true
+    !nested || marked
 }
 
 // What row i marks is marked.
@@ -28,12 +25,10 @@ fn row(sets: [bool; SETS], i: usize, marks: [bool; PLACES]) -> bool
     requires { i < definition_max }
     ensures { result ≡ row_holds sets marks i }
 {
-    let mut j = 0;
-    while j < PLACES {
+    for j in 0..PLACES {
         if !holds(sets[i * PLACES + j], marks[j]) {
             return false;
         }
-        j += 1;
     }
     true
 }
@@ -44,10 +39,8 @@ pub fn next(sets: [bool; SETS], n: usize, marks: [bool; PLACES]) -> [bool; PLACE
     ensures { Kept false (row_holds sets marks) true n n result }
 {
     let mut r = [true; PLACES];
-    let mut i = 0;
-    while i < n {
+    for i in 0..n {
         r[i] = row(sets, i, marks);
-        i += 1;
     }
     r
 }
@@ -57,10 +50,8 @@ fn messages(source: &[u8], bounds: [usize; BOUNDS], n: usize) -> [bool; PLACES]
     ensures { Kept false (λ (i : ℕ). not (is_service_of (definition_at source.now bounds i))) false n n result }
 {
     let mut r = [false; PLACES];
-    let mut i = 0;
-    while i < n {
+    for i in 0..n {
         r[i] = !service::is_service(places::text(source, bounds, i));
-        i += 1;
     }
     r
 }
@@ -83,12 +74,10 @@ fn all(marks: [bool; PLACES], n: usize) -> bool
     requires { n < 9 }
     ensures { result ≡ every (λ (i : ℕ). get_or marks i false) 0 n }
 {
-    let mut i = 0;
-    while i < n {
+    for i in 0..n {
         if !marks[i] {
             return false;
         }
-        i += 1;
     }
     true
 }

@@ -28,15 +28,10 @@ fn in_line(
     requires { (i < n) × Inside source.now bounds n }
     ensures { sets.new ≡ marked_by (place_in i (given source.now bounds n)) sets.old (nested_in space.now (line_of line.now)) }
 {
-    let b = base::read(line);
-    let found = b.found;
-    let at = b.at;
-    let end = b.end;
-    if !found {
-        return;
+    if let Some(b) = base::read(line) {
+        let j = index::find(source, bounds, n, space, &line[b.at..b.end]);
+        sets[i * PLACES + j] = true;
     }
-    let j = index::find(source, bounds, n, space, &line[at..end]);
-    sets[i * PLACES + j] = true;
 }
 
 fn in_text(
@@ -52,6 +47,7 @@ fn in_text(
     ensures { sets.new ≡ marked_by (place_in i (given source.now bounds n)) sets.old (nested_types space.now (lines_of text.now)) }
 {
     let mut at = 0;
+    // A loop: where a line begins depends on where the one before it ends.
     loop {
         let end = line::end(text, at);
         in_line(source, bounds, n, i, space, &text[at..end], sets);
@@ -86,10 +82,8 @@ pub fn all(source: &[u8], bounds: [usize; BOUNDS], n: usize) -> [bool; SETS]
     ensures { Nested source.now bounds n n result }
 {
     let mut sets = [false; SETS];
-    let mut i = 0;
-    while i < n {
+    for i in 0..n {
         of(source, bounds, n, i, &mut sets);
-        i += 1;
     }
     sets
 }

@@ -28,15 +28,13 @@ fn in_line(
     requires { Inside source.now bounds n }
     ensures { result ≡ extended_by (value_of 0 values (given source.now bounds n)) h (nested_in space.now (line_of line.now)) }
 {
-    let b = base::read(line);
-    let found = b.found;
-    let at = b.at;
-    let end = b.end;
-    if !found {
-        return h;
+    match base::read(line) {
+        None => h,
+        Some(b) => {
+            let i = index::find(source, bounds, n, space, &line[b.at..b.end]);
+            crc64::extend(h, values[i])
+        }
     }
-    let i = index::find(source, bounds, n, space, &line[at..end]);
-    crc64::extend(h, values[i])
 }
 
 fn in_text(
@@ -53,6 +51,7 @@ fn in_text(
 {
     let mut h = hash;
     let mut at = 0;
+    // A loop: where a line begins depends on where the one before it ends.
     loop {
         let end = line::end(text, at);
         h = in_line(source, bounds, n, space, &text[at..end], values, h);
@@ -120,10 +119,8 @@ fn next(
     ensures { Kept 0 (λ (i : ℕ). cond (get_or done i false) (get_or values i 0) (extended_by (value_of 0 values (given source.now bounds n)) (get_or hashes i 0) (nested_of (definition_at source.now bounds i)))) 0 n n result }
 {
     let mut r = [0u64; PLACES];
-    let mut i = 0;
-    while i < n {
+    for i in 0..n {
         r[i] = value(source, bounds, n, i, values, hashes[i], done[i]);
-        i += 1;
     }
     r
 }

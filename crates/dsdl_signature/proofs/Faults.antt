@@ -50,8 +50,8 @@ module _ (f : ℕ → Definition) (i n : ℕ) where
 
 short-name : (a b : Bool) (n : ℕ) → a && (b && leb n name_max) ≡ true → n ≤ name_max
 short-name true true n e = leb-true n name_max e
-short-name true false n e = let z : ◌≡◌ {A = ℕ} 0 1 = cc in absurd (omega arith)
-short-name false b n e = let z : ◌≡◌ {A = ℕ} 0 1 = cc in absurd (omega arith)
+short-name true false n e = cc
+short-name false b n e = cc
 
 good-name : (name text : List ℕ) → good ≡ verdict name text → length name ≤ name_max
 good-name name text e = go (is_full_name name) refl where
@@ -59,8 +59,7 @@ good-name name text e = go (is_full_name name) refl where
   go true q = short-name (is_dotted name) (has_dot name) (length name) q
   go false q =
       let w : good ≡ faulty 0 = e ∙ sym (bad-name name text q) in
-      let z : ◌≡◌ {A = ℕ} 0 1 = cc in
-      absurd (omega arith)
+      cc
 
 named-from : (f : ℕ → Definition) (n m i : ℕ) → i + m ≡ n → fault_from (i + 1) (tabulate f i (n - i)) ≡ none → (j : ℕ) → i ≤ j → j < n → length (f j).name ≤ name_max
 named-from f n zero i e h j a b = absurd (omega arith)
@@ -77,8 +76,7 @@ named-from f n (suc m) i e h j a b = go (λ t. named-from f n m (i + 1) (omega a
   go later good q = here q (ltb i j) refl (λ l. later (sym (passes f i n inside q) ∙ h) l b)
   go later (faulty line) q =
       let w : ◌≡◌ {A = Option (ℕ × ℕ)} (some (i + 1, line)) none = stops f i n line inside q ∙ h in
-      let z : ◌≡◌ {A = ℕ} 0 1 = cc in
-      absurd (omega arith)
+      cc
 
 -- the names of definitions without a fault are not too long
 pub named : (source bounds : List ℕ) (n : ℕ) → fault_from 1 (given source bounds n) ≡ none → Named source bounds n

@@ -7,6 +7,7 @@ use Prim.Native.Nat.{ℕ, zero, suc, ◌+◌, ◌-◌, ◌/◌, ◌≤◌, ◌<�
 use native.Mathlib.Omega.{arith}
 use borrow.Author.Tests.{ltb-false}
 use lib.Dec.{ltb, eqb}
+use Rattle.std.proofs.lemmas.Bool.{or_parts}
 use lib.ListN.{length, take, drop, length-map}
 use Rattle.dsdl_text.specs.Class.{is_in}
 use Rattle.dsdl_text.specs.declared.class.Class.TheVariants.{Inline}
@@ -18,9 +19,9 @@ use Rattle.dsdl.specs.Definition.{text_max, Part, empty_part, is_among, with_lin
 use Rattle.dsdl.specs.Definition as dsdl
 use Rattle.dsdl_given.specs.Given.{Definition, definitions, definition_max, name_twice, too_long, lengths_in, oversized, fault_from}
 use Rattle.dsdl_nesting.specs.Nesting.{all_given, all_within}
-use Rattle.dsdl_signature.specs.declared.answer.Answer.{Answer}
-use Rattle.dsdl_signature.specs.declared.answer.Answer.TheVariants.{Done, Oversized, Faulty, Missing, Deep, Short}
-use Rattle.dsdl_signature.specs.Call.{forms, record_size, ordered, or_faulty, answer_of, result_of, signatures}
+use Rattle.std.specs.Prelude.{Ok, Err}
+use Rattle.dsdl_signature.specs.declared.answer.Refusal.TheVariants.{Oversized, Missing, Deep, Short}
+use Rattle.dsdl_signature.specs.Call.{Answer, forms, record_size, ordered, or_faulty, answer_of, result_of, signatures}
 use Rattle.dsdl_signature.specs.Laws.{Range, AnswersInRange}
 
 -- ── a line at fault ──
@@ -30,11 +31,11 @@ module _ (n : ℕ) where
   same-union p q e h = let f : p.union ≡ q.union = cc in omega arith
 
   picked : (b : Bool) (p q : Part) → cond b none (some p) ≡ some q → p.union ≤ n → q.union ≤ n
-  picked true p q e h = let z : ◌≡◌ {A = ℕ} 0 1 = cc in absurd (omega arith)
+  picked true p q e h = cc
   picked false p q e h = same-union p q e h
 
   nowhere : (q : Part) → none ≡ some q → q.union ≤ n
-  nowhere q e = let z : ◌≡◌ {A = ℕ} 0 1 = cc in absurd (omega arith)
+  nowhere q e = cc
 
   -- the line of a union directive is one that was read
   after_line : (l : Line) (p q : Part) → with_line n l p ≡ some q → p.union ≤ n → q.union ≤ n
@@ -95,7 +96,7 @@ fault-le t = omega (arith, fault-lt (lines_of t) false 1 empty_part (omega arith
 
 judged-le : (a b : Bool) (n line : ℕ) → faulty line ≡ cond a (cond b (faulty n) good) (faulty 0) → line ≤ n
 judged-le true true n line e = let f : line ≡ n = cc in omega arith
-judged-le true false n line e = let z : ◌≡◌ {A = ℕ} 0 1 = cc in absurd (omega arith)
+judged-le true false n line e = cc
 judged-le false b n line e = let f : line ≡ 0 = cc in omega arith
 
 verdict-le : (name text : List ℕ) (line : ℕ) → faulty line ≡ verdict name text → line ≤ suc (length text)
@@ -108,14 +109,6 @@ abbrev AllShort : List Definition → Type 0
 AllShort [] = Unit {0}
 AllShort (d ∷ ds) = (length d.text ≤ text_max) × AllShort ds
 
-or_left : (a b : Bool) → a || b ≡ false → a ≡ false
-or_left false b e = refl
-or_left true b e = e
-
-or_right : (a b : Bool) → a || b ≡ false → b ≡ false
-or_right false b e = e
-or_right true b e = let z : ◌≡◌ {A = ℕ} 0 1 = cc in absurd (omega arith)
-
 cut-le : (n : ℕ) (l : List ℕ) → length (take n l) ≤ n
 cut-le zero l = omega arith
 cut-le (suc n) [] = omega arith
@@ -126,9 +119,9 @@ unfolding too_long definitions
 all_short [] source left e = tt
 all_short (n ∷ []) source left e = tt
 all_short (n ∷ (t ∷ ls)) source left e =
-    let a = or_left (ltb text_max t) (ltb left (n + t) || too_long (left - (n + t)) ls) e in
-    let b = or_right (ltb left (n + t)) (too_long (left - (n + t)) ls) (or_right (ltb text_max t) (ltb left (n + t) || too_long (left - (n + t)) ls) e) in
-    (omega (arith, ltb-false text_max t a, cut-le t (drop n source)), all_short ls (drop (n + t) source) (left - (n + t)) b)
+    let p = or_parts (ltb text_max t) (ltb left (n + t) || too_long (left - (n + t)) ls) e in
+    let q = or_parts (ltb left (n + t)) (too_long (left - (n + t)) ls) p.1 in
+    (omega (arith, ltb-false text_max t p.0, cut-le t (drop n source)), all_short ls (drop (n + t) source) (left - (n + t)) q.1)
 
 pub record Within (i n line : ℕ) : Type 0 where
   pub definition : i < n
@@ -136,7 +129,7 @@ pub record Within (i n line : ℕ) : Type 0 where
 
 fault-within : (ds : List Definition) (k i line : ℕ) → AllShort ds → fault_from k ds ≡ some (i, line) → Within i (k + length ds) line
 unfolding fault_from
-fault-within [] k i line s e = let z : ◌≡◌ {A = ℕ} 0 1 = cc in absurd (omega arith)
+fault-within [] k i line s e = cc
 fault-within (d ∷ ds) k i line s e = go (λ f. fault-within ds (suc k) i line s.1 f) (verdict d.name d.text) refl e where
   go : (fault_from (suc k) ds ≡ some (i, line) → Within i (suc k + length ds) line) → (v : Verdict) → v ≡ verdict d.name d.text
       → ◌≡◌ {A = Option (ℕ × ℕ)} (elim v [ good ↦ fault_from (suc k) ds | faulty l ↦ some (k, l) ]) (some (i, line)) → Within i (k + suc (length ds)) line
@@ -150,14 +143,10 @@ fault-within (d ∷ ds) k i line s e = go (λ f. fault-within ds (suc k) i line 
 -- ── an answer ──
 
 kept : (a : Answer) (ds : List Definition) (out records : List ℕ) → (result_of a ds out records).answer ≡ a
-kept Done ds out records = refl
-kept Oversized ds out records = refl
-kept (Faulty d l) ds out records = refl
-kept Missing ds out records = refl
-kept Deep ds out records = refl
-kept Short ds out records = refl
+kept (Ok done) ds out records = refl
+kept (Err e) ds out records = refl
 
-small : (g w s : Bool) → Range (cond (not g) Missing (cond (not w) Deep (cond s Short Done)))
+small : (g w s : Bool) → Range (cond (not g) (Err Missing) (cond (not w) (Err Deep) (cond s (Err Short) (Ok tt))))
 small true true true = record { number = omega arith; definition = omega arith; line = omega arith }
 small true true false = record { number = omega arith; definition = omega arith; line = omega arith }
 small true false s = record { number = omega arith; definition = omega arith; line = omega arith }
@@ -174,12 +163,13 @@ module _ (source ls : List ℕ) (room places : ℕ) where
   fine : oversized source ls ≡ false → (i line : ℕ) → fault_from 1 ds ≡ some (i, line) → Within i (suc definition_max) line
   unfolding oversized
   fine q i line e =
-      let m = ltb-false definition_max (length ds) (or_left (ltb definition_max (length ds)) (too_long (length source) ls || name_twice ds) q) in
-      let t = or_left (too_long (length source) ls) (name_twice ds) (or_right (ltb definition_max (length ds)) (too_long (length source) ls || name_twice ds) q) in
-      let w = fault-within ds 1 i line (all_short ls source (length source) t) e in
+      let p = or_parts (ltb definition_max (length ds)) (too_long (length source) ls || name_twice ds) q in
+      let m = ltb-false definition_max (length ds) p.0 in
+      let t = or_parts (too_long (length source) ls) (name_twice ds) p.1 in
+      let w = fault-within ds 1 i line (all_short ls source (length source) t.0) e in
       record { definition = omega (arith, w.definition); short = w.short }
 
-  by_size : (b : Bool) → oversized source ls ≡ b → Range (cond b Oversized (or_faulty (fault_from 1 ds) (ordered ds room places)))
+  by_size : (b : Bool) → oversized source ls ≡ b → Range (cond b (Err Oversized) (or_faulty (fault_from 1 ds) (ordered ds room places)))
   by_size true q = record { number = omega arith; definition = omega arith; line = omega arith }
   by_size false q =
       faulty-range (fault_from 1 ds) (ordered ds room places) (fine q) (small (all_given ds) (all_within ds) (ltb room (length (forms ds)) || ltb places (length ds)))

@@ -1,10 +1,11 @@
 -- RULES 17.12: the call.
-use Rattle.std.specs.Prelude.{not, cond, ◌||◌, List, [], ◌∷◌, ◌++◌, ℕ, ◌/◌, ltb, length}
+use Rattle.std.specs.Prelude.{not, cond, Ok, Err, ◌||◌, List, [], ◌∷◌, ◌++◌, ℕ, ◌/◌, ltb, length}
 use Rattle.std.proofs.Math.Option.{Option, none, some}
 use Rattle.bits.specs.Little.{le_bytes}
 use Rattle.bits.specs.Part.{splice}
-use Rattle.dsdl_signature.specs.declared.answer.Answer.{Answer}
-use Rattle.dsdl_signature.specs.declared.answer.Answer.TheVariants.{Done, Oversized, Faulty, Missing, Deep, Short}
+use Rattle.std.specs.Prelude.{Result as Outcome}
+use Rattle.dsdl_signature.specs.declared.answer.Refusal.{Refusal}
+use Rattle.dsdl_signature.specs.declared.answer.Refusal.TheVariants.{Oversized, Faulty, Missing, Deep, Short}
 use Rattle.dsdl_given.specs.Given.{Definition, definitions, lengths_in, oversized, fault_from, form}
 use Rattle.dsdl_nesting.specs.Nesting.{all_given, all_within}
 use Rattle.dsdl_nesting.specs.Signature.{signature}
@@ -26,6 +27,10 @@ unfoldable pub records_of : List Definition → List Definition → List ℕ
 records_of all [] = []
 records_of all (d ∷ ds) = record_of (length (form d)) (signature all d) ++ records_of all ds
 
+-- done, or why not
+abbrev pub Answer : Type 0
+Answer = Outcome (Unit {0}) Refusal
+
 -- the answer, and both buffers after it
 pub record Result : Type 0 where
   pub answer : Answer
@@ -38,26 +43,26 @@ returned a out records = record { answer = a; out = out; records = records }
 -- 41, 42, 8 and 0, where the definitions are in the grammar; `room` bytes for forms, and `places` records
 abbrev pub ordered : List Definition → ℕ → ℕ → Answer
 ordered ds room places =
-    cond (not (all_given ds)) Missing (cond (not (all_within ds)) Deep
-    (cond (ltb room (length (forms ds)) || ltb places (length ds)) Short Done))
+    cond (not (all_given ds)) (Err Missing) (cond (not (all_within ds)) (Err Deep)
+    (cond (ltb room (length (forms ds)) || ltb places (length ds)) (Err Short) (Ok tt)))
+
+-- definition d is at fault at line l
+abbrev pub faulty : ℕ → ℕ → Answer
+faulty d l = Err (Faulty (record { definition = d; line = record { 0 = l } }))
 
 abbrev pub or_faulty : Option (ℕ × ℕ) → Answer → Answer
 or_faulty none a = a
-or_faulty (some f) a = Faulty f.0 f.1
+or_faulty (some f) a = faulty f.0 f.1
 
 abbrev pub answer_of : List ℕ → List ℕ → ℕ → ℕ → Answer
 answer_of source lengths room places =
-    cond (oversized source lengths) Oversized
+    cond (oversized source lengths) (Err Oversized)
     (or_faulty (fault_from 1 (definitions source lengths)) (ordered (definitions source lengths) room places))
 
 -- only success writes
 abbrev pub result_of : Answer → List Definition → List ℕ → List ℕ → Result
-result_of Done ds out records = returned Done (splice out 0 (forms ds)) (splice records 0 (records_of ds ds))
-result_of Oversized ds out records = returned Oversized out records
-result_of (Faulty d l) ds out records = returned (Faulty d l) out records
-result_of Missing ds out records = returned Missing out records
-result_of Deep ds out records = returned Deep out records
-result_of Short ds out records = returned Short out records
+result_of (Ok done) ds out records = returned (Ok done) (splice out 0 (forms ds)) (splice records 0 (records_of ds ds))
+result_of (Err e) ds out records = returned (Err e) out records
 
 -- of a source, and of lengths as bytes; records are bytes, too
 unfoldable pub signatures : List ℕ → List ℕ → List ℕ → List ℕ → Result
@@ -65,27 +70,36 @@ signatures source lengths out records =
     result_of (answer_of source (lengths_in lengths) (length out) (length records / record_size)) (definitions source (lengths_in lengths)) out records
 
 -- the number of an answer
+abbrev pub refusal_number : Refusal → ℕ
+refusal_number Oversized = 43
+refusal_number (Faulty f) = 40
+refusal_number Missing = 41
+refusal_number Deep = 42
+refusal_number Short = 8
+
 abbrev pub number_of : Answer → ℕ
-number_of Done = 0
-number_of Oversized = 43
-number_of (Faulty d l) = 40
-number_of Missing = 41
-number_of Deep = 42
-number_of Short = 8
+number_of (Ok done) = 0
+number_of (Err e) = refusal_number e
 
 -- with 40: the definition and its line; 0 with any other
+abbrev pub refused_definition : Refusal → ℕ
+refused_definition Oversized = 0
+refused_definition (Faulty f) = f.definition
+refused_definition Missing = 0
+refused_definition Deep = 0
+refused_definition Short = 0
+
 abbrev pub definition_in : Answer → ℕ
-definition_in Done = 0
-definition_in Oversized = 0
-definition_in (Faulty d l) = d
-definition_in Missing = 0
-definition_in Deep = 0
-definition_in Short = 0
+definition_in (Ok done) = 0
+definition_in (Err e) = refused_definition e
+
+abbrev pub refused_line : Refusal → ℕ
+refused_line Oversized = 0
+refused_line (Faulty f) = f.line.0
+refused_line Missing = 0
+refused_line Deep = 0
+refused_line Short = 0
 
 abbrev pub line_in : Answer → ℕ
-line_in Done = 0
-line_in Oversized = 0
-line_in (Faulty d l) = l
-line_in Missing = 0
-line_in Deep = 0
-line_in Short = 0
+line_in (Ok done) = 0
+line_in (Err e) = refused_line e

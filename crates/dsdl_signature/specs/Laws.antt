@@ -1,9 +1,8 @@
 -- RULES 13.3: every answer fits the word of the C entry. `laws.rt` has a function for it, whose contract it is.
 use Rattle.std.specs.Prelude.{List, ℕ, suc, ◌≤◌}
 use Rattle.dsdl_given.specs.Given.{definition_max}
-use Rattle.dsdl_signature.specs.declared.answer.Answer.{Answer}
 use Rattle.dsdl.specs.Definition.{text_max}
-use Rattle.dsdl_signature.specs.Call.{signatures, number_of, definition_in, line_in}
+use Rattle.dsdl_signature.specs.Call.{Answer, signatures, number_of, definition_in, line_in}
 
 pub record Range (a : Answer) : Type 0 where
   pub number : number_of a ≤ 43

@@ -1,14 +1,16 @@
 // What the call answers.
 ghost use Rattle.std.specs.Prelude.{◌≡◌};
-ghost use Rattle.dsdl_signature.specs.Call.{number_of, definition_in, line_in};
+ghost use Rattle.dsdl_signature.specs.Call.{refusal_number, refused_definition, refused_line};
 
-#[derive(Clone, Copy)]
-pub enum Answer {
-    Done,
+use super::fault::Fault;
+
+// Why a call gives no signatures.
+#[derive(Clone, Copy, Debug, PartialEq, Eq)]
+pub enum Refusal {
     // 43: more definitions than 8, or one that is too long, or a name twice.
     Oversized,
-    // 40: the definition at fault and its line, both from 1; line 0 for a bad name.
-    Faulty(u32, u32),
+    // 40: a definition is not in the grammar.
+    Faulty(Fault),
     // 41: a nested type that is not given, or is a service.
     Missing,
     // 42: nesting in a circle or too deep.
@@ -17,45 +19,38 @@ pub enum Answer {
     Short,
 }
 
-impl Answer {
+pub type Answer = Result<(), Refusal>;
+
+impl Refusal {
     pub fn number(self) -> u32
-        ensures { result ≡ number_of self }
+        ensures { result ≡ refusal_number self }
     {
         match self {
-            Answer::Done => 0,
-            Answer::Oversized => 43,
-            Answer::Faulty(_, _) => 40,
-            Answer::Missing => 41,
-            Answer::Deep => 42,
-            Answer::Short => 8,
+            Refusal::Oversized => 43,
+            Refusal::Faulty(_) => 40,
+            Refusal::Missing => 41,
+            Refusal::Deep => 42,
+            Refusal::Short => 8,
         }
     }
 
-    // The definition at fault; 0 if the answer is not 40.
+    // The definition at fault; 0 if the number is not 40.
     pub fn definition(self) -> u32
-        ensures { result ≡ definition_in self }
+        ensures { result ≡ refused_definition self }
     {
         match self {
-            Answer::Done => 0,
-            Answer::Oversized => 0,
-            Answer::Faulty(d, _) => d,
-            Answer::Missing => 0,
-            Answer::Deep => 0,
-            Answer::Short => 0,
+            Refusal::Faulty(fault) => fault.definition,
+            _ => 0,
         }
     }
 
-    // The line at fault; 0 if the answer is not 40.
+    // The line at fault; 0 if the number is not 40.
     pub fn line(self) -> u32
-        ensures { result ≡ line_in self }
+        ensures { result ≡ refused_line self }
     {
         match self {
-            Answer::Done => 0,
-            Answer::Oversized => 0,
-            Answer::Faulty(_, l) => l,
-            Answer::Missing => 0,
-            Answer::Deep => 0,
-            Answer::Short => 0,
+            Refusal::Faulty(fault) => fault.line.0,
+            _ => 0,
         }
     }
 }

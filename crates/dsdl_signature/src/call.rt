@@ -8,8 +8,7 @@ ghost use Rattle.dsdl_nesting.specs.Nesting.{all_given};
 ghost use Rattle.dsdl_signature.specs.Call.{forms as forms_of, records_of, record_size, returned, ordered as ordered_of, result_of, signatures as signatures_of};
 ghost use Rattle.dsdl_signature.specs.inside.Written.{Ends};
 
-use super::answer::Answer;
-use super::fault::Fault;
+use super::answer::{Answer, Refusal};
 use super::forms::ENDS;
 use super::records::RECORD;
 use super::{fault, forms, records};
@@ -48,20 +47,20 @@ fn ordered(
     ensures { returned result out.new records.new ≡ result_of (ordered_of (given source.now bounds n) (length out.old) (length records.old / record_size)) (given source.now bounds n) out.old records.old }
 {
     if !marks::all_given(source, bounds, n) {
-        return Answer::Missing;
+        return Err(Refusal::Missing);
     }
     if !marks::all_within(source, bounds, n) {
-        return Answer::Deep;
+        return Err(Refusal::Deep);
     }
     let ends = forms::ends(source, bounds, n);
     if out.len() < ends[n] {
-        return Answer::Short;
+        return Err(Refusal::Short);
     }
     if records.len() / RECORD < n {
-        return Answer::Short;
+        return Err(Refusal::Short);
     }
     write(source, bounds, n, ends, out, records);
-    Answer::Done
+    Ok(())
 }
 
 // Forms and signatures of type definitions. The source has the first name, the first text, the second name and so on; `lengths` has four
@@ -71,12 +70,12 @@ pub fn signatures(source: &[u8], lengths: &[u8], out: &mut [u8], records: &mut [
     ensures { returned result out.new records.new ≡ signatures_of source.now lengths.now out.old records.old }
 {
     if oversized::is_oversized(source, lengths) {
-        return Answer::Oversized;
+        return Err(Refusal::Oversized);
     }
     let n = lengths.len() / 8;
     let bounds = places::bounds(lengths, n);
-    match fault::first(source, bounds, n) {
-        Fault::At(i, line) => Answer::Faulty(i, line),
-        Fault::Nowhere => ordered(source, bounds, n, out, records),
+    if let Some(fault) = fault::first(source, bounds, n) {
+        return Err(Refusal::Faulty(fault));
     }
+    ordered(source, bounds, n, out, records)
 }

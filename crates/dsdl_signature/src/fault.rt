@@ -10,52 +10,46 @@ use dsdl_given::places;
 use dsdl_given::places::BOUNDS;
 use dsdl_text::name;
 
-// A definition is in the grammar, or its line at fault, 0 for a bad name.
-#[derive(Drop)]
-pub enum Verdict {
-    Good,
-    Faulty(u32),
+// A line at fault, counted from 1; 0 is the name.
+#[derive(Clone, Copy, Debug, PartialEq, Eq)]
+pub struct Line(pub u32);
+
+// A definition at fault, counted from 1, with its line.
+#[derive(Clone, Copy, Debug, PartialEq, Eq)]
+pub struct Fault {
+    pub definition: u32,
+    pub line: Line,
 }
 
-#[derive(Drop)]
-pub enum Fault {
-    Nowhere,
-    // The definition and its line.
-    At(u32, u32),
-}
-
-fn judge(name: &[u8], text: &[u8]) -> Verdict
+fn judge(name: &[u8], text: &[u8]) -> Result<(), Line>
     requires { length text.now ≤ text_max }
     ensures { told result ≡ verdict_of name.now text.now }
 {
     if !name::is_full_name(name) {
-        return Verdict::Faulty(0);
+        return Err(Line(0));
     }
     let n = fault::line(text);
     if 0 < n {
-        return Verdict::Faulty(n as u32);
+        return Err(Line(n as u32));
     }
-    Verdict::Good
+    Ok(())
 }
 
-// Internal. The first of n definitions at fault, counted from 1, with its line.
-pub fn first(source: &[u8], bounds: [usize; BOUNDS], n: usize) -> Fault
+// Internal. The first of n definitions at fault.
+pub fn first(source: &[u8], bounds: [usize; BOUNDS], n: usize) -> Option<Fault>
     requires { Inside source.now bounds n }
     ensures { placed result ≡ fault_from 1 (given source.now bounds n) }
 {
-    let mut i = 0;
-    while i < n {
-        match judge(
+    for i in 0..n {
+        if let Err(line) = judge(
             places::name(source, bounds, i),
             places::text(source, bounds, i),
         ) {
-            Verdict::Good => {
-                i += 1;
-            }
-            Verdict::Faulty(line) => {
-                return Fault::At(i as u32 + 1, line);
-            }
+            return Some(Fault {
+                definition: i as u32 + 1,
+                line,
+            });
         }
     }
-    Fault::Nowhere
+    None
 }

@@ -21,14 +21,12 @@ pub fn ends(source: &[u8], bounds: [usize; BOUNDS], n: usize) -> [usize; ENDS]
 {
     let mut ends = [0usize; ENDS];
     let mut at = 0;
-    let mut i = 0;
-    while i < n {
+    for i in 0..n {
         at += form::length(
             places::name(source, bounds, i),
             places::text(source, bounds, i),
         );
-        i += 1;
-        ends[i] = at;
+        ends[i + 1] = at;
     }
     ends
 }
@@ -59,11 +57,8 @@ pub fn write(
     ensures { (out.new ≡ splice out.old 0 (joined (form_at source.now bounds) 0 n)) × Hashes source.now bounds n result }
 {
     let mut hashes = [0u64; DEFINITIONS];
-    let mut i = 0;
-    while i < n {
-        let h = put(source, bounds, i, out, ends[i]);
-        hashes[i] = h;
-        i += 1;
+    for i in 0..n {
+        hashes[i] = put(source, bounds, i, out, ends[i]);
     }
     hashes
 }

@@ -24,10 +24,7 @@ pub fn write(ends: [usize; ENDS], signatures: [u64; ENDS], n: usize, records: &m
     requires { (n ≤ definition_max) × ((n * record_size ≤ length records.old) × ((i : ℕ) → i < n → get_or ends i 0 ≤ get_or ends (i + 1) 0)) }
     ensures { records.new ≡ splice records.old 0 (joined (record_at ends signatures) 0 n) }
 {
-    let mut i = 0;
-    while i < n {
-        let j = i + 1;
-        put(records, i * RECORD, ends[j] - ends[i], signatures[i]);
-        i += 1;
+    for i in 0..n {
+        put(records, i * RECORD, ends[i + 1] - ends[i], signatures[i]);
     }
 }

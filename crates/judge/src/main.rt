@@ -19,21 +19,26 @@ use capture_convert::trailer::Trailer;
 use capture_file::Opened;
 use console::{Console, Progress};
 use judge_capture::records;
-use judge_capture::records::Fed;
+use judge_stream::Condition;
 use judge_streams::SIZE;
 use std::fs::File;
 use std::process::ExitCode;
 use std::rt::{Env, Files};
 
-// Records: how many are left and how many were read; the checksum of these; the number of the frame at fault and which one it is, 0 and 0 if there is
-// none so far; whether reading failed.
+// The first frame at fault, and the condition that it fails.
+#[derive(Clone, Copy)]
+struct First {
+    condition: Condition,
+    frame: u64,
+}
+
+// Records: how many are left and how many were read; the checksum of these; the frame at fault, if there is one so far; whether reading failed.
 #[derive(Clone, Copy)]
 struct Rest {
     left: usize,
     done: u64,
     sum: u16,
-    number: u8,
-    frame: u64,
+    first: Option<First>,
     failed: bool,
 }
 
@@ -42,23 +47,26 @@ fn feed(state: &[u8], table: &mut [u64; SIZE], block: &[u8], kept: &mut [u8], s:
     requires { (size ≤ length state.now) × (Table table.old × (length kept.old ≡ record_size)) }
     ensures { (result.left ≡ s.left) × Table table.new }
 {
-    let mut r = s;
-    if 0 < s.number {
-        return r;
+    if s.first.is_some() {
+        return s;
     }
     match records::feed(state, table, block) {
-        Fed::On => r,
-        Fed::Off(number, k) => {
+        Ok(()) => s,
+        Err(failure) => {
             bits::part::copy_span(
                 kept,
                 0,
                 block,
-                k * capture_record::SIZE,
+                failure.index * capture_record::SIZE,
                 capture_record::SIZE,
             );
-            r.number = number;
-            r.frame = s.done.wrapping_add(k as u64);
-            r
+            Rest {
+                first: Some(First {
+                    condition: failure.condition,
+                    frame: s.done.wrapping_add(failure.index as u64),
+                }),
+                ..s
+            }
         }
     }
 }
@@ -111,12 +119,13 @@ fn finish(
     if s.sum as u64 != t.sum {
         return verdict::no_capture(console);
     }
-    if s.number == 0 {
+    let Some(first) = s.first else {
         return verdict::passes(console, s.done);
-    }
-    verdict::fails(console, s.number, s.frame, s.done);
-    explain::explain(console, state, table, kept, s.number);
-    verdict::told(console, s.number);
+    };
+    let number = first.condition.0;
+    verdict::fails(console, number, first.frame, s.done);
+    explain::explain(console, state, table, kept, number);
+    verdict::told(console, number);
 }
 
 // All records, from where the file stands. From time to time a line on descriptor 3 says how far it is.
@@ -136,10 +145,10 @@ fn run(
         left: t.count,
         done: 0,
         sum: 0xFFFF,
-        number: 0,
-        frame: 0,
+        first: None,
         failed: false,
     };
+    // A while: how many records a block has depends on the file.
     while 0 < s.left {
         s = turn(console, file, state, table, block, kept, s);
         capture_file::tell(progress, s.done);

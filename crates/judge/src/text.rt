@@ -30,10 +30,8 @@ fn byte(console: &mut Console, b: u8) {
 
 // Internal. Each byte after a space.
 pub fn bytes(console: &mut Console, s: &[u8]) {
-    let mut i = 0;
-    while i < s.len() {
-        byte(console, s[i]);
-        i += 1;
+    for b in s {
+        byte(console, *b);
     }
 }
 

@@ -8,7 +8,7 @@ use super::fault::Fault;
 use super::text;
 use console::Console;
 use judge_stream::Kept;
-use judge_streams::{Expected, SIZE};
+use judge_streams::SIZE;
 use rules::limits::GATHERED;
 
 // ---- what was expected ----
@@ -218,10 +218,10 @@ pub fn explain(
     requires { (size ≤ length state.now) × (Table table.now × (length r.now ≡ record_size)) }
 {
     match judge_streams::of_stream(table, f.id) {
-        Expected::New => {
+        None => {
             no_start(console);
             expect_any_start(console);
         }
-        Expected::Known(k) => of_known(console, state, k, r, f, number),
+        Some(k) => of_known(console, state, k, r, f, number),
     }
 }

@@ -2,6 +2,7 @@
 use mathlib.Core.Path.{◌≡◌, refl, ap, ◌∙◌}
 use mathlib.Core.Bool.{Bool, true, false}
 use mathlib.Core.List.{List, [], ◌++◌}
+use Rattle.std.specs.Prelude.{Ok, Err}
 use Prim.Native.Nat.{ℕ, zero, suc, ◌+◌, ◌*◌, ◌-◌, ◌^◌, ◌<◌}
 use native.Mathlib.Omega.{arith}
 use borrow.Author.Tests.{le-ltb}
@@ -32,9 +33,10 @@ use Rattle.state.specs.Layout.{size, setup_of}
 use Rattle.judge_capture.specs.Judge as call
 use Rattle.judge_capture.specs.Judge.{frames_in, captured, judges}
 use Rattle.judge_capture.specs.Record.{frame_told, frames_told}
-use Rattle.judge_capture.specs.inside.Feed.{count_of, fed_from, Feeds}
-use Rattle.judge_capture.specs.declared.records.Fed as fed
-use Rattle.judge_capture.specs.declared.verdict.Verdict.TheVariants as answer
+use Rattle.judge_capture.specs.inside.Feed.{count_of, Fed, fed_from, Feeds}
+use Rattle.judge_capture.specs.Answer.{fails_at}
+use Rattle.judge_capture.specs.declared.records.Failure.{Failure}
+use Rattle.judge_capture.specs.declared.verdict.Refusal.TheVariants as answer
 
 -- ── the frames of bytes ──
 
@@ -60,9 +62,9 @@ in-octets c o =
 -- ── a capture ──
 
 module _ (u : Setup) (c : List ℕ) (r : place.Place) where
-  pub no_capture : Located c r → r.ok ≡ false → answer.NoCapture ≡ captured u c
+  pub no_capture : Located c r → r.ok ≡ false → Err answer.NoCapture ≡ captured u c
   unfolding captured
-  no_capture (found t k f e n) h = let z : ◌≡◌ {A = ℕ} 0 1 = cc in absurd (omega arith)
+  no_capture (found t k f e n) h = cc
   no_capture (missing t k) h = rw t
 
   module _ (o : Octets c) (p : Place c r) where
@@ -79,21 +81,21 @@ module _ (u : Setup) (c : List ℕ) (r : place.Place) where
     unfolding frames_in
     frames-are = rw (count-is, records-are c [] r p b refl)
 
-    same : (w : fed.Fed) (t' : List ℕ) → Feeds u (replicate table_size 0) b w t' → verdict_of (fed_from 0 (count_of b) w t') ≡ verdict u (frames_in c)
+    same : (w : Fed) (t' : List ℕ) → Feeds u (replicate table_size 0) b w t' → verdict_of (fed_from 0 (count_of b) w t') ≡ verdict u (frames_in c)
     unfolding brief_verdict verdict_by
     same w t' h =
         ap verdict_of
         (h.next 0 ∙ ap (λ (es : List (Entry Brief)). run summing u (on 0 es) (frames_told (count_of b) b)) no-entries ∙ ap (run summing u (on 0 [])) frames-are)
         ∙ same-verdict u (frames_in c) (in-octets c o)
 
-    pub passed : (t' : List ℕ) → Feeds u (replicate table_size 0) b fed.Fed.On t' → answer.Pass ≡ captured u c
+    pub passed : (t' : List ℕ) → Feeds u (replicate table_size 0) b (Ok tt) t' → Ok tt ≡ captured u c
     unfolding captured
-    passed t' h = rw p.right (ap call.told (same fed.Fed.On t' h))
+    passed t' h = rw p.right (ap call.told (same (Ok tt) t' h))
 
-    pub failed : (n k : ℕ) (t' : List ℕ) → Feeds u (replicate table_size 0) b (fed.Fed.Off n k) t' → (answer.Fails n k ≡ captured u c) × (k < 2 ^ 32)
+    pub failed : (f : Failure) (t' : List ℕ) → Feeds u (replicate table_size 0) b (Err f) t' → (Err (answer.Fails f) ≡ captured u c) × (f.index < 2 ^ 32)
     unfolding captured
-    failed n k t' h = (
-      rw p.right (ap (answer.Fails n) (let q : k ≡ 0 + k = omega arith in q) ∙ ap call.told (same (fed.Fed.Off n k) t' h)),
+    failed f t' h = (
+      rw p.right (ap (fails_at f.condition.0) (let q : f.index ≡ 0 + f.index = omega arith in q) ∙ ap call.told (same (Err f) t' h)),
       omega (arith, h.before.0, count-is, p.few),
     )
 
@@ -112,7 +114,7 @@ module _ (m s m' : List ℕ) (a : Outcome) (long : length m ≡ size) (e : setti
     where
       go : (b : Bool) → setting.returned a m' ≡ by b → (b ≡ true) × (m' ≡ state_of (given 0 s) ++ drop size m)
       go true q = (refl, ap (λ (x : setting.Result). x.state) q)
-      go false q = let k = ap (λ (x : setting.Result). x.answer) q in let z : ◌≡◌ {A = ℕ} 0 1 = cc in absurd (omega arith)
+      go false q = let k = ap (λ (x : setting.Result). x.answer) q in cc
 
   pub refused : (a ≡ Ok tt → ⊥) → accepted 0 s ≡ false
   refused d = go (accepted 0 s) after
@@ -124,7 +126,7 @@ module _ (m s m' : List ℕ) (a : Outcome) (long : length m ≡ size) (e : setti
   pub subscribes : a ≡ Ok tt → Octets s → setup_of m' ≡ given 0 s
   subscribes d o = rw (taken d).1 (fresh 0 s (drop size m) (taken d).0 o).setup
 
-pub not-acceptable : (s c : List ℕ) → accepted 0 s ≡ false → answer.Unacceptable ≡ judges s c
+pub not-acceptable : (s c : List ℕ) → accepted 0 s ≡ false → Err answer.Unacceptable ≡ judges s c
 unfolding judges
 not-acceptable s c e = rw e
 

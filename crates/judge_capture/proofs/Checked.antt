@@ -3,14 +3,13 @@ use mathlib.Core.Path.{◌≡◌, refl, ◌∙◌}
 use mathlib.Core.Bool.{Bool, true, false}
 use mathlib.Core.List.{List}
 use mathlib.Core.Option.{Option, none, some}
+use Rattle.std.specs.Prelude.{Err}
 use Prim.Native.Nat.{ℕ, suc, ◌≤◌, ◌<◌}
 use Rattle.judge_rules.specs.Good.{signature_of, frame_check}
 use Rattle.judge_rules.specs.Verdict.{Seen, Entry, seen, on, off, named, judged, advance}
 use Rattle.judge_rules.specs.inside.Brief.{Brief, summing}
 use Rattle.judge_rules.proofs.Views.{hearer, heard, check-is}
-use Rattle.judge_streams.specs.inside.Table.{Table, entries_of, Turns, entering}
-use Rattle.judge_streams.specs.declared.Turn.{Turn}
-use Rattle.judge_streams.specs.declared.Turn.TheVariants.{Off}
+use Rattle.judge_streams.specs.inside.Table.{Turn, Table, entries_of, Turns, entering}
 use Rattle.rules.specs.Check.{or_zero}
 use Rattle.rules.specs.Frame.{Frame, Stream, stream_of, unnamed}
 use Rattle.rules.specs.Setup.{Setup, subscribed, kind_of, signature_for}
@@ -41,15 +40,15 @@ abbrev pub Turned : Setup → Frame → List ℕ → Turn → List ℕ → Type 
 Turned u f t r t' = Turns (λ i. advance summing u (on i (entries_of t)) f) t r t'
 
 module _ (u : Setup) (f : Frame) (t : List ℕ) (ok : Table t) where
-  refused : (n : ℕ) → frame_check u f ≡ some n → Turned u f t (Off n) t
+  refused : (n : ℕ) → frame_check u f ≡ some n → Turned u f t (Err (record { 0 = n })) t
   unfolding advance judged
   refused n e = record { next = λ i. rw e; table = ok; stays = refl }
 
-  pub unread : (r : ℕ) → r ≡ or_zero (reads (hearer u f) (heard f)) → 0 < r → Turned u f t (Off r) t
+  pub unread : (r : ℕ) → r ≡ or_zero (reads (hearer u f) (heard f)) → 0 < r → Turned u f t (Err (record { 0 = r })) t
   unread r e h = refused r (check-is u f ∙ read-refuses (hearer u f) (heard f) r e h)
 
   module _ (r : ℕ) (e : r ≡ or_zero (reads (hearer u f) (heard f))) (z : r ≤ 0) where
-    pub head-refused : (k : ℕ) → k ≡ or_zero (heads (hearer u f) (heard f)) → 0 < k → Turned u f t (Off k) t
+    pub head-refused : (k : ℕ) → k ≡ or_zero (heads (hearer u f) (heard f)) → 0 < k → Turned u f t (Err (record { 0 = k })) t
     head-refused k d h = refused k (check-is u f ∙ head-refuses (hearer u f) (heard f) r e z k d h)
 
     admitted : (k : ℕ) → k ≡ or_zero (heads (hearer u f) (heard f)) → k ≤ 0 → (i : ℕ)

@@ -4,6 +4,7 @@ use mathlib.Core.Bool.{Bool, true, false}
 use mathlib.Core.List.{List, [], ◌∷◌, ◌++◌, append_assoc, append-nil}
 use mathlib.Core.Option.{Option, none, some}
 use mathlib.Mathlib.Data.Bool.Basic.{or-eq-false-eq-eq-false-and-eq-false as or_off}
+use Rattle.std.specs.Prelude.{Ok, Err}
 use Prim.Native.Nat.{ℕ, suc, ◌*◌, ◌^◌, ◌≤◌, ◌<◌}
 use native.Mathlib.Omega.{arith}
 use borrow.Author.Tests.{leb-false, ltb-false}
@@ -36,11 +37,12 @@ use Rattle.rules.specs.Map.{Map}
 use Rattle.rules.specs.Setup.{Setup}
 use Rattle.rules.specs.Tests.{pick}
 use Rattle.setup.specs.Setup.{given, accepted}
-use Rattle.judge_capture.specs.Answer.{number_of}
+use Rattle.judge_capture.specs.Answer.{number_of, fails_at}
 use Rattle.judge_capture.specs.Judge.{frames_in, told, captured, judges}
 use Rattle.judge_capture.specs.Laws.{Fit, VerdictLaws, Held, FrameLaws, SenderLaws}
 use Rattle.judge_capture.specs.Record.{frame_told, frames_told}
-use Rattle.judge_capture.specs.declared.verdict.Verdict.TheVariants.{Pass, Fails, NoCapture, Unacceptable}
+use Rattle.judge_capture.specs.declared.records.Failure.{Failure}
+use Rattle.judge_capture.specs.declared.verdict.Refusal.TheVariants.{NoCapture, Unacceptable}
 use Rattle.judge_capture.proofs.Calls.{in-octets}
 
 -- ── the number of a failure is 1 to 24 ──
@@ -55,7 +57,7 @@ some-small false true c d e n q = let z : 3 ≡ n = cc in (omega arith, omega ar
 some-small false false true d e n q = let z : 4 ≡ n = cc in (omega arith, omega arith)
 some-small false false false true e n q = let z : 5 ≡ n = cc in (omega arith, omega arith)
 some-small false false false false true n q = let z : 7 ≡ n = cc in (omega arith, omega arith)
-some-small false false false false false n q = let z : ◌≡◌ {A = ℕ} 0 1 = cc in absurd (omega arith)
+some-small false false false false false n q = cc
 
 reason-small : (u : Setup) (a : List Frame) (f : Frame) (n : ℕ) → Reason u a f n → Small n
 unfolding frame_check
@@ -80,13 +82,15 @@ fail-small u l n i b e =
 
 -- ── the verdict, told ──
 
-told-pass : (v : rules.Verdict) → told v ≡ Pass → v ≡ pass
+told-pass : (v : rules.Verdict) → told v ≡ Ok tt → v ≡ pass
 told-pass pass e = refl
-told-pass (fail n i) e = let z : ◌≡◌ {A = ℕ} 0 1 = cc in absurd (omega arith)
+told-pass (fail n i) e = cc
 
-told-fail : (v : rules.Verdict) (n i : ℕ) → told v ≡ Fails n i → v ≡ fail n i
-told-fail pass n i e = let z : ◌≡◌ {A = ℕ} 0 1 = cc in absurd (omega arith)
-told-fail (fail m k) n i e = cc
+told-fail : (v : rules.Verdict) (n i : ℕ) → told v ≡ fails_at n i → v ≡ fail n i
+told-fail pass n i e = cc
+told-fail (fail m k) n i e =
+    let f : ◌≡◌ {A = Failure} (record { condition = record { 0 = m }; index = k }) (record { condition = record { 0 = n }; index = i }) = cc in
+    λ j. fail (f j).condition.0 (f j).index
 
 module _ (s c : List ℕ) (fit : Fit s c) where
   abbrev u : Setup
@@ -102,7 +106,7 @@ module _ (s c : List ℕ) (fit : Fit s c) where
   unfolding judges captured
   is = rw (fit.subscriptions, fit.trailer)
 
-  fails : (n i : ℕ) → judges s c ≡ Fails n i → verdict u l ≡ fail n i
+  fails : (n i : ℕ) → judges s c ≡ fails_at n i → verdict u l ≡ fail n i
   fails n i e = told-fail (verdict u l) n i (sym is ∙ e)
 
   zero-passes : number_of (judges s c) ≡ 0 → verdict u l ≡ pass
@@ -126,7 +130,7 @@ pub range : (s c : List ℕ) → Octets c → number_of (judges s c) ≤ 24
 unfolding judges captured
 range s c o = go (accepted 0 s) (trailed c)
   where
-    go : (a t : Bool) → number_of (pick a (pick t (told (verdict (given 0 s) (frames_in c))) NoCapture) Unacceptable) ≤ 24
+    go : (a t : Bool) → number_of (pick a (pick t (told (verdict (given 0 s) (frames_in c))) (Err NoCapture)) (Err Unacceptable)) ≤ 24
     go false t = omega arith
     go true false = omega arith
     go true true = told-small (given 0 s) (frames_in c) (in-octets c o)
@@ -229,7 +233,7 @@ unfolding judges captured
 sender-laws = record { passes = ok }
   where
     ok : (s : List ℕ) (own : ℕ) (m : Map) (l : List Send) → accepted 0 s ≡ true → Run (given 0 s) own m l → All (λ f. f.time < 2 ^ 64) (sent_from m l)
-        → length (sent_from m l) < 2 ^ 32 → judges s (capture_of (sent_from m l)) ≡ Pass
+        → length (sent_from m l) < 2 ^ 32 → judges s (capture_of (sent_from m l)) ≡ Ok tt
     ok s own m l a w t k =
         let h = held_all (given 0 s) (sent_from m l) (sender-passes.good (given 0 s) own m l w).checks t in
         rw (a, capture-trailed (sent_from m l) h k, capture-frames (sent_from m l) h k) (ap told (sender-passes.passes (given 0 s) own m l w))

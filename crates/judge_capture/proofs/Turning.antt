@@ -1,6 +1,7 @@
 -- One record, as the code reads it: the fields are those of its frame.
 use mathlib.Core.Path.{◌≡◌, sym, ap, ◌∙◌}
 use mathlib.Core.List.{List}
+use Rattle.std.specs.Prelude.{Err}
 use Prim.Native.Nat.{ℕ, ◌+◌, ◌-◌, ◌≤◌, ◌<◌}
 use native.Mathlib.Omega.{arith}
 use lib.ListN.{length, get_or}
@@ -15,9 +16,7 @@ use Rattle.judge_rules.proofs.Views.{hearer, heard}
 use Rattle.judge_stream.specs.inside.Kept.{seen_of}
 use Rattle.judge_stream.specs.inside.Kept as frame
 use Rattle.judge_stream.specs.declared.Seen.{Seen}
-use Rattle.judge_streams.specs.inside.Table.{Table, entries_of, Turns}
-use Rattle.judge_streams.specs.declared.Turn.{Turn}
-use Rattle.judge_streams.specs.declared.Turn.TheVariants.{Off}
+use Rattle.judge_streams.specs.inside.Table.{Turn, Table, entries_of, Turns}
 use Rattle.rules.specs.Check.{or_zero, first, read_tests}
 use Rattle.rules.specs.Frame.{Frame, stream_of, tail_of}
 use Rattle.rules.specs.Setup.{Setup}
@@ -43,7 +42,7 @@ module _ (u : Setup) (t : List ℕ) (ok : Table t) (r : List ℕ) (long : length
   read_number : (w : ℕ) → w ≡ or_zero (first (read_tests id n 0)) → w ≡ or_zero (reads (hearer u f) (heard f))
   read_number w e = e ∙ (λ i. or_zero (first (read_tests (same_id i) (same_length i) 0)))
 
-  pub not-read : (w : ℕ) → w ≡ or_zero (first (read_tests id n 0)) → 0 < w → Turned u f t (Off w) t
+  pub not-read : (w : ℕ) → w ≡ or_zero (first (read_tests id n 0)) → 0 < w → Turned u f t (Err (record { 0 = w })) t
   not-read w e h = unread u f t ok w (read_number w e) h
 
   module _ (w : ℕ) (e : w ≡ or_zero (first (read_tests id n 0))) (z : w ≤ 0) where
@@ -69,7 +68,7 @@ module _ (u : Setup) (t : List ℕ) (ok : Table t) (r : List ℕ) (long : length
       unfolding head_of
       head-number k d = d ∙ (λ i. or_zero (first (head_tests_of (head-is i).destination (head-is i) (same_length i))))
 
-      pub head-fails : (k : ℕ) → k ≡ or_zero (first (head_tests_of h.destination h n)) → 0 < k → Turned u f t (Off k) t
+      pub head-fails : (k : ℕ) → k ≡ or_zero (first (head_tests_of h.destination h n)) → 0 < k → Turned u f t (Err (record { 0 = k })) t
       head-fails k d p = head-refused u f t ok w (read_number w e) z k (head-number k d) p
 
       module _ (k : ℕ) (d : k ≡ or_zero (first (head_tests_of h.destination h n))) (y : k ≤ 0) (time : ℕ) (is-time : time ≡ stamp_of r) where

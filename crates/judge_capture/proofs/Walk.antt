@@ -1,6 +1,7 @@
 -- A block of records: the pass over them, record by record.
 use mathlib.Core.Path.{◌≡◌, sym, ap, ◌∙◌}
 use mathlib.Core.List.{List, ◌∷◌, ◌++◌}
+use Rattle.std.specs.Prelude.{Ok, Err}
 use Prim.Native.Nat.{ℕ, zero, suc, ◌+◌, ◌*◌, ◌-◌, ◌<◌}
 use native.Mathlib.Omega.{arith}
 use lib.ListN.{length, take, drop}
@@ -13,12 +14,11 @@ use Rattle.judge_rules.specs.inside.Brief.{Brief, summing}
 use Rattle.judge_rules.proofs.Streams.{off-stays}
 use Rattle.judge_rules.proofs.Theorem.{run-append}
 use Rattle.judge_streams.specs.inside.Table.{Table, entries_of}
-use Rattle.judge_streams.specs.declared.Turn.TheVariants.{On, Off}
+use Rattle.judge_stream.specs.declared.Condition.{Condition}
 use Rattle.rules.specs.Frame.{Frame}
 use Rattle.rules.specs.Setup.{Setup}
 use Rattle.judge_capture.specs.Record.{frame_told, frames_told}
 use Rattle.judge_capture.specs.inside.Feed.{count_of, Feeds}
-use Rattle.judge_capture.specs.declared.records.Fed as fed
 use Rattle.judge_capture.proofs.Checked.{Turned}
 
 pub told-append : (i m : ℕ) (b : List ℕ) → frames_told (i + m) b ≡ frames_told i b ++ frames_told m (drop (i * 21) b)
@@ -57,13 +57,13 @@ module _ (u : Setup) (t b : List ℕ) (i : ℕ) (t' : List ℕ) (w : Walked u t 
       ∙ ap (λ (j : Judging Brief). run summing u j (frames_told (suc m) (drop (i * 21) b))) (w k)
       ∙ ap (λ (f : Frame). run summing u (advance summing u (on (k + i) (entries_of t')) f) (frames_told m (drop 21 (drop (i * 21) b)))) (sym part-is)
 
-  pub walk-on : (t'' : List ℕ) → Turned u part t' On t'' → Walked u t b (i + 1) t''
+  pub walk-on : (t'' : List ℕ) → Turned u part t' (Ok tt) t'' → Walked u t b (i + 1) t''
   unfolding run frames_told
   walk-on t'' h k =
       from-here 0 k ∙ sym (h.next (k + i)) ∙ ap (λ (n : ℕ). on n (entries_of t'')) (let q : suc (k + i) ≡ k + (i + 1) = omega arith in q)
 
-  pub walk-off : i < count_of b → (n : ℕ) (t'' : List ℕ) → Turned u part t' (Off n) t'' → Feeds u t b (fed.Fed.Off n i) t''
-  walk-off l n t'' h =
+  pub walk-off : i < count_of b → (e : Condition) (t'' : List ℕ) → Turned u part t' (Err e) t'' → Feeds u t b (Err (record { condition = e; index = i })) t''
+  walk-off l e t'' h =
       record {
         next =
             λ k.
@@ -71,11 +71,11 @@ module _ (u : Setup) (t b : List ℕ) (i : ℕ) (t' : List ℕ) (w : Walked u t 
             sym
             (ap (λ (m : ℕ). run summing u (on k (entries_of t)) (frames_told m b)) q ∙ from-here (count_of b - suc i) k
             ∙ ap (λ (j : Judging Brief). run summing u j (frames_told (count_of b - suc i) (drop 21 (drop (i * 21) b)))) (sym (h.next (k + i)))
-            ∙ off-stays summing u n (k + i) _);
+            ∙ off-stays summing u e.0 (k + i) _);
         table = h.table;
         before = (l, λ k. w k ∙ ap (λ (x : List ℕ). on (k + i) (entries_of x)) (sym h.stays));
       }
 
-  pub walk-all : i ≡ count_of b → Table t' → Feeds u t b fed.Fed.On t'
+  pub walk-all : i ≡ count_of b → Table t' → Feeds u t b (Ok tt) t'
   walk-all e ok =
       record { next = λ k. sym (ap (λ (m : ℕ). run summing u (on k (entries_of t)) (frames_told m b)) (sym e) ∙ w k ∙ ap (λ (m : ℕ). on (k + m) (entries_of t')) e); table = ok; before = tt }

@@ -11,8 +11,7 @@ ghost use Rattle.judge_capture.specs.Judge.{captured, judges};
 ghost use Rattle.state.specs.Layout.{size, setup_of};
 
 use capture_convert::trailer;
-use records::Fed;
-use verdict::Verdict;
+use verdict::{Refusal, Verdict};
 
 // The verdict on a capture under the subscriptions of a receiver's state.
 fn of_capture(state: &[u8], capture: &[u8]) -> Verdict
@@ -21,14 +20,14 @@ fn of_capture(state: &[u8], capture: &[u8]) -> Verdict
 {
     let t = trailer::find(capture);
     if !t.ok {
-        return Verdict::NoCapture;
+        return Err(Refusal::NoCapture);
     }
     let from = t.from;
     let to = capture.len() - trailer::SIZE;
     let mut table = [0u64; judge_streams::SIZE];
     match records::feed(state, &mut table, &capture[from..to]) {
-        Fed::On => Verdict::Pass,
-        Fed::Off(number, i) => Verdict::Fails(number, i),
+        Ok(()) => Ok(()),
+        Err(failure) => Err(Refusal::Fails(failure)),
     }
 }
 
@@ -41,6 +40,6 @@ pub fn judge(subscriptions: &[u8], capture: &[u8]) -> Verdict
     let mut state = [0u8; state::layout::SIZE];
     match setup::setup(&mut state, 0, subscriptions) {
         Ok(()) => of_capture(&state, capture),
-        Err(_) => Verdict::Unacceptable,
+        Err(_) => Err(Refusal::Unacceptable),
     }
 }

@@ -9,18 +9,18 @@ ghost use Rattle.judge_stream.specs.inside.Kept.{stream_of, seen_of};
 ghost use Rattle.judge_streams.specs.inside.Table.{Table, entries_of, Turns};
 ghost use Rattle.state.specs.Layout.{size, setup_of};
 
-use judge_stream::Seen;
-use judge_streams::{SIZE, Turn};
+use judge_stream::{Condition, Seen};
+use judge_streams::SIZE;
 
-// What a block of records does: nothing is wrong so far, or the number of a failure and which record of the block it is for, counted from 0.
-#[derive(Drop)]
-pub enum Fed {
-    On,
-    Off(u8, usize),
+// The condition that a record of a block fails, and which one it is, counted from 0.
+#[derive(Clone, Copy, Debug, PartialEq, Eq)]
+pub struct Failure {
+    pub condition: Condition,
+    pub index: usize,
 }
 
 // A frame that passed the checks 2 to 5. Its type must be subscribed to; of an anonymous one no more is asked.
-fn admit(state: &[u8], table: &mut [u64; SIZE], v: Seen, p: &[u8]) -> Turn
+fn admit(state: &[u8], table: &mut [u64; SIZE], v: Seen, p: &[u8]) -> Result<(), Condition>
     requires { (size ≤ length state.now) × (Table table.old × Admits v p.now) }
     ensures { Turns (admitting (setup_of state.now) (stream_of v) (entries_of table.old) (seen_of v p.now)) table.old result table.new }
 {
@@ -29,16 +29,16 @@ fn admit(state: &[u8], table: &mut [u64; SIZE], v: Seen, p: &[u8]) -> Turn
         frame::check::kind(v.head),
         v.head.type_id as u32,
     ) else {
-        return Turn::Off(7);
+        return Err(Condition(7));
     };
     if frame::check::is_anonymous(v.head) {
-        return Turn::On;
+        return Ok(());
     }
     judge_streams::enter(table, signature, v, p)
 }
 
 // One record, of 21 bytes. Its data are read where they stand.
-fn turn(state: &[u8], table: &mut [u64; SIZE], r: &[u8]) -> Turn
+fn turn(state: &[u8], table: &mut [u64; SIZE], r: &[u8]) -> Result<(), Condition>
     requires { (size ≤ length state.now) × (Table table.old × (length r.now ≡ record_size)) }
     ensures { Turns (λ i. advance summing (setup_of state.now) (on i (entries_of table.old)) (frame_told r.now)) table.old result table.new }
 {
@@ -46,12 +46,12 @@ fn turn(state: &[u8], table: &mut [u64; SIZE], r: &[u8]) -> Turn
     let n = f.len;
     let unreadable = frame::check::unreadable(f.id, n, 0);
     if 0 < unreadable {
-        return Turn::Off(unreadable);
+        return Err(Condition(unreadable));
     }
     let h = frame::head::read(f.id, r[12 + n]);
     let refused = frame::check::refusal(h, n, h.destination);
     if 0 < refused {
-        return Turn::Off(refused);
+        return Err(Condition(refused));
     }
     let v = Seen {
         id: f.id,
@@ -63,22 +63,19 @@ fn turn(state: &[u8], table: &mut [u64; SIZE], r: &[u8]) -> Turn
 
 // Internal. Whole records, one after the other, on a receiver's state, of which the subscriptions are read, and the table that the records before them
 // left. A record that fails leaves the table as it was, so that `judge_streams::of_stream` tells what was expected.
-pub fn feed(state: &[u8], table: &mut [u64; SIZE], records: &[u8]) -> Fed
+pub fn feed(state: &[u8], table: &mut [u64; SIZE], records: &[u8]) -> Result<(), Failure>
     requires { (size ≤ length state.now) × Table table.old }
     ensures { Feeds (setup_of state.now) table.old records.now result table.new }
 {
     let n = records.len() / capture_record::SIZE;
-    let mut i = 0;
-    while i < n {
+    for i in 0..n {
         let at = i * capture_record::SIZE;
-        match turn(state, table, &records[at..at + capture_record::SIZE]) {
-            Turn::On => {
-                i += 1;
-            }
-            Turn::Off(number) => {
-                return Fed::Off(number, i);
-            }
+        if let Err(condition) = turn(state, table, &records[at..at + capture_record::SIZE]) {
+            return Err(Failure {
+                condition,
+                index: i,
+            });
         }
     }
-    Fed::On
+    Ok(())
 }

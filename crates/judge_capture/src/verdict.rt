@@ -1,37 +1,41 @@
 // What the call answers (RULES 13.1, 19.1).
 ghost use Rattle.std.specs.Prelude.{◌≡◌};
-ghost use Rattle.judge_capture.specs.Answer.{number_of, frame_of};
+ghost use Rattle.judge_capture.specs.Answer.{refusal_number, refused_frame};
 
-// `Fails` holds the number and the frame that it is for, counted from 0.
-#[derive(Clone, Copy)]
-pub enum Verdict {
-    Pass,
-    Fails(u8, usize),
+use super::records::Failure;
+
+// Why a capture does not pass.
+#[derive(Clone, Copy, Debug, PartialEq, Eq)]
+pub enum Refusal {
+    // A frame fails.
+    Fails(Failure),
+    // 22
     NoCapture,
+    // 13: subscriptions that no setup takes.
     Unacceptable,
 }
 
-impl Verdict {
+pub type Verdict = Result<(), Refusal>;
+
+impl Refusal {
     pub fn number(self) -> u8
-        ensures { result ≡ number_of self }
+        ensures { result ≡ refusal_number self }
     {
         match self {
-            Verdict::Pass => 0,
-            Verdict::Fails(n, _) => n,
-            Verdict::NoCapture => 22,
-            Verdict::Unacceptable => 13,
+            Refusal::Fails(failure) => failure.condition.0,
+            Refusal::NoCapture => 22,
+            Refusal::Unacceptable => 13,
         }
     }
 
-    // The frame that the number is for; 0 where there is none.
+    // The frame that the number is for, counted from 0; 0 where there is none.
     pub fn frame(self) -> usize
-        ensures { result ≡ frame_of self }
+        ensures { result ≡ refused_frame self }
     {
         match self {
-            Verdict::Pass => 0,
-            Verdict::Fails(_, i) => i,
-            Verdict::NoCapture => 0,
-            Verdict::Unacceptable => 0,
+            Refusal::Fails(failure) => failure.index,
+            Refusal::NoCapture => 0,
+            Refusal::Unacceptable => 0,
         }
     }
 }

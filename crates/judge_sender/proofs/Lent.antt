@@ -19,7 +19,7 @@ use Rattle.capture_convert.specs.Capture.{capture_of}
 use Rattle.id_map.specs.Layout.{size, map_of}
 use Rattle.id_map.specs.Sound.{sound_map}
 use Rattle.judge_capture.specs.Judge.{captured, judges}
-use Rattle.judge_capture.specs.declared.verdict.Verdict.TheVariants.{Pass}
+use Rattle.std.specs.Prelude.{Ok}
 use Rattle.judge_capture.proofs.Theorems.{frame-laws}
 use Rattle.judge_capture.proofs.Theorems as judged
 use Rattle.judge_rules.specs.Good.{streams_in}
@@ -163,7 +163,7 @@ unfolding sent_from sends sends_if tabulate
 none-sent [] m e = refl
 none-sent (s ∷ l) m e = rw e (none-sent l m e)
 
-none_passes : (s : List ℕ) → accepted 0 s ≡ true → judges s (capture_of []) ≡ Pass
+none_passes : (s : List ℕ) → accepted 0 s ≡ true → judges s (capture_of []) ≡ Ok tt
 unfolding judges captured verdict verdict_by run
 none_passes s a =
     let f = frame-laws.frames [] tt (omega arith) in
@@ -173,7 +173,7 @@ pub sender-laws : SenderLaws
 sender-laws = record { passes = λ s own m l a bytes t h k. go s own m l a bytes t h k (sound_map m) refl }
   where
     go : (s : List ℕ) (own : ℕ) (m : List ℕ) (l : List Send) → accepted 0 s ≡ true → Octets m → Typed l → Run on_bytes (given 0 s) own m l
-        → length (sent_from on_bytes m l) < 2 ^ 32 → (b : Bool) → sound_map m ≡ b → judges s (capture_of (sent_from on_bytes m l)) ≡ Pass
+        → length (sent_from on_bytes m l) < 2 ^ 32 → (b : Bool) → sound_map m ≡ b → judges s (capture_of (sent_from on_bytes m l)) ≡ Ok tt
     go s own m l a bytes t h k false e = ap (λ x. judges s (capture_of x)) (none-sent l m e) ∙ none_passes s a
     go s own m l a bytes t h k true e =
         let n = answered (map_of m) l in

@@ -3,6 +3,7 @@ use mathlib.Core.Path.{◌≡◌, refl, sym, ap, ◌∙◌}
 use mathlib.Core.Bool.{Bool, true, false, not, ◌&&◌, beq}
 use mathlib.Core.List.{List, []}
 use mathlib.Core.Option.{none, some}
+use Rattle.std.specs.Prelude.{Ok, Err}
 use Prim.Native.Nat.{ℕ, ◌+◌, ◌-◌, ◌≤◌, ◌<◌}
 use native.Mathlib.Omega.{arith}
 use borrow.Author.Tests.{eq-eqb, ne_eqb, lt-ltb, le-ltb, le-leb, lt-leb, leb-true, leb-false, eqb-true}
@@ -17,11 +18,9 @@ use Rattle.rules.specs.Tests.{pick, same_bool}
 use Rattle.judge_rules.specs.inside.Brief.{Brief, rests, front, starts_in, grows_to, goes_on}
 use Rattle.judge_rules.specs.Good.{may_follow}
 use Rattle.judge_rules.specs.Verdict.{Next, goes, continues}
-use Rattle.judge_stream.specs.inside.Kept.{before_of, brief_in, stream_of, seen_of, resting, Opens, Grows, Follows}
+use Rattle.judge_stream.specs.inside.Kept.{before_of, brief_in, stream_of, seen_of, Step, resting, Opens, Grows, Follows}
 use Rattle.judge_stream.specs.declared.Kept.{Kept}
 use Rattle.judge_stream.specs.declared.Seen.{Seen}
-use Rattle.judge_stream.specs.declared.Step.{Step}
-use Rattle.judge_stream.specs.declared.Step.TheVariants.{Goes, Refuses}
 
 -- ── the transfer ID ──
 
@@ -92,16 +91,16 @@ module _ (signature : ℕ) (v : Seen) (p : List ℕ) (full : length p ≡ 7) whe
 -- ── a transfer that grows ──
 
 module _ (k : Kept) (n register : ℕ) (last : Bool) where
-  pub too_long : 514 < n → Grows k n register last (Refuses 11)
+  pub too_long : 514 < n → Grows k n register last (Err (record { 0 = 11 }))
   unfolding grows_to
   too_long h = record { next = rw (lt-ltb 514 n h); keeps = tt }
 
   module _ (h : n ≤ 514) where
-    pub too_short : last ≡ true → k.sum ≡ register → n ≤ 9 → Grows k n register last (Refuses 24)
+    pub too_short : last ≡ true → k.sum ≡ register → n ≤ 9 → Grows k n register last (Err (record { 0 = 24 }))
     unfolding grows_to
     too_short l e m = record { next = rw (le-ltb 514 n h, l, eq-eqb k.sum register e, le-leb n 9 m); keeps = tt }
 
-    pub ended : last ≡ true → k.sum ≡ register → 9 < n → k.transfer < 32 → Grows k n register last (Goes (resting k.id k.since k.transfer))
+    pub ended : last ≡ true → k.sum ≡ register → 9 < n → k.transfer < 32 → Grows k n register last (Ok (resting k.id k.since k.transfer))
     unfolding grows_to brief_in
     ended l e m t =
         record {
@@ -109,13 +108,13 @@ module _ (k : Kept) (n register : ℕ) (last : Bool) where
           keeps = (refl, record { transfer = t; count = omega arith });
         }
 
-    pub differs : last ≡ true → (k.sum ≡ register → ⊥) → Grows k n register last (Refuses 12)
+    pub differs : last ≡ true → (k.sum ≡ register → ⊥) → Grows k n register last (Err (record { 0 = 12 }))
     unfolding grows_to
     differs l e = record { next = rw (le-ltb 514 n h, l, ne_eqb k.sum register e); keeps = tt }
 
     pub goes-on : last ≡ false → k.transfer < 32 → 0 < n
         → Grows k n register last
-        (Goes (record { id = k.id; since = k.since; transfer = k.transfer; toggle = not k.toggle; count = n; sum = k.sum; register = register }))
+        (Ok (record { id = k.id; since = k.since; transfer = k.transfer; toggle = not k.toggle; count = n; sum = k.sum; register = register }))
     unfolding grows_to brief_in
     goes-on l t z =
         record {
@@ -141,11 +140,11 @@ neither true x = refl
 neither false x = refl
 
 module _ (signature : ℕ) (v : Seen) (p : List ℕ) where
-  pub begun : v.head.start ≡ true → (k : Kept) → Opens signature v p k → Follows signature (rests none) v p (Goes k)
+  pub begun : v.head.start ≡ true → (k : Kept) → Opens signature v p k → Follows signature (rests none) v p (Ok k)
   unfolding goes_on starts_in seen_of
   begun s k o = record { next = ap goes o.brief ∙ rw s; keeps = o.keeps }
 
-  pub not-begun : v.head.start ≡ false → Follows signature (rests none) v p (Refuses 24)
+  pub not-begun : v.head.start ≡ false → Follows signature (rests none) v p (Err (record { 0 = 24 }))
   unfolding goes_on starts_in seen_of
   not-begun s = record { next = rw s; keeps = tt }
 
@@ -157,7 +156,7 @@ module _ (signature : ℕ) (v : Seen) (p : List ℕ) where
     unfolding goes_on starts_in brief_in seen_of
     restarted z f r o = record { next = o.next ∙ rw (eq-eqb k.count 0 z, sym f); keeps = o.keeps }
 
-    pub not-next : k.count ≡ 0 → false ≡ follows → Follows signature (brief_in k) v p (Refuses 24)
+    pub not-next : k.count ≡ 0 → false ≡ follows → Follows signature (brief_in k) v p (Err (record { 0 = 24 }))
     unfolding goes_on starts_in brief_in seen_of
     not-next z f = record { next = rw (eq-eqb k.count 0 z, sym f) (neither v.head.start _); keeps = tt }
 
@@ -170,6 +169,6 @@ module _ (signature : ℕ) (v : Seen) (p : List ℕ) where
           keeps = rw (same_id k v g) at o.keeps;
         }
 
-    pub not-grown : (k.count ≡ 0 → ⊥) → false ≡ onward k v → Follows signature (brief_in k) v p (Refuses 24)
+    pub not-grown : (k.count ≡ 0 → ⊥) → false ≡ onward k v → Follows signature (brief_in k) v p (Err (record { 0 = 24 }))
     unfolding goes_on brief_in seen_of
     not-grown z g = record { next = rw (ne_eqb k.count 0 z) (not-both _ _ v.head.start _ g); keeps = tt }

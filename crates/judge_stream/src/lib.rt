@@ -33,12 +33,9 @@ pub struct Seen {
     pub head: Head,
 }
 
-// What is kept after a frame, or the number of its refusal.
-#[derive(Drop)]
-pub enum Step {
-    Goes(Kept),
-    Refuses(u8),
-}
+// The number of the condition that a frame fails (RULES 19.7).
+#[derive(Clone, Copy, Debug, PartialEq, Eq)]
+pub struct Condition(pub u8);
 
 // So long after the last start that an ID may be 0. An earlier time is not after.
 fn is_gap(since: u64, time: u64) -> bool
@@ -88,9 +85,9 @@ fn rest(id: u32, since: u64, transfer: u8) -> Kept
     ensures { result ≡ resting id since transfer }
 {
     Kept {
-        id: id,
-        since: since,
-        transfer: transfer,
+        id,
+        since,
+        transfer,
         toggle: false,
         count: 0,
         sum: 0,
@@ -118,46 +115,46 @@ fn open(signature: u64, v: Seen, p: &[u8]) -> Kept
 }
 
 // The transfer with so many bytes and this register after the frame, which may be its last.
-fn grow(k: Kept, count: usize, register: u16, last: bool) -> Step
+fn grow(k: Kept, count: usize, register: u16, last: bool) -> Result<Kept, Condition>
     requires { (k.transfer < 32) × (0 < count) }
     ensures { Grows k count register last result }
 {
     if GATHERED < count {
-        return Step::Refuses(11);
+        return Err(Condition(11));
     }
     if last {
         if k.sum == register {
             if count <= FRAME_PAYLOAD + 2 {
-                return Step::Refuses(24);
+                return Err(Condition(24));
             }
-            return Step::Goes(rest(k.id, k.since, k.transfer));
+            return Ok(rest(k.id, k.since, k.transfer));
         }
-        return Step::Refuses(12);
+        return Err(Condition(12));
     }
-    Step::Goes(Kept {
+    Ok(Kept {
         id: k.id,
         since: k.since,
         transfer: k.transfer,
         toggle: !k.toggle,
-        count: count,
+        count,
         sum: k.sum,
-        register: register,
+        register,
     })
 }
 
 // Internal. The first frame of a stream, with this payload.
-pub fn begin(signature: u64, v: Seen, p: &[u8]) -> Step
+pub fn begin(signature: u64, v: Seen, p: &[u8]) -> Result<Kept, Condition>
     requires { Passed v p.now }
     ensures { Follows signature (rests none) v p.now result }
 {
     if v.head.start {
-        return Step::Goes(open(signature, v, p));
+        return Ok(open(signature, v, p));
     }
-    Step::Refuses(24)
+    Err(Condition(24))
 }
 
 // Internal. One frame more of a stream, with this payload.
-pub fn follow(signature: u64, k: Kept, v: Seen, p: &[u8]) -> Step
+pub fn follow(signature: u64, k: Kept, v: Seen, p: &[u8]) -> Result<Kept, Condition>
     requires { InRange k × Passed v p.now }
     ensures { Follows signature (brief_in k) v p.now result }
 {
@@ -165,12 +162,12 @@ pub fn follow(signature: u64, k: Kept, v: Seen, p: &[u8]) -> Step
         if may_follow(k, v) {
             return begin(signature, v, p);
         }
-        return Step::Refuses(24);
+        return Err(Condition(24));
     }
     if continues(k, v) {
         let count = k.count + p.len();
         let register = checksum::crc16::over(k.register, p);
         return grow(k, count, register, v.head.end);
     }
-    Step::Refuses(24)
+    Err(Condition(24))
 }

@@ -2,6 +2,7 @@
 use mathlib.Core.Path.{◌≡◌, refl, sym, ap, ◌∙◌}
 use mathlib.Core.List.{List}
 use mathlib.Core.Option.{none}
+use Rattle.std.specs.Prelude.{Ok, Err}
 use Prim.Native.Nat.{ℕ, suc, ◌+◌, ◌≤◌, ◌<◌}
 use native.Mathlib.Omega.{arith}
 use borrow.Author.Tests.{le-ltb, lt-ltb}
@@ -10,20 +11,16 @@ use Rattle.judge_rules.specs.Good.{add}
 use Rattle.judge_rules.specs.Limits.{streams_max}
 use Rattle.judge_rules.specs.Verdict.{Entry, streams, state_of, put, on, entered}
 use Rattle.judge_rules.specs.inside.Brief.{Brief, rests}
-use Rattle.judge_stream.specs.inside.Kept.{brief_in, stream_of, seen_of, Follows}
+use Rattle.judge_stream.specs.inside.Kept.{Step, brief_in, stream_of, seen_of, Follows}
 use Rattle.judge_stream.specs.declared.Kept.{Kept}
 use Rattle.judge_stream.specs.declared.Seen.{Seen}
-use Rattle.judge_stream.specs.declared.Step.{Step}
-use Rattle.judge_stream.specs.declared.Step.TheVariants.{Goes, Refuses}
-use Rattle.judge_streams.specs.declared.Turn.{Turn}
-use Rattle.judge_streams.specs.declared.Turn.TheVariants.{Off}
-use Rattle.judge_streams.specs.inside.Table.{count_at, kept_at, Table, entries_of, Found, Stored, Ranged, Puts, Turns, entering, Enters}
+use Rattle.judge_streams.specs.inside.Table.{count_at, kept_at, Table, entries_of, Found, Stored, Ranged, Turn, Puts, Turns, entering, Enters}
 use Rattle.judge_streams.proofs.Places.{known-state, known-count, known-put, new-state, new-count, new-put}
 
 -- what a frame keeps is in range
 pub ranged : (signature : ℕ) (b : Brief) (v : Seen) (p : List ℕ) (s : Step) → Follows signature b v p s → Ranged s
-ranged signature b v p (Goes k) f = f.keeps.1
-ranged signature b v p (Refuses n) f = tt
+ranged signature b v p (Ok k) f = f.keeps.1
+ranged signature b v p (Err e) f = tt
 
 module _ (signature : ℕ) (t : List ℕ) (v : Seen) (p : List ℕ) (ok : Table t) where
   abbrev st : List (Entry Brief)
@@ -33,7 +30,7 @@ module _ (signature : ℕ) (t : List ℕ) (v : Seen) (p : List ℕ) (ok : Table 
     turned : ((k : Kept) (t' : List ℕ) → Stored t j n k t' → k.id ≡ v.id → entries_of t' ≡ put (stream_of v) (brief_in k) st)
         → (s : Step) → Follows signature b v p s → (r : Turn) (t' : List ℕ) → Puts t j n s r t' → Turns (entering signature (stream_of v) st (seen_of v p)) t r t'
     unfolding entered
-    turned puts (Goes k) f r t' w =
+    turned puts (Ok k) f r t' w =
         rw w.0
         (record {
           next =
@@ -42,7 +39,7 @@ module _ (signature : ℕ) (t : List ℕ) (v : Seen) (p : List ℕ) (ok : Table 
           table = record { long = w.1.long; few = rw w.1.count fits };
           stays = tt;
         })
-    turned puts (Refuses m) f r t' w =
+    turned puts (Err e) f r t' w =
         rw (w.0, w.1)
         (record { next = λ i. rw (count, le-ltb streams_max n fits, state, sym f.next); table = ok; stays = refl })
 
@@ -55,7 +52,7 @@ module _ (signature : ℕ) (t : List ℕ) (v : Seen) (p : List ℕ) (ok : Table 
         (λ k t' w e. rw x.stream (known-put t v.id x.named j f l k t' ok w e))
 
     module _ (l : get_or t count_at 0 ≤ j) where
-      pub full : streams_max ≤ get_or t count_at 0 → Turns (entering signature (stream_of v) st (seen_of v p)) t (Off 9) t
+      pub full : streams_max ≤ get_or t count_at 0 → Turns (entering signature (stream_of v) st (seen_of v p)) t (Err (record { 0 = 9 })) t
       full h =
           record {
             next =

@@ -12,7 +12,7 @@ ghost use Rattle.rules.specs.Frame.{is_anonymous};
 ghost use Rattle.rules.specs.Frame as rules;
 
 use judge_rules::limits::STREAMS;
-use judge_stream::{Kept, Seen, Step};
+use judge_stream::{Condition, Kept, Seen};
 
 // The words of a table: how many streams there are; and of each the ID, the time of the start, and the rest of what is kept in one word. Zeros are a table
 // with no stream.
@@ -25,20 +25,6 @@ const IDS_AT: usize = 1;
 const STARTS_AT: usize = 1 + STREAMS;
 
 const PROGRESS_AT: usize = 1 + 2 * STREAMS;
-
-// What a frame does: nothing is wrong so far, or the number that it fails with.
-#[derive(Drop)]
-pub enum Turn {
-    On,
-    Off(u8),
-}
-
-// What is kept of a stream when a frame of it comes.
-#[derive(Drop)]
-pub enum Expected {
-    New,
-    Known(Kept),
-}
 
 // All but the ID and the time, in one word.
 fn progress(k: Kept) -> u64
@@ -85,32 +71,30 @@ fn find(table: &[u64; SIZE], n: usize, id: u32) -> usize
     ensures { Found table.now n id result }
 {
     let key = id as u64 % 16777216;
-    let mut j = 0;
-    while j < n {
+    for j in 0..n {
         if table[IDS_AT + j] % 16777216 == key {
             return j;
         }
-        j += 1;
     }
-    j
+    n
 }
 
-// What a frame leaves at place j of n.
-fn put(table: &mut [u64; SIZE], j: usize, n: usize, s: Step) -> Turn
+// What a frame leaves at place j of n; nothing, where it fails.
+fn put(
+    table: &mut [u64; SIZE],
+    j: usize,
+    n: usize,
+    s: Result<Kept, Condition>,
+) -> Result<(), Condition>
     requires { (length table.old ≡ table_size) × ((j < streams_max) × Ranged s) }
     ensures { Puts table.old j n s result table.new }
 {
-    match s {
-        Step::Goes(k) => {
-            store(table, j, n, k);
-            Turn::On
-        }
-        Step::Refuses(number) => Turn::Off(number),
-    }
+    store(table, j, n, s?);
+    Ok(())
 }
 
-// Internal. One frame more, of a stream with a named source.
-pub fn enter(table: &mut [u64; SIZE], signature: u64, v: Seen, p: &[u8]) -> Turn
+// Internal. One frame more, of a stream with a named source. One that fails leaves the table as it was.
+pub fn enter(table: &mut [u64; SIZE], signature: u64, v: Seen, p: &[u8]) -> Result<(), Condition>
     requires { Table table.old × Enters v p.now }
     ensures { Turns (entering signature (stream_of v) (entries_of table.old) (seen_of v p.now)) table.old result table.new }
 {
@@ -121,21 +105,21 @@ pub fn enter(table: &mut [u64; SIZE], signature: u64, v: Seen, p: &[u8]) -> Turn
         return put(table, j, n, s);
     }
     if STREAMS <= n {
-        return Turn::Off(9);
+        return Err(Condition(9));
     }
     let s = judge_stream::begin(signature, v, p);
     put(table, n, n + 1, s)
 }
 
-// Internal. What is kept of the stream of an ID with a named source.
-pub fn of_stream(table: &[u64; SIZE], id: u32) -> Expected
+// Internal. What is kept of the stream of an ID with a named source; None, if it has no frame so far.
+pub fn of_stream(table: &[u64; SIZE], id: u32) -> Option<Kept>
     requires { Table table.now }
     ensures { is_anonymous id ≡ false → expected_in result ≡ state_of (rests none) (rules.stream_of id) (entries_of table.now) }
 {
     let n = table[COUNT_AT] as usize;
     let j = find(table, n, id);
     if j < n {
-        return Expected::Known(load(table, j));
+        return Some(load(table, j));
     }
-    Expected::New
+    None
 }

@@ -14,12 +14,10 @@ use Rattle.batch.specs.Answer as many
 use Rattle.patch.specs.Answer as patch
 use Rattle.patch.specs.Patch.{patches}
 use Rattle.dsdl_signature.specs.Call as signing
-use Rattle.dsdl_signature.specs.declared.answer.Answer as signing-answer
 use Rattle.capture_convert.specs.Answer as conversion
 use Rattle.capture_convert.specs.declared.answer.Converted.{Converted}
 use Rattle.judge_capture.specs.Answer as judge
 use Rattle.judge_capture.specs.Judge.{judges}
-use Rattle.judge_capture.specs.declared.verdict.Verdict.{Verdict}
 use Rattle.rules.specs.Range.{answered}
 
 -- what C reads in a word: the number, and the length of the payload
@@ -83,7 +81,7 @@ pub record AllocationWordLaws : Type 0 where
 
 -- ── the result word of signatures: the number in bits 0 to 7; with 40 the definition in 8 to 11 and the line in 16 to 31 ──
 
-abbrev pub signatures_word : signing-answer.Answer → ℕ
+abbrev pub signatures_word : signing.Answer → ℕ
 signatures_word a = signing.number_of a + (signing.definition_in a * 2 ^ 8 + signing.line_in a * 2 ^ 16)
 
 -- C reads all three
@@ -104,7 +102,7 @@ pub record ConversionWordLaws : Type 0 where
 
 -- ── the result word of a verdict: the number in bits 0 to 7, the frame from bit 8 on ──
 
-abbrev pub verdict_word : Verdict → ℕ
+abbrev pub verdict_word : judge.Verdict → ℕ
 verdict_word a = judge.number_of a + judge.frame_of a * 2 ^ 8
 
 -- C reads both

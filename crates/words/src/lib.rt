@@ -63,7 +63,10 @@ pub fn of_allocation(a: answer::Answer) -> u64
 pub fn of_signatures(a: dsdl_signature::answer::Answer) -> u64
     ensures { result ≡ signatures_word a }
 {
-    a.number() as u64 + (a.definition() as u64 * 0x100 + a.line() as u64 * 0x10000)
+    match a {
+        Ok(()) => 0,
+        Err(e) => e.number() as u64 + (e.definition() as u64 * 0x100 + e.line() as u64 * 0x10000),
+    }
 }
 
 // Internal. The result word of a conversion.
@@ -79,5 +82,8 @@ pub fn of_verdict(a: Verdict) -> u64
     requires { frame_of a < 2 ^ 32 }
     ensures { result ≡ verdict_word a }
 {
-    a.number() as u64 + a.frame() as u64 * 0x100
+    match a {
+        Ok(()) => 0,
+        Err(e) => e.number() as u64 + e.frame() as u64 * 0x100,
+    }
 }

@@ -25,12 +25,12 @@ slice_bounds-feed-count c = omega (arith, (there (goal.at.slice_bounds-feed-coun
 pub slice_bounds-feed-start : goal.slice_bounds-feed-start
 slice_bounds-feed-start c = omega (arith, (there (goal.at.slice_bounds-feed-start c).Else-not-t).end)
 
-pub returns-in-On : goal.returns-in-On
-returns-in-On c =
+pub returns-in-Ok : goal.returns-in-Ok
+returns-in-Ok c =
     let a = c.args in
-    (passed (setup_of a.state.now) a.capture.now c.find-t.result (octets-all a.capture.now (λ i. omega (arith, c.type_inv.capture i))) (there (goal.at.returns-in-On c).Else-not-t) c.feed.new.table (rw c.in-On.is at c.feed.ensures), omega arith)
+    (passed (setup_of a.state.now) a.capture.now c.find-t.result (octets-all a.capture.now (λ i. omega (arith, c.type_inv.capture i))) (there (goal.at.returns-in-Ok c).Else-not-t) c.feed.new.table c.in-Ok.ensures, omega arith)
 
-pub returns-in-Off : goal.returns-in-Off
-returns-in-Off c =
+pub returns-in-Err : goal.returns-in-Err
+returns-in-Err c =
     let a = c.args in
-    failed (setup_of a.state.now) a.capture.now c.find-t.result (octets-all a.capture.now (λ i. omega (arith, c.type_inv.capture i))) (there (goal.at.returns-in-Off c).Else-not-t) _ _ c.feed.new.table (rw c.in-Off.is at c.feed.ensures)
+    failed (setup_of a.state.now) a.capture.now c.find-t.result (octets-all a.capture.now (λ i. omega (arith, c.type_inv.capture i))) (there (goal.at.returns-in-Err c).Else-not-t) _ c.feed.new.table c.in-Err.ensures

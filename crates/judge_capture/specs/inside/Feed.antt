@@ -1,5 +1,5 @@
 -- RULES 19.3, 19.8: what one record does, and what a block of records does.
-use Rattle.std.specs.Prelude.{◌≡◌, List, ℕ, suc, ◌+◌, ◌/◌, ◌<◌, length}
+use Rattle.std.specs.Prelude.{◌≡◌, Result, Ok, Err, List, ℕ, suc, ◌+◌, ◌/◌, ◌<◌, length}
 use Rattle.capture_record.specs.Record.{record_size}
 use Rattle.judge_rules.specs.Good.{signature_of}
 use Rattle.judge_rules.specs.Verdict.{Seen, Entry, Judging, on, off, run}
@@ -12,8 +12,7 @@ use Rattle.rules.specs.Frame.{Stream, stream_of, unnamed}
 use Rattle.rules.specs.Setup.{Setup, subscribed, kind_of}
 use Rattle.rules.specs.Tests.{pick, is_none}
 use Rattle.judge_capture.specs.Record.{frames_told}
-use Rattle.judge_capture.specs.declared.records.Fed.{Fed}
-use Rattle.judge_capture.specs.declared.records.Fed.TheVariants.{On, Off}
+use Rattle.judge_capture.specs.declared.records.Failure.{Failure}
 
 -- ── one record ──
 
@@ -32,15 +31,19 @@ pub record Admits (v : declared.Seen) (p : List ℕ) : Type 0 where
 abbrev pub count_of : List ℕ → ℕ
 count_of b = length b / record_size
 
+-- nothing is wrong so far, or which record fails
+abbrev pub Fed : Type 0
+Fed = Result (Unit {0}) Failure
+
 -- after the records of a block, of which the first is frame i
 abbrev pub fed_from : ℕ → ℕ → Fed → List ℕ → Judging Brief
-fed_from i n On t = on (i + n) (entries_of t)
-fed_from i n (Off number k) t = off number (i + k)
+fed_from i n (Ok u) t = on (i + n) (entries_of t)
+fed_from i n (Err f) t = off f.condition.0 (i + f.index)
 
 -- the record that fails, if any, is one of them; the table is as the records before it left it
 abbrev pub Before : Setup → List ℕ → List ℕ → Fed → List ℕ → Type 0
-Before u t b On t' = Unit {0}
-Before u t b (Off number k) t' = (k < count_of b) × ((i : ℕ) → run summing u (on i (entries_of t)) (frames_told k b) ≡ on (i + k) (entries_of t'))
+Before u t b (Ok fine) t' = Unit {0}
+Before u t b (Err f) t' = (f.index < count_of b) × ((i : ℕ) → run summing u (on i (entries_of t)) (frames_told f.index b) ≡ on (i + f.index) (entries_of t'))
 
 pub record Feeds (u : Setup) (t b : List ℕ) (r : Fed) (t' : List ℕ) : Type 0 where
   pub next : (i : ℕ) → fed_from i (count_of b) r t' ≡ run summing u (on i (entries_of t)) (frames_told (count_of b) b)

@@ -1,5 +1,5 @@
 -- RULES 19.8: what the code keeps of a stream and reads of a frame, as the pass with little memory sees them.
-use Rattle.std.specs.Prelude.{◌≡◌, Bool, true, false, List, ℕ, ◌≤◌, ◌<◌, eqb, length, drop}
+use Rattle.std.specs.Prelude.{◌≡◌, Bool, true, false, Result, Ok, Err, List, ℕ, ◌≤◌, ◌<◌, eqb, length, drop}
 use Rattle.std.proofs.Math.Option.{some}
 use Rattle.checksum.specs.Crc16.{checksum}
 use Rattle.frame.specs.inside.Head as frame
@@ -10,10 +10,9 @@ use Rattle.judge_rules.specs.Verdict.{Next, goes, refuses}
 use Rattle.rules.specs.Frame.{Stream}
 use Rattle.rules.specs.Limits.{frame_payload}
 use Rattle.rules.specs.Tests.{pick}
+use Rattle.judge_stream.specs.declared.Condition.{Condition}
 use Rattle.judge_stream.specs.declared.Kept.{Kept}
 use Rattle.judge_stream.specs.declared.Seen.{Seen}
-use Rattle.judge_stream.specs.declared.Step.{Step}
-use Rattle.judge_stream.specs.declared.Step.TheVariants.{Goes, Refuses}
 
 abbrev pub before_of : Kept → Before
 before_of k = record { transfer = k.transfer; since = k.since }
@@ -23,9 +22,13 @@ unfoldable pub brief_in : Kept → Brief
 brief_in k =
     pick (eqb k.count 0) (rests (some (before_of k))) (within k.id (before_of k) k.toggle k.count k.sum k.register)
 
+-- what is kept after a frame, or the condition that it fails
+abbrev pub Step : Type 0
+Step = Result Kept Condition
+
 abbrev pub next_in : Step → Next Brief
-next_in (Goes k) = goes (brief_in k)
-next_in (Refuses n) = refuses n
+next_in (Ok k) = goes (brief_in k)
+next_in (Err e) = refuses e.0
 
 abbrev pub stream_of : Seen → Stream
 stream_of v = frame.stream_of v.head
@@ -62,8 +65,8 @@ pub record InRange (k : Kept) : Type 0 where
 
 -- what is kept after a frame with this ID
 abbrev pub Keeps : ℕ → Step → Type 0
-Keeps id (Goes k) = (k.id ≡ id) × InRange k
-Keeps id (Refuses n) = Unit {0}
+Keeps id (Ok k) = (k.id ≡ id) × InRange k
+Keeps id (Err e) = Unit {0}
 
 -- between transfers
 abbrev pub resting : ℕ → ℕ → ℕ → Kept
@@ -72,7 +75,7 @@ resting id since transfer =
 
 pub record Opens (signature : ℕ) (v : Seen) (p : List ℕ) (k : Kept) : Type 0 where
   pub brief : brief_in k ≡ opened signature (seen_of v p)
-  pub keeps : Keeps v.id (Goes k)
+  pub keeps : Keeps v.id (Ok k)
 
 pub record Grows (k : Kept) (count register : ℕ) (last : Bool) (r : Step) : Type 0 where
   pub next : next_in r ≡ grows_to k.id (before_of k) k.toggle count k.sum register last

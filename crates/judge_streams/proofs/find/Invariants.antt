@@ -1,11 +1,8 @@
 use mathlib.Core.Path.{◌≡◌}
-use Prim.Native.Nat.{ℕ, ◌+◌, ◌-◌, ◌%◌, ◌≤◌, ◌<◌}
+use Prim.Native.Nat.{ℕ, ◌+◌, ◌%◌, ◌<◌}
 use lib.ListN.{get_or}
 use Rattle.judge_streams.specs.inside.Table.{ids_at}
 use Rattle.judge_streams.proofs.find.Given as goal
 
 abbrev pub invariant-loop-j : goal.invariant-loop-j
-invariant-loop-j l = (l.j ≤ l.n) × ((i : ℕ) → i < l.j → get_or l.table (ids_at + i) 0 % 16777216 ≡ l.key → ⊥)
-
-abbrev pub decreases-loop-j : goal.decreases-loop-j
-decreases-loop-j l = l.n - l.j
+invariant-loop-j l = (i : ℕ) → i < l.j → get_or l.table (ids_at + i) 0 % 16777216 ≡ l.key → ⊥

@@ -1,5 +1,5 @@
 -- RULES 19.8: the table of streams in words, as the pass with little memory sees it.
-use Rattle.std.specs.Prelude.{◌≡◌, false, List, ℕ, suc, ◌+◌, ◌*◌, ◌/◌, ◌%◌, ◌≤◌, ◌<◌, ltb, length, get_or}
+use Rattle.std.specs.Prelude.{◌≡◌, false, Option, Some, None, Result, Ok, Err, List, ℕ, suc, ◌+◌, ◌*◌, ◌/◌, ◌%◌, ◌≤◌, ◌<◌, ltb, length, get_or}
 use Rattle.std.proofs.Math.Option.{none}
 use Rattle.bits.specs.Tabulate.{tabulate}
 use Rattle.judge_rules.specs.Good.{add}
@@ -7,17 +7,12 @@ use Rattle.judge_rules.specs.Limits.{streams_max}
 use Rattle.judge_rules.specs.Verdict.{Seen, Entry, streams, state_of, Judging, on, off, entered}
 use Rattle.judge_rules.specs.inside.Brief.{Brief, rests, goes_on}
 use Rattle.judge_stream.specs.inside.Kept as frame
-use Rattle.judge_stream.specs.inside.Kept.{brief_in, InRange, Passed}
+use Rattle.judge_stream.specs.inside.Kept.{Step, brief_in, InRange, Passed}
+use Rattle.judge_stream.specs.declared.Condition.{Condition}
 use Rattle.judge_stream.specs.declared.Kept.{Kept}
 use Rattle.judge_stream.specs.declared.Seen as declared
-use Rattle.judge_stream.specs.declared.Step.{Step}
-use Rattle.judge_stream.specs.declared.Step.TheVariants.{Goes, Refuses}
 use Rattle.rules.specs.Frame.{Stream, stream_of, is_anonymous}
 use Rattle.rules.specs.Tests.{pick, bit}
-use Rattle.judge_streams.specs.declared.Turn.{Turn}
-use Rattle.judge_streams.specs.declared.Turn.TheVariants.{On, Off}
-use Rattle.judge_streams.specs.declared.Expected.{Expected}
-use Rattle.judge_streams.specs.declared.Expected.TheVariants.{New, Known}
 
 -- ── the words ──
 
@@ -78,22 +73,26 @@ pub record Stored (t : List ℕ) (j n : ℕ) (k : Kept) (t' : List ℕ) : Type 0
   pub others : (i : ℕ) → i < streams_max → (i ≡ j → ⊥) → kept_at t' i ≡ kept_at t i
 
 abbrev pub Ranged : Step → Type 0
-Ranged (Goes k) = InRange k
-Ranged (Refuses n) = Unit {0}
+Ranged (Ok k) = InRange k
+Ranged (Err e) = Unit {0}
+
+-- what a frame does: nothing is wrong so far, or the condition that it fails
+abbrev pub Turn : Type 0
+Turn = Result (Unit {0}) Condition
 
 abbrev pub Puts : List ℕ → ℕ → ℕ → Step → Turn → List ℕ → Type 0
-Puts t j n (Goes k) r t' = (r ≡ On) × Stored t j n k t'
-Puts t j n (Refuses number) r t' = (r ≡ Off number) × (t' ≡ t)
+Puts t j n (Ok k) r t' = (r ≡ Ok tt) × Stored t j n k t'
+Puts t j n (Err e) r t' = (r ≡ Err e) × (t' ≡ t)
 
 -- ── one frame ──
 
 abbrev pub told : ℕ → Turn → List ℕ → Judging Brief
-told i On t = on (suc i) (entries_of t)
-told i (Off n) t = off n i
+told i (Ok u) t = on (suc i) (entries_of t)
+told i (Err e) t = off e.0 i
 
 abbrev pub Stays : Turn → List ℕ → List ℕ → Type 0
-Stays On t t' = Unit {0}
-Stays (Off n) t t' = t' ≡ t
+Stays (Ok u) t t' = Unit {0}
+Stays (Err e) t t' = t' ≡ t
 
 -- frame i does what J says; one that fails leaves the table as it was
 pub record Turns (J : ℕ → Judging Brief) (t : List ℕ) (r : Turn) (t' : List ℕ) : Type 0 where
@@ -113,6 +112,6 @@ pub record Enters (v : declared.Seen) (p : List ℕ) : Type 0 where
   pub named : is_anonymous v.id ≡ false
 
 -- what is kept of a stream
-abbrev pub expected_in : Expected → Brief
-expected_in New = rests none
-expected_in (Known k) = brief_in k
+abbrev pub expected_in : Option Kept → Brief
+expected_in None = rests none
+expected_in (Some k) = brief_in k

@@ -4,17 +4,11 @@ use Rattle.dsdl_given.specs.inside.Places.{definition_at}
 use Rattle.dsdl_text.specs.Text.{same}
 use native.Mathlib.Omega.{arith}
 use mathlib.Core.Bool.{true, false}
-use mathlib.Core.Path.{refl, sym, ap₂, ◌∙◌}
+use mathlib.Core.Path.{sym, ap₂, ◌∙◌}
 use Rattle.dsdl_given.proofs.oversized.is_again.Goals as goal
 
 pub name-name-requires : goal.name-name-requires
 name-name-requires c = c.requires.1.holds c.args.i c.requires.0
-
-pub overflow_add-j : goal.overflow_add-j
-overflow_add-j c = omega arith
-
-pub loop-j-init : goal.loop-j-init
-loop-j-init c = refl
 
 pub name-requires : goal.name-requires
 name-requires c = c.requires.1.holds c.loop-j.j c.loop-j-test.true
@@ -24,12 +18,6 @@ returns-then-same c =
     let a = c.args in
     let d = definition_at a.source.now a.bounds in
     sym (among-turn d c.loop-j.j a.n (d a.i).name true (omega arith) (sym (c.same.ensures ∙ ap₂ same c.name-name.ensures c.name.ensures) ∙ c.if-same.true)) ∙ c.loop-j.invariant
-
-pub overflow_add-j-in-loop-j : goal.overflow_add-j-in-loop-j
-overflow_add-j-in-loop-j c = omega arith
-
-pub loop-j-smaller : goal.loop-j-smaller
-loop-j-smaller c = omega arith
 
 pub loop-j-preserved : goal.loop-j-preserved
 loop-j-preserved c =

@@ -20,12 +20,6 @@ returns-then-is_again c =
     let a = c.args in
     sym (twice-turn (definition_at a.source.now a.bounds) c.loop-i.i a.n true (omega arith) (sym c.is_again.ensures ∙ c.if-is_again.true)) ∙ c.loop-i.invariant
 
-pub overflow_add-i : goal.overflow_add-i
-overflow_add-i c = omega arith
-
-pub loop-i-smaller : goal.loop-i-smaller
-loop-i-smaller c = omega arith
-
 pub loop-i-preserved : goal.loop-i-preserved
 loop-i-preserved c =
     let a = c.args in

@@ -7,6 +7,3 @@ use Rattle.dsdl_given.proofs.oversized.name_twice.Given as goal
 
 abbrev pub invariant-loop-i : goal.invariant-loop-i
 invariant-loop-i l = name_twice (tabulate (definition_at l.source l.bounds) l.i (l.n - l.i)) ≡ name_twice (given l.source l.bounds l.n)
-
-abbrev pub decreases-loop-i : goal.decreases-loop-i
-decreases-loop-i l = l.n - l.i

@@ -7,25 +7,16 @@ use mathlib.Core.Path.{◌≡◌, sym, ap, ◌∙◌}
 use Rattle.dsdl_nesting.proofs.marks.all.Goals as goal
 
 pub loop-i-init : goal.loop-i-init
-loop-i-init c = let e : c.args.n - 0 ≡ c.args.n = omega arith in (omega arith, ap (every _ 0) e)
-
-pub bounds-marks-i : goal.bounds-marks-i
-bounds-marks-i c = omega arith
+loop-i-init c = let e : c.args.n - 0 ≡ c.args.n = omega arith in ap (every _ 0) e
 
 pub returns-then-not-marks-i : goal.returns-then-not-marks-i
 returns-then-not-marks-i c =
-    sym (sym c.loop-i.invariant.1 ∙ off _ c.loop-i.i c.args.n (omega arith) c.if-not-marks-i.true)
-
-pub overflow_add-i : goal.overflow_add-i
-overflow_add-i c = omega arith
-
-pub loop-i-smaller : goal.loop-i-smaller
-loop-i-smaller c = omega arith
+    sym (sym c.loop-i.invariant ∙ off _ c.loop-i.i c.args.n (omega arith) c.if-not-marks-i.true)
 
 pub loop-i-preserved : goal.loop-i-preserved
 loop-i-preserved c =
-    (omega arith, sym (on _ c.loop-i.i c.args.n (omega arith) c.if-not-marks-i.false) ∙ c.loop-i.invariant.1)
+    sym (on _ c.loop-i.i c.args.n (omega arith) c.if-not-marks-i.false) ∙ c.loop-i.invariant
 
 pub returns : goal.returns
 returns c =
-    sym (sym c.loop-i.invariant.1 ∙ done _ c.loop-i.i c.args.n (omega arith))
+    sym (sym c.loop-i.invariant ∙ done _ c.loop-i.i c.args.n (omega arith))

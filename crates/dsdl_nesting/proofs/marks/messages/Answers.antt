@@ -9,26 +9,15 @@ use Rattle.dsdl.specs.Definition.{lines_of, is_service}
 use Rattle.dsdl_nesting.proofs.marks.messages.Goals as goal
 
 pub loop-i-init : goal.loop-i-init
-loop-i-init c = (omega arith, none _ _ _ _ (omega (arith, c.requires.few)))
+loop-i-init c = none _ _ _ _ (omega (arith, c.requires.few))
 
 pub text-requires : goal.text-requires
 text-requires c = c.requires.holds c.loop-i.i c.loop-i-test.true
 
-pub bounds-r-i : goal.bounds-r-i
-bounds-r-i c = omega (arith, c.requires.few)
-
-pub overflow_add-i : goal.overflow_add-i
-overflow_add-i c = omega arith
-
-pub loop-i-smaller : goal.loop-i-smaller
-loop-i-smaller c = omega arith
-
 pub loop-i-preserved : goal.loop-i-preserved
-loop-i-preserved c = (
-  omega arith,
-  one_more _ _ _ _ (omega (arith, c.requires.few)) c.loop-i.i c.loop-i.r _ c.loop-i-test.true c.loop-i.invariant.1
-      (ap not (c.is_service.ensures ∙ ap (λ (t : List ℕ). is_service (lines_of t)) c.text.ensures.0)),
-)
+loop-i-preserved c =
+    one_more _ _ _ _ (omega (arith, c.requires.few)) c.loop-i.i c.loop-i.r _ c.loop-i-test.true c.loop-i.invariant
+    (ap not (c.is_service.ensures ∙ ap (λ (t : List ℕ). is_service (lines_of t)) c.text.ensures.0))
 
 pub returns : goal.returns
-returns c = let e : c.loop-i.i ≡ c.args.n = omega arith in rw e at c.loop-i.invariant.1
+returns c = let e : c.loop-i.i ≡ c.args.n = omega arith in rw e at c.loop-i.invariant

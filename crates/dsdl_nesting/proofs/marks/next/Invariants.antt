@@ -1,11 +1,7 @@
 use Rattle.dsdl_nesting.specs.inside.Kept.{Kept}
 use Rattle.dsdl_nesting.specs.inside.Sets.{row_holds}
-use Prim.Native.Nat.{◌-◌, ◌≤◌}
 use mathlib.Core.Bool.{true, false}
 use Rattle.dsdl_nesting.proofs.marks.next.Given as goal
 
 abbrev pub invariant-loop-i : goal.invariant-loop-i
-invariant-loop-i l = (l.i ≤ l.n) × Kept false (row_holds l.sets l.marks) true l.n l.i l.r
-
-abbrev pub decreases-loop-i : goal.decreases-loop-i
-decreases-loop-i l = l.n - l.i
+invariant-loop-i l = Kept false (row_holds l.sets l.marks) true l.n l.i l.r

@@ -5,20 +5,14 @@ use mathlib.Core.Path.{◌≡◌}
 use Rattle.dsdl_nesting.proofs.sets.all.Goals as goal
 
 pub loop-i-init : goal.loop-i-init
-loop-i-init c = (omega arith, no_rows _ _ _ (omega (arith, c.requires.few)))
+loop-i-init c = no_rows _ _ _ (omega (arith, c.requires.few))
 
 pub of-requires : goal.of-requires
 of-requires c = (c.loop-i-test.true, c.requires)
 
-pub overflow_add-i : goal.overflow_add-i
-overflow_add-i c = omega arith
-
-pub loop-i-smaller : goal.loop-i-smaller
-loop-i-smaller c = omega arith
-
 pub loop-i-preserved : goal.loop-i-preserved
 loop-i-preserved c =
-    (omega arith, one-row _ _ _ (omega (arith, c.requires.few)) c.loop-i.i c.loop-i.sets _ c.loop-i-test.true c.loop-i.invariant.1 c.of.ensures)
+    one-row _ _ _ (omega (arith, c.requires.few)) c.loop-i.i c.loop-i.sets _ c.loop-i-test.true c.loop-i.invariant c.of.ensures
 
 pub returns : goal.returns
-returns c = let e : c.loop-i.i ≡ c.args.n = omega arith in rw e at c.loop-i.invariant.1
+returns c = let e : c.loop-i.i ≡ c.args.n = omega arith in rw e at c.loop-i.invariant

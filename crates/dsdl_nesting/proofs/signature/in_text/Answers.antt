@@ -10,15 +10,6 @@ loop-bounds-init c = (omega arith, refl)
 pub end-end-requires : goal.end-end-requires
 end-end-requires c = c.loop-bounds.invariant.0
 
-pub slice_bounds-in_line-count : goal.slice_bounds-in_line-count
-slice_bounds-in_line-count c = omega arith
-
-pub slice_bounds-in_line-start : goal.slice_bounds-in_line-start
-slice_bounds-in_line-start c = omega arith
-
-pub slice_bounds-in_line-end : goal.slice_bounds-in_line-end
-slice_bounds-in_line-end c = omega arith
-
 pub in_line-h-requires : goal.in_line-h-requires
 in_line-h-requires c = c.requires
 
@@ -27,12 +18,6 @@ returns-then-end-text c =
     let a = c.args in
     last a.space.now a.text.now c.loop-bounds.at c.end-end.result c.end-end.ensures.0 _ (extended-goes _) c.loop-bounds.h c.in_line-h.result c.in_line-h.ensures (omega arith)
     ∙ c.loop-bounds.invariant.1
-
-pub next-at-requires : goal.next-at-requires
-next-at-requires c = omega arith
-
-pub loop-bounds-smaller : goal.loop-bounds-smaller
-loop-bounds-smaller c = omega (arith, c.next-at.ensures.1, c.loop-bounds.invariant.0)
 
 pub loop-bounds-preserved : goal.loop-bounds-preserved
 loop-bounds-preserved c =

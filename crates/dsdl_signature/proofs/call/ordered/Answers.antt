@@ -1,7 +1,7 @@
 -- `call::ordered` meets its contract.
 use Rattle.dsdl_signature.proofs.Answers.{missing, deep, no_room, no-places, done}
 use Rattle.dsdl_signature.proofs.Faults.{named}
-use Rattle.dsdl_signature.specs.declared.answer.Answer.TheVariants.{Done}
+use Rattle.std.specs.Prelude.{Ok}
 use Rattle.dsdl_signature.specs.Call.{returned}
 use Rattle.dsdl_text.proofs.Choices.{by}
 use native.Mathlib.Omega.{arith}
@@ -43,5 +43,5 @@ write-requires c =
 pub returns : goal.returns
 returns c =
     let a = c.args in
-    ap₂ (λ (x y : List ℕ). returned Done x y) c.write.ensures.0 c.write.ensures.1
+    ap₂ (λ (x y : List ℕ). returned (Ok tt) x y) c.write.ensures.0 c.write.ensures.1
     ∙ done a.source.now a.bounds a.n a.out.now a.records.now (by c.all_given.ensures c.if-not-all_given.false) (by c.all_within.ensures c.if-not-all_within.false) c.ends-ends.result c.ends-ends.ensures c.if-out-ends.false c.if-records-n.false

@@ -1,10 +1,9 @@
 -- `call::signatures` meets its contract.
 use Rattle.dsdl_signature.proofs.Answers.{too_large, at-fault, no-fault}
-use Rattle.dsdl_signature.specs.inside.Fault.{placed}
 use Rattle.dsdl_given.proofs.Sizes.{at-most, no-twice, all-kept}
 use Rattle.dsdl_text.proofs.Choices.{by}
 use native.Mathlib.Omega.{arith}
-use mathlib.Core.Path.{sym, ap, ◌∙◌}
+use mathlib.Core.Path.{sym, ◌∙◌}
 use Rattle.dsdl_signature.proofs.call.signatures.Goals as goal
 
 pub returns-then-is_oversized : goal.returns-then-is_oversized
@@ -28,16 +27,16 @@ ordered-requires c =
     let fine = by c.is_oversized.ensures c.if-is_oversized.false in
     record {
       inside = (all-kept a.source.now a.lengths.now fine c.bounds-bounds.result c.bounds-bounds.ensures, no-twice a.source.now a.lengths.now fine c.bounds-bounds.result c.bounds-bounds.ensures);
-      n_value = sym c.first.ensures ∙ ap placed c.in-Nowhere.is;
+      n_value = sym c.in_default.ensures;
     }
 
-pub returns-in-At : goal.returns-in-At
-returns-in-At c =
+pub returns-in-Some : goal.returns-in-Some
+returns-in-Some c =
     let a = c.args in
-    at-fault a.source.now a.lengths.now a.out.now a.records.now (by c.is_oversized.ensures c.if-is_oversized.false) c.bounds-bounds.result c.bounds-bounds.ensures _ _ (ap placed (sym c.in-At.is) ∙ c.first.ensures)
+    at-fault a.source.now a.lengths.now a.out.now a.records.now (by c.is_oversized.ensures c.if-is_oversized.false) c.bounds-bounds.result c.bounds-bounds.ensures _ _ c.in-Some.ensures
 
-pub returns-in-Nowhere : goal.returns-in-Nowhere
-returns-in-Nowhere c =
+pub returns : goal.returns
+returns c =
     let a = c.args in
     c.ordered.ensures
-    ∙ no-fault a.source.now a.lengths.now a.out.now a.records.now (by c.is_oversized.ensures c.if-is_oversized.false) c.bounds-bounds.result c.bounds-bounds.ensures (ap placed (sym c.in-Nowhere.is) ∙ c.first.ensures)
+    ∙ no-fault a.source.now a.lengths.now a.out.now a.records.now (by c.is_oversized.ensures c.if-is_oversized.false) c.bounds-bounds.result c.bounds-bounds.ensures c.in_default.ensures

@@ -2,7 +2,6 @@
 use Rattle.dsdl_signature.proofs.Faults.{passes, stops, ends}
 use Rattle.dsdl_given.specs.Given.{fault_from}
 use Rattle.dsdl_given.specs.inside.Places.{definition_at, given}
-use Rattle.dsdl_signature.specs.inside.Fault.{told}
 use Rattle.dsdl.specs.Definition.{verdict}
 use native.Mathlib.Nat.{sub-zero}
 use native.Mathlib.Omega.{arith}
@@ -22,27 +21,15 @@ text-requires c = c.requires.holds c.loop-i.i c.loop-i-test.true
 pub judge-requires : goal.judge-requires
 judge-requires c = c.text.ensures.1
 
-pub overflow_add-i : goal.overflow_add-i
-overflow_add-i c = omega arith
-
-pub loop-i-smaller : goal.loop-i-smaller
-loop-i-smaller c = omega arith
-
 pub loop-i-preserved : goal.loop-i-preserved
 loop-i-preserved c =
     let a = c.args in
-    sym (passes (definition_at a.source.now a.bounds) c.loop-i.i a.n (omega arith) (ap told (sym c.in-Good.is) ∙ (c.judge.ensures ∙ ap₂ verdict c.name.ensures c.text.ensures.0))) ∙ c.loop-i.invariant
+    sym (passes (definition_at a.source.now a.bounds) c.loop-i.i a.n (omega arith) (c.in_default.ensures ∙ ap₂ verdict c.name.ensures c.text.ensures.0)) ∙ c.loop-i.invariant
 
-pub overflow_cast-result : goal.overflow_cast-result
-overflow_cast-result c = omega (arith, c.requires.few)
-
-pub overflow_add-result : goal.overflow_add-result
-overflow_add-result c = omega (arith, c.requires.few)
-
-pub returns-in-Faulty : goal.returns-in-Faulty
-returns-in-Faulty c =
+pub returns-in-Err : goal.returns-in-Err
+returns-in-Err c =
     let a = c.args in
-    stops (definition_at a.source.now a.bounds) c.loop-i.i a.n c.in-Faulty.line (omega arith) (ap told (sym c.in-Faulty.is) ∙ (c.judge.ensures ∙ ap₂ verdict c.name.ensures c.text.ensures.0)) ∙ c.loop-i.invariant
+    stops (definition_at a.source.now a.bounds) c.loop-i.i a.n c.in-Err.line.0 (omega arith) (c.in-Err.ensures ∙ ap₂ verdict c.name.ensures c.text.ensures.0) ∙ c.loop-i.invariant
 
 pub returns : goal.returns
 returns c =

@@ -7,6 +7,3 @@ use Rattle.dsdl_signature.proofs.fault.first.Given as goal
 
 abbrev pub invariant-loop-i : goal.invariant-loop-i
 invariant-loop-i l = fault_from (l.i + 1) (tabulate (definition_at l.source l.bounds) l.i (l.n - l.i)) ≡ fault_from 1 (given l.source l.bounds l.n)
-
-abbrev pub decreases-loop-i : goal.decreases-loop-i
-decreases-loop-i l = l.n - l.i

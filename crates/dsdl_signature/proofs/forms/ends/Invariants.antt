@@ -1,11 +1,8 @@
 use Rattle.dsdl_signature.specs.inside.Written.{Ends}
 use lib.ListN.{length, get_or}
-use Prim.Native.Nat.{◌*◌, ◌-◌, ◌^◌, ◌≤◌}
+use Prim.Native.Nat.{◌*◌, ◌^◌, ◌≤◌}
 use mathlib.Core.Path.{◌≡◌}
 use Rattle.dsdl_signature.proofs.forms.ends.Given as goal
 
 abbrev pub invariant-loop-i : goal.invariant-loop-i
-invariant-loop-i l = ((l.i ≤ l.n) × (length l.ends ≡ 9)) × ((l.at ≤ l.i * 2 ^ 19) × ((l.at ≡ get_or l.ends l.i 0) × Ends l.source l.bounds l.ends l.i))
-
-abbrev pub decreases-loop-i : goal.decreases-loop-i
-decreases-loop-i l = l.n - l.i
+invariant-loop-i l = (length l.ends ≡ 9) × (l.at ≤ l.i * 2 ^ 19) × (l.at ≡ get_or l.ends l.i 0) × Ends l.source l.bounds l.ends l.i

@@ -18,23 +18,11 @@ has_room source bounds ends out n i e h = room (λ (j : ℕ). length (form_at so
 
 pub loop-i-init : goal.loop-i-init
 unfolding joined
-loop-i-init c = ((omega arith, refl), (refl, (refl, λ j h. absurd (omega arith))))
+loop-i-init c = (refl, refl, refl, λ j h. absurd (omega arith))
 
-pub bounds-ends-i : goal.bounds-ends-i
-bounds-ends-i c = omega (arith, c.requires.0.few)
-
-pub put-h-requires : goal.put-h-requires
-put-h-requires c =
+pub put-requires : goal.put-requires
+put-requires c =
     (c.requires.0.holds c.loop-i.i c.loop-i-test.true, omega (arith, has_room c.args.source.now c.args.bounds c.args.ends c.args.out.now c.args.n c.loop-i.i c.requires.1 c.loop-i-test.true))
-
-pub bounds-hashes-i : goal.bounds-hashes-i
-bounds-hashes-i c = omega (arith, c.requires.0.few)
-
-pub overflow_add-i : goal.overflow_add-i
-overflow_add-i c = omega arith
-
-pub loop-i-smaller : goal.loop-i-smaller
-loop-i-smaller c = omega arith
 
 pub loop-i-preserved : goal.loop-i-preserved
 loop-i-preserved c =
@@ -42,19 +30,16 @@ loop-i-preserved c =
     let i = c.loop-i.i in
     let f = form_at a.source.now a.bounds in
     let v = c.loop-i.invariant in
+    let r = has_room a.source.now a.bounds a.ends a.out.now a.n i c.requires.1 c.loop-i-test.true in
     let g : i < length c.loop-i.hashes = omega (arith, c.requires.0.few) in (
-      (omega arith, length-set c.loop-i.hashes i c.put-h.result ∙ v.0.1),
-      (
-        ap length c.put-h.ensures.0 ∙ (length-splice c.loop-i.out (get_or a.ends i 0) (f i) (omega (arith, has_room c.args.source.now c.args.bounds c.args.ends c.args.out.now c.args.n c.loop-i.i c.requires.1 c.loop-i-test.true)) ∙ v.1.0),
-        (
-          one_written f a.out.now c.loop-i.out c.put-h.new.out (get_or a.ends i 0) i (joined_length f a.ends a.n c.requires.1.0 i (omega arith)) (has_room c.args.source.now c.args.bounds c.args.ends c.args.out.now c.args.n c.loop-i.i c.requires.1 c.loop-i-test.true) v.1.1.0 c.put-h.ensures.0,
-          one-stored (λ (j : ℕ). hash_from 0 (f j)) c.loop-i.hashes i c.put-h.result g v.1.1.1 c.put-h.ensures.1,
-        ),
-      ),
+      length-set c.loop-i.hashes i c.put.result ∙ v.0,
+      ap length c.put.ensures.0 ∙ (length-splice c.loop-i.out (get_or a.ends i 0) (f i) (omega arith) ∙ v.1),
+      one_written f a.out.now c.loop-i.out c.put.new.out (get_or a.ends i 0) i (joined_length f a.ends a.n c.requires.1.0 i (omega arith)) r v.2 c.put.ensures.0,
+      one-stored (λ (j : ℕ). hash_from 0 (f j)) c.loop-i.hashes i c.put.result g v.3 c.put.ensures.1,
     )
 
 pub returns : goal.returns
 returns c =
     let a = c.args in
     let q : c.loop-i.i ≡ a.n = omega arith in
-    (c.loop-i.invariant.1.1.0 ∙ ap (λ (k : ℕ). splice a.out.now 0 (joined (form_at a.source.now a.bounds) 0 k)) q, λ j h. c.loop-i.invariant.1.1.1 j (omega arith))
+    (c.loop-i.invariant.2 ∙ ap (λ (k : ℕ). splice a.out.now 0 (joined (form_at a.source.now a.bounds) 0 k)) q, λ j h. c.loop-i.invariant.3 j (omega arith))

@@ -12,34 +12,7 @@ use Rattle.dsdl_signature.proofs.records.write.Goals as goal
 
 pub loop-i-init : goal.loop-i-init
 unfolding joined
-loop-i-init c = (omega arith, (refl, refl))
-
-pub overflow_add-j : goal.overflow_add-j
-overflow_add-j c = omega arith
-
-pub overflow_mul-i : goal.overflow_mul-i
-overflow_mul-i c = omega arith
-
-pub bounds-ends-j : goal.bounds-ends-j
-bounds-ends-j c = omega arith
-
-pub bounds-ends-i : goal.bounds-ends-i
-bounds-ends-i c = omega arith
-
-pub overflow_sub-ends : goal.overflow_sub-ends
-overflow_sub-ends c = c.requires.1.1 c.loop-i.i c.loop-i-test.true
-
-pub bounds-signatures-i : goal.bounds-signatures-i
-bounds-signatures-i c = omega arith
-
-pub put-requires : goal.put-requires
-put-requires c = omega arith
-
-pub overflow_add-i : goal.overflow_add-i
-overflow_add-i c = omega arith
-
-pub loop-i-smaller : goal.loop-i-smaller
-loop-i-smaller c = omega arith
+loop-i-init c = (refl, refl)
 
 pub loop-i-preserved : goal.loop-i-preserved
 loop-i-preserved c =
@@ -47,15 +20,12 @@ loop-i-preserved c =
     let i = c.loop-i.i in
     let f = record_at a.ends a.signatures in
     let e : (j : ℕ) → length (f j) ≡ record_size = λ j. record-length (get_or a.ends (j + 1) 0 - get_or a.ends j 0) (get_or a.signatures j 0) in (
-      omega arith,
-      (
-        ap length c.put.ensures ∙ (length-splice c.loop-i.records (i * record_size) (f i) (omega (arith, e i)) ∙ c.loop-i.invariant.1.0),
-        one_written f a.records.now c.loop-i.records c.put.new.records (i * record_size) i (joined-fixed f record_size i e) (omega (arith, e i)) c.loop-i.invariant.1.1 c.put.ensures,
-      ),
+      ap length c.put.ensures ∙ (length-splice c.loop-i.records (i * record_size) (f i) (omega (arith, e i)) ∙ c.loop-i.invariant.0),
+      one_written f a.records.now c.loop-i.records c.put.new.records (i * record_size) i (joined-fixed f record_size i e) (omega (arith, e i)) c.loop-i.invariant.1 c.put.ensures,
     )
 
 pub returns : goal.returns
 returns c =
     let a = c.args in
     let q : c.loop-i.i ≡ a.n = omega arith in
-    c.loop-i.invariant.1.1 ∙ ap (λ (k : ℕ). splice a.records.now 0 (joined (record_at a.ends a.signatures) 0 k)) q
+    c.loop-i.invariant.1 ∙ ap (λ (k : ℕ). splice a.records.now 0 (joined (record_at a.ends a.signatures) 0 k)) q

@@ -5,26 +5,25 @@ use Rattle.judge_capture.proofs.Walk.{part-long, walk_none, walk-on, walk-off, w
 use Rattle.judge_capture.proofs.records.feed.Goals as goal
 
 pub loop-i-init : goal.loop-i-init
-loop-i-init c = (omega arith, (c.requires.1, walk_none (setup_of c.args.state.now) c.args.table.now c.args.records.now))
+loop-i-init c = (c.requires.1, walk_none (setup_of c.args.state.now) c.args.table.now c.args.records.now)
 
 pub turn-requires : goal.turn-requires
 turn-requires c =
     let a = c.args in
-    (c.requires.0, (c.loop-i.invariant.1.0, part-long (setup_of a.state.now) a.table.now a.records.now c.loop-i.i c.loop-i.table c.loop-i.invariant.1.1 (omega arith)))
+    (c.requires.0, (c.loop-i.invariant.0, part-long (setup_of a.state.now) a.table.now a.records.now c.loop-i.i c.loop-i.table c.loop-i.invariant.1 (omega arith)))
 
 pub loop-i-preserved : goal.loop-i-preserved
 loop-i-preserved c =
     let a = c.args in
-    let h = rw c.in-On.is at c.turn.ensures in
-    (omega arith, (h.table, walk-on (setup_of a.state.now) a.table.now a.records.now c.loop-i.i c.loop-i.table c.loop-i.invariant.1.1 c.turn.new.table h))
+    let h = c.in_default.ensures in
+    (h.table, walk-on (setup_of a.state.now) a.table.now a.records.now c.loop-i.i c.loop-i.table c.loop-i.invariant.1 c.turn.new.table h)
 
-pub returns-in-Off : goal.returns-in-Off
-returns-in-Off c =
+pub returns-in-Err : goal.returns-in-Err
+returns-in-Err c =
     let a = c.args in
-    walk-off (setup_of a.state.now) a.table.now a.records.now c.loop-i.i c.loop-i.table c.loop-i.invariant.1.1 (omega arith) _ c.turn.new.table
-    (rw c.in-Off.is at c.turn.ensures)
+    walk-off (setup_of a.state.now) a.table.now a.records.now c.loop-i.i c.loop-i.table c.loop-i.invariant.1 (omega arith) _ c.turn.new.table c.in-Err.ensures
 
 pub returns : goal.returns
 returns c =
     let a = c.args in
-    walk-all (setup_of a.state.now) a.table.now a.records.now c.loop-i.i c.loop-i.table c.loop-i.invariant.1.1 (omega arith) c.loop-i.invariant.1.0
+    walk-all (setup_of a.state.now) a.table.now a.records.now c.loop-i.i c.loop-i.table c.loop-i.invariant.1 (omega arith) c.loop-i.invariant.0
