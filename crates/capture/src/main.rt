@@ -3,7 +3,7 @@
 // ../../tecelume throws it away.
 #![tactic(auto)]
 
-ghost use Rattle.std.specs.Prelude.{◌≡◌, ◌≤◌, length};
+ghost use Rattle.std.specs.Prelude.{◌≡◌, ◌≤◌, length, IfSome, IfOk};
 
 use capture_convert::{records, trailer};
 use console::{Console, Progress};
@@ -17,41 +17,25 @@ const OUT: usize = 688128;
 // More lines than a capture's count can tell.
 const LINES_OVER: u64 = 0x1_0000_0000;
 
-// After a block: whether to go on, and if not, whether all is told; how many bytes of an unfinished line are in front of the buffer; the lines so far,
-// and the checksum of their records.
-#[derive(Drop)]
+// After a block: how many bytes of an unfinished line are in front of the buffer; the lines so far, and the checksum of their records.
+#[derive(Clone, Copy)]
 struct After {
-    more: bool,
-    told: bool,
     kept: usize,
     count: u64,
     sum: u16,
 }
 
-fn stop(told: bool, kept: usize, count: u64, sum: u16) -> After
-    ensures { result.kept ≡ kept }
-{
-    After {
-        more: false,
-        told: told,
-        kept: kept,
-        count: count,
-        sum: sum,
-    }
-}
+// A refusal or a failure, whose line is on standard error.
+#[derive(Clone, Copy)]
+struct Told;
 
 // The bytes from `from` up to `to` are moved to the front; how many.
 fn keep(block: &mut [u8], from: usize, to: usize) -> usize
     requires { (from ≤ to) × (to ≤ length block.old) }
     ensures { result ≤ to }
 {
-    let mut i = 0;
-    while i < to - from {
-        let b = block[from + i];
-        block[i] = b;
-        i += 1;
-    }
-    i
+    block.copy_within(from..to, 0);
+    to - from
 }
 
 // 18, with the line.
@@ -68,43 +52,44 @@ fn stored(console: &mut Console, records: &[u8], count: u64) -> bool {
 }
 
 // The lines among the first n bytes of the block: their records are written, and what follows them is kept.
-fn feed(console: &mut Console, block: &mut [u8], n: usize, out: &mut [u8], s: After) -> After
+fn feed(console: &mut Console, block: &mut [u8], n: usize, out: &mut [u8], s: After) -> Result<After, Told>
     requires { (n ≤ 32768) × ((length block.old ≡ 32768) × (length out.old ≡ 688128)) }
-    ensures { result.kept ≤ 32768 }
+    ensures { IfOk result (λ s. s.kept ≤ 32768) }
 {
-    let r = records::records(&block[0..n], out);
-    let from = r.from;
-    let size = r.count * capture_record::SIZE;
-    let count = s.count.wrapping_add(r.count as u64);
-    if !r.ok {
-        ill_formed(console, count.wrapping_add(1));
-        return stop(true, 0, count, s.sum);
-    }
-    let good = stored(console, &out[0..size], count);
-    let sum = checksum::crc16::over(s.sum, &out[0..size]);
-    After {
-        more: good,
-        told: !good,
-        kept: keep(block, from, n),
-        count: count,
-        sum: sum,
+    match records::records(&block[0..n], out) {
+        Err(lines) => {
+            ill_formed(console, s.count.wrapping_add(lines as u64).wrapping_add(1));
+            Err(Told)
+        }
+        Ok(r) => {
+            let size = r.count * capture_record::SIZE;
+            let count = s.count.wrapping_add(r.count as u64);
+            if !stored(console, &out[0..size], count) {
+                return Err(Told);
+            }
+            Ok(After {
+                kept: keep(block, r.from, n),
+                count,
+                sum: checksum::crc16::over(s.sum, &out[0..size]),
+            })
+        }
     }
 }
 
-// One read.
-fn turn(console: &mut Console, block: &mut [u8], out: &mut [u8], s: After) -> After
+// One read; None at the end of the input.
+fn turn(console: &mut Console, block: &mut [u8], out: &mut [u8], s: After) -> Result<Option<After>, Told>
     requires { (s.kept ≤ 32768) × ((length block.old ≡ 32768) × (length out.old ≡ 688128)) }
-    ensures { result.kept ≤ 32768 }
+    ensures { IfOk result (λ o. IfSome o (λ s. s.kept ≤ 32768)) }
 {
     let kept = s.kept;
     let Some(got) = console.read(&mut block[kept..]) else {
-        return stop(true, kept, s.count, s.sum);
+        return Err(Told);
     };
-    let n = kept + got;
-    if n == kept {
-        return stop(false, kept, s.count, s.sum);
+    if got == 0 {
+        return Ok(None);
     }
-    feed(console, block, n, out, s)
+    let after = feed(console, block, kept + got, out, s)?;
+    Ok(Some(after))
 }
 
 // After the last block: an unfinished line, too many lines, or the trailer.
@@ -129,22 +114,20 @@ fn run(console: &mut Console, progress: &mut Progress, block: &mut [u8], out: &m
     requires { (length block.old ≡ 32768) × (length out.old ≡ 688128) }
 {
     let mut s = After {
-        more: true,
-        told: false,
         kept: 0,
         count: 0,
         sum: 0xFFFF,
     };
-    let mut turns = u64::MAX;
-    while turns > 0 && s.more {
-        s = turn(console, block, out, s);
-        turns -= 1;
-        if turns % 2048 == 0 {
-            progress.tell(u64::MAX.wrapping_sub(turns) / 32);
+    for i in 0..u64::MAX {
+        let after = turn(console, block, out, s);
+        if i % 2048 == 2046 {
+            progress.tell((i + 1) / 32);
         }
-    }
-    if s.told {
-        return;
+        match after {
+            Ok(Some(next)) => s = next,
+            Ok(None) => break,
+            Err(Told) => return,
+        }
     }
     end(console, out, s);
 }

@@ -1,6 +1,6 @@
 -- What the calls and the programs use of the walks' contracts.
 use mathlib.Core.Path.{◌≡◌, sym, ap, ap₂, ◌∙◌}
-use mathlib.Core.Bool.{Bool, true, false}
+use mathlib.Core.Bool.{true, false}
 use mathlib.Core.List.{List, ◌++◌}
 use mathlib.Core.Option.{Option, none, some}
 use Prim.Native.Nat.{ℕ, ◌+◌, ◌*◌, ◌-◌, ◌/◌, ◌^◌, ◌≤◌, ◌<◌}
@@ -18,39 +18,24 @@ use Rattle.log_line.specs.Lines.{cut}
 use Rattle.capture_convert.specs.Capture.{sum_of, records_of, trailer_of, capture_of, trailer_in, count_in, formed, records_in, trailed, carried_all}
 use Rattle.capture_convert.specs.Convert.{stored, packed, captured, unpacked, uncaptured}
 use Rattle.capture_convert.specs.Log.{log_of, frames_of}
-use Rattle.capture_convert.specs.inside.Walks.{Walked, whole, broken, Told, Recorded, count_of, Measured, Prints, Lined, Read, Located, found, missing}
-use Rattle.capture_convert.specs.declared.answer.Converted.TheVariants.{Done, IllFormed, TooMany, NoCapture, NotCarried, OutputSmall}
-use Rattle.capture_convert.specs.declared.lines.Extent as measure
+use Rattle.std.specs.Prelude.{Ok, Err, MatchResult}
+use Rattle.std.specs.Prelude as std
+use Rattle.capture_convert.specs.inside.Walks.{Walked, Recorded, Broken, count_of, Measured, Halted, Prints, Lined, Read, Located}
+use Rattle.capture_convert.specs.declared.answer.ConvertError.TheVariants.{IllFormed, TooMany, NoCapture, NotCarried, OutputSmall}
 use Rattle.capture_convert.specs.declared.records.Ran as ran
-use Rattle.capture_convert.specs.declared.records.Scanned as scan
-use Rattle.capture_convert.specs.declared.trailer.Place as place
 use Rattle.capture_convert.specs.declared.trailer.Trailer as trailer
 use Rattle.capture_convert.proofs.Captures.{log-bounds}
 use Rattle.capture_convert.proofs.Frames.{length-records}
 use Rattle.capture_convert.proofs.Logs.{whole-log}
 use Rattle.capture_convert.proofs.Trailers.{right-trailed, not-formed, not-inside, wrong-sum, length-trailer}
 
-differ : {A : Type 0} (b : Bool) → b ≡ true → b ≡ false → A
-differ b t f = let z : true ≡ false = sym t ∙ f in let y : ◌≡◌ {A = ℕ} 0 1 = cc in absurd (omega arith)
-
 -- ── a log to a capture ──
 
-pub record Frames (p : List ℕ) (n : ℕ) : Type 0 where
-  pub frames : List Frame
-  pub read : frames_of p ≡ some frames
-  pub count : n ≡ length frames
-  pub lines : length frames ≡ length (cut p).whole
-
-pub scanned : (p : List ℕ) (r : scan.Scanned) → Walked p r → r.ok ≡ true → Frames p r.count
-scanned p r (whole fs e o c l) t = record { frames = fs; read = e; count = c; lines = l }
-scanned p r (broken e o) t = differ r.ok t o
-
-pub ill-formed : (p out : List ℕ) (r : scan.Scanned) → Walked p r → r.ok ≡ false → record { answer = IllFormed; out = out } ≡ captured p out
+pub ill-formed : (p out : List ℕ) → frames_of p ≡ none → record { answer = Err IllFormed; out = out } ≡ captured p out
 unfolding packed
-ill-formed p out r (whole fs e o c l) t = differ r.ok o t
-ill-formed p out r (broken e o) t = ap (λ (x : Option (List Frame)). packed x out) (sym e)
+ill-formed p out e = ap (λ (x : Option (List Frame)). packed x out) (sym e)
 
-module _ (p out : List ℕ) (n : ℕ) (f : Frames p n) where
+module _ (p out : List ℕ) (n : ℕ) (f : Walked p n) where
   carried-frames : All Carried f.frames
   carried-frames = (whole-log p f.frames f.read).carried
 
@@ -60,7 +45,7 @@ module _ (p out : List ℕ) (n : ℕ) (f : Frames p n) where
       length-append (records_of f.frames) (trailer_of (length f.frames) (sum_of (records_of f.frames)))
       ∙ omega (arith, length-records f.frames carried-frames, length-trailer (length f.frames) (sum_of (records_of f.frames)), f.count)
 
-  pub too_many : 2 ^ 32 ≤ n → record { answer = TooMany; out = out } ≡ captured p out
+  pub too_many : 2 ^ 32 ≤ n → record { answer = Err TooMany; out = out } ≡ captured p out
   unfolding packed
   too_many h = rw (f.read, le-ltb (length f.frames) (2 ^ 32) (omega (arith, f.count)))
 
@@ -69,23 +54,24 @@ module _ (p out : List ℕ) (n : ℕ) (f : Frames p n) where
     unfolding packed
     fits = rw (f.read, lt-ltb (length f.frames) (2 ^ 32) (omega (arith, f.count)))
 
-    pub too_small : length out < n * 21 + 16 → record { answer = OutputSmall; out = out } ≡ captured p out
+    pub too_small : length out < n * 21 + 16 → record { answer = Err OutputSmall; out = out } ≡ captured p out
     unfolding stored
     too_small h = sym (fits ∙ rw (lt-leb (length (capture_of f.frames)) (length out) (omega (arith, size))))
 
     pub room : n * 21 + 16 ≤ length out → 21 * length (cut p).whole ≤ length out
     room h = omega (arith, f.count, f.lines)
 
-    module _ (h : n * 21 + 16 ≤ length out) (r : ran.Ran) (out' : List ℕ) (d : Recorded p out r out') where
+    module _ (h : n * 21 + 16 ≤ length out) (r : std.Result ran.Ran ℕ) (out' : List ℕ)
+        (d : MatchResult r (λ x. Recorded p out x out') (λ k. Broken p k out')) where
       records-there : out' ≡ splice out 0 (records_of f.frames)
-      records-there = go d.told where
-        go : Told p out r out' → out' ≡ splice out 0 (records_of f.frames)
-        go (whole fs e o c q t) =
-            let x : some fs ≡ some f.frames = sym e ∙ (whole-log p f.frames f.read).said in
-            let y : fs ≡ f.frames = cc in
-            t ∙ ap (λ (gs : List Frame). splice out 0 (records_of gs)) y
-        go (broken e o) =
-            let x : ◌≡◌ {A = Option (List Frame)} none (some f.frames) = sym e ∙ (whole-log p f.frames f.read).said in
+      records-there = go r d where
+        go : (r : std.Result ran.Ran ℕ) → MatchResult r (λ x. Recorded p out x out') (λ k. Broken p k out') → out' ≡ splice out 0 (records_of f.frames)
+        go (Ok x) q =
+            let e : some q.frames ≡ some f.frames = sym q.said ∙ (whole-log p f.frames f.read).said in
+            let y : q.frames ≡ f.frames = cc in
+            q.text ∙ ap (λ (gs : List Frame). splice out 0 (records_of gs)) y
+        go (Err k) q =
+            let x : ◌≡◌ {A = Option (List Frame)} none (some f.frames) = sym q.said ∙ (whole-log p f.frames f.read).said in
             let z : ◌≡◌ {A = ℕ} 0 1 = cc in
             absurd (omega arith)
 
@@ -97,7 +83,7 @@ module _ (p out : List ℕ) (n : ℕ) (f : Frames p n) where
           ∙ take-splice out 0 (records_of f.frames) (omega (arith, length-there)) (n * 21) (omega (arith, length-there))
 
       pub made : (sum : ℕ) (out'' : List ℕ) → sum ≡ sum_of (span out' 0 (n * 21 - 0)) → out'' ≡ splice out' (n * 21) (trailer_of n sum)
-          → record { answer = Done (n * 21 + 16); out = out'' } ≡ captured p out
+          → record { answer = Ok (n * 21 + 16); out = out'' } ≡ captured p out
       unfolding stored capture_of
       made sum out'' e q =
           let k : n * 21 ≡ 0 + n * 21 = omega arith in
@@ -108,26 +94,26 @@ module _ (p out : List ℕ) (n : ℕ) (f : Frames p n) where
           let s : records_of f.frames ++ trailer_of n sum ≡ capture_of f.frames =
           ap₂ (λ (a b : ℕ). records_of f.frames ++ trailer_of a b) f.count (e ∙ ap (λ (i : ℕ). sum_of (take i out')) z ∙ ap sum_of front) in
           sym (fits ∙ rw (le-leb (length (capture_of f.frames)) (length out) (omega (arith, size)))
-          (ap₂ (λ (a : ℕ) (b : List ℕ). record { answer = Done a; out = b }) size (sym (w ∙ ap (λ (x : List ℕ). splice out 0 x) s))))
+          (ap₂ (λ (a : ℕ) (b : List ℕ). record { answer = Ok a; out = b }) size (sym (w ∙ ap (λ (x : List ℕ). splice out 0 x) s))))
 
 -- ── a capture to a log ──
 
-module _ (c : List ℕ) (long : 16 ≤ length c) (t : trailer.Trailer) (rd : Read (span c (length c - 16) (length c - (length c - 16))) t) where
+module _ (c : List ℕ) (long : 16 ≤ length c) where
   tail : span c (length c - 16) (length c - (length c - 16)) ≡ trailer_in c
   tail = take_all (length c - (length c - 16)) (drop (length c - 16) c) (omega (arith, length-drop (length c - 16) c))
 
-  count-there : t.count ≡ count_in (trailer_in c)
-  count-there = rd.count ∙ ap count_in tail
+  pub unformed : formed (span c (length c - 16) (length c - (length c - 16))) ≡ false → trailed c ≡ false
+  unformed h = not-formed c long (ap formed (sym tail) ∙ h)
 
-  formed-there : t.ok ≡ formed (trailer_in c)
-  formed-there = rd.ok ∙ ap formed tail
+  module _ (t : trailer.Trailer) (rd : Read (span c (length c - 16) (length c - (length c - 16))) t) where
+    count-there : t.count ≡ count_in (trailer_in c)
+    count-there = rd.count ∙ ap count_in tail
 
-  pub unformed : t.ok ≡ false → (r : place.Place) → r.ok ≡ false → Located c r
-  unformed h r e = missing (not-formed c long (sym formed-there ∙ h)) e
+    formed-there : formed (trailer_in c) ≡ true
+    formed-there = ap formed (sym tail) ∙ rd.ok
 
-  module _ (good : t.ok ≡ true) where
-    pub outside : length c - 16 < t.count * 21 → (r : place.Place) → r.ok ≡ false → Located c r
-    outside h r e = missing (not-inside c long (sym formed-there ∙ good) (omega (arith, count-there))) e
+    pub outside : length c - 16 < t.count * 21 → trailed c ≡ false
+    outside h = not-inside c long formed-there (omega (arith, count-there))
 
     module _ (inside : t.count * 21 ≤ length c - 16) (s : ℕ)
         (is : s ≡ sum_of (span c (length c - 16 - t.count * 21) (length c - 16 - (length c - 16 - t.count * 21)))) where
@@ -137,43 +123,37 @@ module _ (c : List ℕ) (long : 16 ≤ length c) (t : trailer.Trailer) (rd : Rea
           let b : length c - 16 - (length c - 16 - t.count * 21) ≡ 21 * count_in (trailer_in c) = omega (arith, count-there) in
           is ∙ ap₂ (λ (i j : ℕ). sum_of (span c i j)) a b
 
-      pub matched : s ≡ t.sum → (r : place.Place) → r.ok ≡ true → r.from ≡ length c - 16 - t.count * 21 → Located c r
-      matched h r e f =
-          found (right-trailed c (record {
-            long = long;
-            formed = sym formed-there ∙ good;
-            inside = omega (arith, count-there);
-            sum = ap (λ (x : List ℕ). le (span x 12 2)) (sym tail) ∙ sym rd.sum ∙ sym h ∙ sum-there;
-          })) e (omega (arith, count-there)) (omega (arith, count-there)) (omega (arith, count-there, rd.few))
+      pub matched : s ≡ t.sum → Located c (length c - 16 - t.count * 21)
+      matched h =
+          record {
+            right = right-trailed c (record {
+              long = long;
+              formed = formed-there;
+              inside = omega (arith, count-there);
+              sum = ap (λ (x : List ℕ). le (span x 12 2)) (sym tail) ∙ sym rd.sum ∙ sym h ∙ sum-there;
+            });
+            start = omega (arith, count-there);
+            end = omega (arith, count-there);
+            few = omega (arith, count-there, rd.few);
+          }
 
-      pub mismatched : (s ≡ t.sum → ⊥) → (r : place.Place) → r.ok ≡ false → Located c r
-      mismatched h r e =
-          missing (wrong-sum c long (sym formed-there ∙ good) (omega (arith, count-there))
-          (λ q. h (sum-there ∙ sym q ∙ ap (λ (x : List ℕ). le (span x 12 2)) (sym tail) ∙ sym rd.sum))) e
+      pub mismatched : (s ≡ t.sum → ⊥) → trailed c ≡ false
+      mismatched h =
+          wrong-sum c long formed-there (omega (arith, count-there))
+          (λ q. h (sum-there ∙ sym q ∙ ap (λ (x : List ℕ). le (span x 12 2)) (sym tail) ∙ sym rd.sum))
 
-pub record Place (c : List ℕ) (r : place.Place) : Type 0 where
-  pub right : trailed c ≡ true
-  pub from : r.from ≡ length c - 16 - 21 * count_in (trailer_in c)
-  pub end : r.from + 21 * count_in (trailer_in c) + 16 ≡ length c
-  pub few : count_in (trailer_in c) < 2 ^ 32
+pub size-there : (c : List ℕ) (from : ℕ) → Located c from → length (span c from (length c - 16 - from)) ≡ 21 * count_in (trailer_in c)
+size-there c from p = length-span c from (length c - 16 - from) (omega (arith, p.end)) ∙ omega (arith, p.end)
 
-pub located : (c : List ℕ) (r : place.Place) → Located c r → r.ok ≡ true → Place c r
-located c r (found t o f e n) h = record { right = t; from = f; end = e; few = n }
-located c r (missing t o) h = differ r.ok h o
-
-pub size-there : (c : List ℕ) (r : place.Place) → Place c r → length (span c r.from (length c - 16 - r.from)) ≡ 21 * count_in (trailer_in c)
-size-there c r p = length-span c r.from (length c - 16 - r.from) (omega (arith, p.end)) ∙ omega (arith, p.end)
-
-pub no_capture : (c out : List ℕ) (r : place.Place) → Located c r → r.ok ≡ false → record { answer = NoCapture; out = out } ≡ uncaptured c out
+pub no_capture : (c out : List ℕ) → trailed c ≡ false → record { answer = Err NoCapture; out = out } ≡ uncaptured c out
 unfolding uncaptured
-no_capture c out r (found t o f e n) h = differ r.ok o h
-no_capture c out r (missing t o) h = rw t
+no_capture c out t = rw t
 
-module _ (c out : List ℕ) (r : place.Place) (p : Place c r) (b : List ℕ) (is : b ≡ span c r.from (length c - 16 - r.from)) where
+module _ (c out : List ℕ) (from : ℕ) (p : Located c from) (b : List ℕ) (is : b ≡ span c from (length c - 16 - from)) where
   pub records-are : records_in c (count_in (trailer_in c)) ≡ b
   records-are =
-      let k : length c - 16 - r.from ≡ 21 * count_in (trailer_in c) = omega (arith, p.end) in
-      sym (is ∙ ap₂ (λ (i j : ℕ). span c i j) p.from k)
+      let k : length c - 16 - from ≡ 21 * count_in (trailer_in c) = omega (arith, p.end) in
+      sym (is ∙ ap₂ (λ (i j : ℕ). span c i j) p.start k)
 
   count-is : length b ≡ 21 * count_in (trailer_in c) → count_of b ≡ count_in (trailer_in c)
   count-is l = omega (arith, l)
@@ -183,44 +163,33 @@ module _ (c out : List ℕ) (r : place.Place) (p : Place c r) (b : List ℕ) (is
     unfolding uncaptured
     answered = rw (p.right, records-are, count-is l)
 
-    pub not_carried : (m : measure.Extent) → Measured b m → m.ok ≡ false → record { answer = NotCarried; out = out } ≡ uncaptured c out
+    pub not_carried : Halted b → record { answer = Err NotCarried; out = out } ≡ uncaptured c out
     unfolding unpacked
-    not_carried m (whole fs e o n) h = differ m.ok o h
-    not_carried m (broken e o) h = sym (answered ∙ ap (λ (x : Option (List Frame)). unpacked x out) e)
-
-pub record Printable (b : List ℕ) (n : ℕ) : Type 0 where
-  pub frames : List Frame
-  pub carried : carried_all (count_of b) b ≡ some frames
-  pub len : n ≡ length (log_of frames)
-
-pub measured : (b : List ℕ) (m : measure.Extent) → Measured b m → m.ok ≡ true → Printable b m.len
-measured b m (whole fs e o n) h = record { frames = fs; carried = e; len = n }
-measured b m (broken e o) h = differ m.ok h o
+    not_carried e = sym (answered ∙ ap (λ (x : Option (List Frame)). unpacked x out) e)
 
 -- a block of records with room for as many of the longest lines
-pub prints : (b : List ℕ) (m : measure.Extent) (room : ℕ) → Measured b m → m.ok ≡ true → 47 * (length b / 21) ≤ room → Prints b room
-prints b m room d h r =
-    let p = measured b m d h in
+pub prints : (b : List ℕ) (n room : ℕ) → Measured b n → 47 * (length b / 21) ≤ room → Prints b room
+prints b n room p r =
     record { frames = p.frames; carried = p.carried; room = omega (arith, (log-bounds (length b / 21) b p.frames p.carried).1) }
 
-module _ (c out : List ℕ) (r : place.Place) (p : Place c r) (b : List ℕ) (is : b ≡ span c r.from (length c - 16 - r.from))
-    (l : length b ≡ 21 * count_in (trailer_in c)) (n : ℕ) (q : Printable b n) where
+module _ (c out : List ℕ) (from : ℕ) (p : Located c from) (b : List ℕ) (is : b ≡ span c from (length c - 16 - from))
+    (l : length b ≡ 21 * count_in (trailer_in c)) (n : ℕ) (q : Measured b n) where
   log-answer : uncaptured c out ≡ stored (log_of q.frames) out
   unfolding unpacked
-  log-answer = answered c out r p b is l ∙ ap (λ (x : Option (List Frame)). unpacked x out) q.carried
+  log-answer = answered c out from p b is l ∙ ap (λ (x : Option (List Frame)). unpacked x out) q.carried
 
   pub short-log : n < 2 ^ 38
   short-log = omega (arith, q.len, (log-bounds (count_of b) b q.frames q.carried).1, l, p.few)
 
-  pub small-log : length out < n → record { answer = OutputSmall; out = out } ≡ uncaptured c out
+  pub small-log : length out < n → record { answer = Err OutputSmall; out = out } ≡ uncaptured c out
   unfolding stored
   small-log h = sym (log-answer ∙ rw (lt-leb (length (log_of q.frames)) (length out) (omega (arith, q.len))))
 
   pub enough : n ≤ length out → Prints b (length out)
   enough h = record { frames = q.frames; carried = q.carried; room = omega (arith, q.len) }
 
-  pub printed : (e : ℕ) (out' : List ℕ) → n ≤ length out → Lined b out e out' → record { answer = Done n; out = out' } ≡ uncaptured c out
+  pub printed : (e : ℕ) (out' : List ℕ) → n ≤ length out → Lined b out e out' → record { answer = Ok n; out = out' } ≡ uncaptured c out
   unfolding stored
   printed e out' h d =
       sym (log-answer ∙ rw (le-leb (length (log_of q.frames)) (length out) (omega (arith, q.len)))
-      (ap₂ (λ (a : ℕ) (x : List ℕ). record { answer = Done a; out = x }) (sym q.len) (sym (d.text q.frames q.carried))))
+      (ap₂ (λ (a : ℕ) (x : List ℕ). record { answer = Ok a; out = x }) (sym q.len) (sym (d.text q.frames q.carried))))

@@ -22,7 +22,8 @@ use Rattle.capture_convert.specs.Capture.{sum_of, records_of, trailer_of, captur
 use Rattle.capture_convert.specs.Convert.{stored, packed, captured, unpacked, uncaptured}
 use Rattle.capture_convert.specs.Laws.{wrote, feeds, Trips, Lengths, Parts}
 use Rattle.capture_convert.specs.Log.{log_of, frames_of}
-use Rattle.capture_convert.specs.declared.answer.Converted.TheVariants.{Done, TooMany, NoCapture, OutputSmall}
+use Rattle.std.specs.Prelude.{Ok, Err}
+use Rattle.capture_convert.specs.declared.answer.ConvertError.TheVariants.{TooMany, NoCapture, OutputSmall}
 use Rattle.capture_convert.proofs.Captures.{records-back, carried-count, carried-only, log-bounds, carried-append}
 use Rattle.capture_convert.proofs.Frames.{log-append, records-append, length-records, prefixed}
 use Rattle.capture_convert.proofs.Logs.{lines-back, whole-log, parts, cut-feeds, log-length}
@@ -39,11 +40,11 @@ record Stored (text out : List ℕ) (n : ℕ) : Type 0 where
   len : n ≡ length text
   done : (stored text out).out ≡ splice out 0 text
 
-stored-done : (text out : List ℕ) (n : ℕ) → (stored text out).answer ≡ Done n → Stored text out n
+stored-done : (text out : List ℕ) (n : ℕ) → (stored text out).answer ≡ Ok n → Stored text out n
 unfolding stored
 stored-done text out n = go (leb (length text) (length out)) refl where
   go : (t : Bool) → leb (length text) (length out) ≡ t
-      → (pick t (wrote text out) (record { answer = OutputSmall; out = out })).answer ≡ Done n → Stored text out n
+      → (pick t (wrote text out) (record { answer = Err OutputSmall; out = out })).answer ≡ Ok n → Stored text out n
   go false q e = let z : ◌≡◌ {A = ℕ} 0 1 = cc in absurd (omega arith)
   go true q e = record { fits = leb-true (length text) (length out) q; len = cc; done = rw q }
 
@@ -62,11 +63,11 @@ record Packed (log out : List ℕ) (n : ℕ) : Type 0 where
   len : n ≡ length (capture_of frames)
   text : take n (captured log out).out ≡ capture_of frames
 
-packed-done : (log out : List ℕ) (n : ℕ) → (captured log out).answer ≡ Done n → Packed log out n
+packed-done : (log out : List ℕ) (n : ℕ) → (captured log out).answer ≡ Ok n → Packed log out n
 unfolding packed
 packed-done log out n = go (frames_of log) refl where
   many : (fs : List Frame) → frames_of log ≡ some fs → (t : Bool) → ltb (length fs) (2 ^ 32) ≡ t
-      → (pick t (stored (capture_of fs) out) (record { answer = TooMany; out = out })).answer ≡ Done n → Packed log out n
+      → (pick t (stored (capture_of fs) out) (record { answer = Err TooMany; out = out })).answer ≡ Ok n → Packed log out n
   many fs q false l e = let z : ◌≡◌ {A = ℕ} 0 1 = cc in absurd (omega arith)
   many fs q true l e =
       record {
@@ -75,11 +76,11 @@ packed-done log out n = go (frames_of log) refl where
         few = ltb-true (length fs) (2 ^ 32) l;
         len = (stored-done (capture_of fs) out n e).len;
         text = ap (λ (o : Option (List Frame)). take n (packed o out).out) q
-            ∙ ap (λ (t : Bool). take n (pick t (stored (capture_of fs) out) (record { answer = TooMany; out = out })).out) l
+            ∙ ap (λ (t : Bool). take n (pick t (stored (capture_of fs) out) (record { answer = Err TooMany; out = out })).out) l
             ∙ front (capture_of fs) out n (stored-done (capture_of fs) out n e);
       }
 
-  go : (o : Option (List Frame)) → frames_of log ≡ o → (packed o out).answer ≡ Done n → Packed log out n
+  go : (o : Option (List Frame)) → frames_of log ≡ o → (packed o out).answer ≡ Ok n → Packed log out n
   go none q e = let z : ◌≡◌ {A = ℕ} 0 1 = cc in absurd (omega arith)
   go (some fs) q e = many fs q (ltb (length fs) (2 ^ 32)) refl e
 
@@ -94,7 +95,7 @@ capture-read fs room h few =
     ap (carried_all (length fs)) (sym (append-nil b)) ∙ records-back fs h [] in
     rw (t, count-in b (length fs) size few, records-in b (length fs) size few, r)
 
-log-trip : (log out : List ℕ) (n : ℕ) → (captured log out).answer ≡ Done n → (room : List ℕ) → length log ≤ length room
+log-trip : (log out : List ℕ) (n : ℕ) → (captured log out).answer ≡ Ok n → (room : List ℕ) → length log ≤ length room
     → uncaptured (take n (captured log out).out) room ≡ wrote log room
 log-trip log out n e room h =
     let p = packed-done log out n e in
@@ -111,11 +112,11 @@ record Unpacked (c out : List ℕ) (n : ℕ) : Type 0 where
   len : n ≡ length (log_of frames)
   text : take n (uncaptured c out).out ≡ log_of frames
 
-unpacked-done : (c out : List ℕ) (n : ℕ) → (uncaptured c out).answer ≡ Done n → Unpacked c out n
+unpacked-done : (c out : List ℕ) (n : ℕ) → (uncaptured c out).answer ≡ Ok n → Unpacked c out n
 unfolding uncaptured unpacked
 unpacked-done c out n = go (trailed c) refl where
   carried : (o : Option (List Frame)) → carried_all (count_in (trailer_in c)) (records_in c (count_in (trailer_in c))) ≡ o → trailed c ≡ true
-      → (unpacked o out).answer ≡ Done n → Unpacked c out n
+      → (unpacked o out).answer ≡ Ok n → Unpacked c out n
   carried none q t e = let z : ◌≡◌ {A = ℕ} 0 1 = cc in absurd (omega arith)
   carried (some fs) q t e =
       record {
@@ -124,12 +125,12 @@ unpacked-done c out n = go (trailed c) refl where
         read = q;
         len = (stored-done (log_of fs) out n e).len;
         text = ap (λ (b : Bool). take n (pick b (unpacked (carried_all (count_in (trailer_in c)) (records_in c (count_in (trailer_in c)))) out)
-            (record { answer = NoCapture; out = out })).out) t
+            (record { answer = Err NoCapture; out = out })).out) t
             ∙ ap (λ (o : Option (List Frame)). take n (unpacked o out).out) q ∙ front (log_of fs) out n (stored-done (log_of fs) out n e);
       }
 
   go : (t : Bool) → trailed c ≡ t
-      → (pick t (unpacked (carried_all (count_in (trailer_in c)) (records_in c (count_in (trailer_in c)))) out) (record { answer = NoCapture; out = out })).answer ≡ Done n
+      → (pick t (unpacked (carried_all (count_in (trailer_in c)) (records_in c (count_in (trailer_in c)))) out) (record { answer = Err NoCapture; out = out })).answer ≡ Ok n
       → Unpacked c out n
   go false q e = let z : ◌≡◌ {A = ℕ} 0 1 = cc in absurd (omega arith)
   go true q e = carried (carried_all (count_in (trailer_in c)) (records_in c (count_in (trailer_in c)))) refl q e
@@ -137,7 +138,7 @@ unpacked-done c out n = go (trailed c) refl where
 count_small : (c : List ℕ) → Octets c → 16 ≤ length c → count_in (trailer_in c) < 2 ^ 32
 count_small c o h = count-lt (trailer_in c) (length-drop (length c - 16) c ∙ omega arith) (octets-drop (length c - 16) c o)
 
-capture-trip : (c out : List ℕ) (n : ℕ) → Octets c → length c ≡ 21 * count_in (trailer_in c) + 16 → (uncaptured c out).answer ≡ Done n
+capture-trip : (c out : List ℕ) (n : ℕ) → Octets c → length c ≡ 21 * count_in (trailer_in c) + 16 → (uncaptured c out).answer ≡ Ok n
     → (room : List ℕ) → length c ≤ length room → captured (take n (uncaptured c out).out) room ≡ wrote c room
 unfolding packed capture_of
 capture-trip c out n o w e room h =
@@ -174,7 +175,7 @@ trips =
 
 -- ── lengths and parts ──
 
-captures-small : (log out : List ℕ) (n : ℕ) → (captured log out).answer ≡ Done n → n < 2 ^ 37
+captures-small : (log out : List ℕ) (n : ℕ) → (captured log out).answer ≡ Ok n → n < 2 ^ 37
 unfolding capture_of
 captures-small log out n e =
     let p = packed-done log out n e in
@@ -188,7 +189,7 @@ captures-small log out n e =
       length-trailer (length p.frames) (sum_of b),
     )
 
-logs-small : (c out : List ℕ) (n : ℕ) → Octets c → (uncaptured c out).answer ≡ Done n → n < 2 ^ 38
+logs-small : (c out : List ℕ) (n : ℕ) → Octets c → (uncaptured c out).answer ≡ Ok n → n < 2 ^ 38
 logs-small c out n o e =
     let u = unpacked-done c out n e in
     let k = count_in (trailer_in c) in

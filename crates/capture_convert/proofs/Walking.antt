@@ -1,12 +1,12 @@
 -- The loops over lines and over records, turn by turn.
+use Rattle.std.specs.Prelude.{Some, None, unwrap_or}
+use Rattle.std.specs.Prelude as std
 use mathlib.Core.Path.{◌≡◌, refl, sym, ap, ap₂, ◌∙◌}
 use mathlib.Core.Bool.{Bool, true, false}
 use mathlib.Core.List.{List, [], ◌∷◌, ◌++◌, append-nil}
 use mathlib.Core.Option.{Option, none, some}
 use Prim.Native.Nat.{ℕ, zero, suc, ◌+◌, ◌*◌, ◌-◌, ◌/◌, ◌≤◌, ◌<◌}
 use native.Mathlib.Omega.{arith}
-use borrow.Author.Tests.{eqb-true, eqb-false}
-use lib.Dec.{eqb}
 use lib.ListN.{length, get_or, take, drop, replicate, length-append, length-drop, length-replicate}
 use lib.Seq.{drop-drop, get_or-drop, length-take-le}
 use Rattle.bits.specs.Little.{le}
@@ -33,8 +33,7 @@ use Rattle.capture_record.specs.inside.Stamped.{record_with}
 use Rattle.capture_record.proofs.Records.{Fit, carried-is, carried-not}
 use Rattle.capture_convert.specs.Capture.{records_of, carried_all}
 use Rattle.capture_convert.specs.Log.{log_of, joined, said_all, frames_of}
-use Rattle.capture_convert.specs.inside.Walks.{Walked, whole, broken, Prints, Lined}
-use Rattle.capture_convert.specs.declared.records.Scanned as scan
+use Rattle.capture_convert.specs.inside.Walks.{Prints, Lined}
 use Rattle.capture_convert.proofs.Frames.{prefixed, prefix-nil, prefix-step, log-append, records-append, all_append, length-records}
 use Rattle.capture_convert.proofs.Logs.{whole-frames, unclosed-frames}
 
@@ -53,17 +52,17 @@ octets-zeros : (n : ℕ) → Octets (replicate n 0)
 octets-zeros zero = tt
 octets-zeros (suc n) = (omega arith, octets-zeros n)
 
-pub well : (l : List ℕ) (r : line.Line) → r ≡ line_in l → r.ok ≡ true → Well l r
+pub well : (l : List ℕ) (r : line.Line) → Some r ≡ line_in l → Well l r
 unfolding timed record_of
-well l r e t = go (said l) refl where
+well l r e = go (said l) refl where
   go : (o : Option Frame) → said l ≡ o → Well l r
   go none q =
-      let x : r ≡ line_with (before 46 l) none = e ∙ ap (line_with (before 46 l)) q in
-      let y : true ≡ false = sym t ∙ ap (λ (z : line.Line). z.ok) x in
+      let x : ◌≡◌ {A = std.Option line.Line} (Some r) None = e ∙ ap (line_with (before 46 l)) q in
       let z : ◌≡◌ {A = ℕ} 0 1 = cc in
       absurd (omega arith)
   go (some f) q =
-      let x : r ≡ line_with (before 46 l) (some f) = e ∙ ap (line_with (before 46 l)) q in
+      let x : r ≡ unwrap_or (line_with (before 46 l) (some f)) r =
+      ap (λ (o : std.Option line.Line). unwrap_or o r) (e ∙ ap (line_with (before 46 l)) q) in
       let c = (read l f q).carried in
       record {
         frame = f;
@@ -76,15 +75,11 @@ well l r e t = go (said l) refl where
         octets = rw x (octets-append f.bytes (replicate (8 - length f.bytes) 0) c.octets (octets-zeros (8 - length f.bytes)));
       }
 
-pub ill : (l : List ℕ) (r : line.Line) → r ≡ line_in l → r.ok ≡ false → said l ≡ none
-ill l r e t = go (said l) refl where
-  go : (o : Option Frame) → said l ≡ o → said l ≡ none
-  go none q = q
-  go (some f) q =
-      let x : r ≡ line_with (before 46 l) (some f) = e ∙ ap (line_with (before 46 l)) q in
-      let y : false ≡ true = sym t ∙ ap (λ (z : line.Line). z.ok) x in
-      let z : ◌≡◌ {A = ℕ} 0 1 = cc in
-      absurd (omega arith)
+pub ill : (l : List ℕ) → None ≡ line_in l → said l ≡ none
+ill l e = go (said l) e where
+  go : (o : Option Frame) → None ≡ line_with (before 46 l) o → o ≡ none
+  go none q = refl
+  go (some f) q = let z : ◌≡◌ {A = ℕ} 0 1 = cc in absurd (omega arith)
 
 -- ── lines ──
 
@@ -223,16 +218,6 @@ module _ (p out₀ out : List ℕ) (count from end : ℕ) (g : Storing p out₀ 
             (omega (arith, one_more p count from end g.walk more)) t g.text s;
         long = l ∙ g.long;
       }
-
--- ── a whole log ──
-
-pub finish : (p : List ℕ) (count from end : ℕ) (g : Walk p count from end) → length p ≤ end → (r : scan.Scanned) → r.ok ≡ eqb from (length p)
-    → r.count ≡ count → Walked p r
-finish p count from end g over r o n = go (eqb from (length p)) refl where
-  go : (t : Bool) → eqb from (length p) ≡ t → Walked p r
-  go true q =
-      whole g.done (all-frames p count from end g over (eqb-true from (length p) q)) (o ∙ q) (n ∙ g.counted) (all_lines p count from end g over)
-  go false q = broken (no_frames p count from end g over (eqb-false from (length p) q)) (o ∙ q)
 
 -- ── records ──
 

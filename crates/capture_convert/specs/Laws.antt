@@ -1,5 +1,5 @@
 -- RULES 18.5, 18.6: what holds of the two calls. `laws.rt` has a function for each record of laws, whose contract it is.
-use Rattle.std.specs.Prelude.{◌≡◌, true, List, [], ◌∷◌, ◌++◌, ℕ, suc, ◌+◌, ◌*◌, ◌/◌, ◌^◌, ◌≤◌, ◌<◌, eqb, length, take}
+use Rattle.std.specs.Prelude.{◌≡◌, true, List, [], ◌∷◌, ◌++◌, ℕ, suc, ◌+◌, ◌*◌, ◌/◌, ◌^◌, ◌≤◌, ◌<◌, eqb, length, take, Ok}
 use Rattle.std.proofs.Math.Option.{some}
 use Rattle.bits.specs.Order.{Octets}
 use Rattle.bits.specs.Part.{splice}
@@ -14,20 +14,19 @@ use Rattle.capture_record.specs.Record.{record_size}
 use Rattle.capture_convert.specs.Capture.{trailer_size, sum_of, records_of, capture_of, trailer_in, count_in, trailed, carried_all}
 use Rattle.capture_convert.specs.Convert.{Result, captured, uncaptured}
 use Rattle.capture_convert.specs.Log.{log_of, frames_of}
-use Rattle.capture_convert.specs.declared.answer.Converted.TheVariants.{Done}
 
 -- text at the front of a buffer
 abbrev pub wrote : List ℕ → List ℕ → Result
-wrote text out = record { answer = Done (length text); out = splice out 0 text }
+wrote text out = record { answer = Ok (length text); out = splice out 0 text }
 
 -- ── there and back (RULES 18.6) ──
 
 pub record Trips : Type 0 where
   -- a log that is not refused returns, byte for byte
-  pub log : (log out : List ℕ) (n : ℕ) → (captured log out).answer ≡ Done n → (room : List ℕ) → length log ≤ length room
+  pub log : (log out : List ℕ) (n : ℕ) → (captured log out).answer ≡ Ok n → (room : List ℕ) → length log ≤ length room
       → uncaptured (take n (captured log out).out) room ≡ wrote log room
   -- and so does a capture that has no preface
-  pub capture : (c out : List ℕ) (n : ℕ) → Octets c → length c ≡ record_size * count_in (trailer_in c) + trailer_size → (uncaptured c out).answer ≡ Done n
+  pub capture : (c out : List ℕ) (n : ℕ) → Octets c → length c ≡ record_size * count_in (trailer_in c) + trailer_size → (uncaptured c out).answer ≡ Ok n
       → (room : List ℕ) → length c ≤ length room → captured (take n (uncaptured c out).out) room ≡ wrote c room
   -- logs that 18 lets through: the lines of any frames that a line can carry, and no others
   pub lines : (fs : List Frame) → All Carried fs → frames_of (log_of fs) ≡ some fs
@@ -49,8 +48,8 @@ line_lengths (f ∷ fs) = 14 + (3 * length f.bytes + (count_of (f.time / 1000000
 pub record Lengths : Type 0 where
   pub capture : (log : List ℕ) (fs : List Frame) → frames_of log ≡ some fs → length (capture_of fs) ≡ record_size * feeds log + trailer_size
   pub log : (fs : List Frame) → length (log_of fs) ≡ line_lengths fs
-  pub captures : (log out : List ℕ) (n : ℕ) → (captured log out).answer ≡ Done n → n < 2 ^ 37
-  pub logs : (c out : List ℕ) (n : ℕ) → Octets c → (uncaptured c out).answer ≡ Done n → n < 2 ^ 38
+  pub captures : (log out : List ℕ) (n : ℕ) → (captured log out).answer ≡ Ok n → n < 2 ^ 37
+  pub logs : (c out : List ℕ) (n : ℕ) → Octets c → (uncaptured c out).answer ≡ Ok n → n < 2 ^ 38
   pub least : (n : ℕ) (b : List ℕ) (fs : List Frame) → carried_all n b ≡ some fs → 15 * n ≤ length (log_of fs)
   pub most : (n : ℕ) (b : List ℕ) (fs : List Frame) → carried_all n b ≡ some fs → length (log_of fs) ≤ 47 * n
 

@@ -1,11 +1,9 @@
-// What the two calls answer (RULES 13.1).
-ghost use Rattle.std.specs.Prelude.{◌≡◌, ◌<◌};
-ghost use Rattle.capture_convert.specs.Answer.{number_of, length_in};
+// What the two calls refuse (RULES 13.1).
+ghost use Rattle.std.specs.Prelude.{◌≡◌, ◌<◌, Err};
+ghost use Rattle.capture_convert.specs.Answer.{number_of};
 
-// `Done` holds the length of what was written.
-#[derive(Clone, Copy)]
-pub enum Converted {
-    Done(usize),
+#[derive(Clone, Copy, Debug, PartialEq, Eq)]
+pub enum ConvertError {
     IllFormed,
     TooMany,
     NoCapture,
@@ -13,31 +11,16 @@ pub enum Converted {
     OutputSmall,
 }
 
-impl Converted {
+impl ConvertError {
     pub fn number(self) -> u64
-        ensures { (result ≡ number_of self) × (result < 256) }
+        ensures { (result ≡ number_of (Err self)) × (result < 256) }
     {
         match self {
-            Converted::Done(_) => 0,
-            Converted::IllFormed => 18,
-            Converted::TooMany => 9,
-            Converted::NoCapture => 22,
-            Converted::NotCarried => 23,
-            Converted::OutputSmall => 8,
-        }
-    }
-
-    // The length of what was written; 0 under a refusal.
-    pub fn length(self) -> usize
-        ensures { result ≡ length_in self }
-    {
-        match self {
-            Converted::Done(n) => n,
-            Converted::IllFormed => 0,
-            Converted::TooMany => 0,
-            Converted::NoCapture => 0,
-            Converted::NotCarried => 0,
-            Converted::OutputSmall => 0,
+            ConvertError::IllFormed => 18,
+            ConvertError::TooMany => 9,
+            ConvertError::NoCapture => 22,
+            ConvertError::NotCarried => 23,
+            ConvertError::OutputSmall => 8,
         }
     }
 }

@@ -1,18 +1,10 @@
 // Records to lines (RULES 18.4).
-ghost use Rattle.std.specs.Prelude.{◌≡◌, true, ◌*◌, ◌+◌, ◌/◌, ◌^◌, ◌≤◌, ◌<◌, length};
+ghost use Rattle.std.specs.Prelude.{◌≡◌, true, ◌*◌, ◌+◌, ◌/◌, ◌^◌, ◌≤◌, ◌<◌, length, MatchResult};
 ghost use Rattle.digits.specs.Digits.{count_of};
 ghost use Rattle.digits.specs.inside.Text.{Puts};
 ghost use Rattle.log_line.specs.Line.{line_of};
 ghost use Rattle.capture_record.specs.Record.{record_size, frame_of, carriable};
-ghost use Rattle.capture_convert.specs.inside.Walks.{Measured, Lined, Prints};
-
-// Records: whether a line can carry each; how many there are before the first that none can; the length of their lines.
-#[derive(Drop)]
-pub struct Extent {
-    pub ok: bool,
-    pub count: usize,
-    pub len: usize,
-}
+ghost use Rattle.capture_convert.specs.inside.Walks.{Measured, Halted, Lined, Prints};
 
 // The length of the line of a frame with n data bytes.
 fn line_length(time: u64, n: usize) -> usize
@@ -22,32 +14,22 @@ fn line_length(time: u64, n: usize) -> usize
     digits::count(time / 1_000_000) + 14 + n * 3
 }
 
-// Internal. Whole records, one after the other.
-pub fn measure(records: &[u8]) -> Extent
+// Internal. The length of the lines of whole records, one after the other; or how many there are before the first that no line can carry.
+pub fn measure(records: &[u8]) -> Result<usize, usize>
     requires { length records.now < 2 ^ 37 }
-    ensures { Measured records.now result }
+    ensures { MatchResult result (Measured records.now) (λ _. Halted records.now) }
 {
     let n = records.len() / capture_record::SIZE;
-    let mut count = 0;
     let mut len = 0;
-    while count < n {
+    for count in 0..n {
         let at = count * capture_record::SIZE;
         let s = capture_record::read(&records[at..at + capture_record::SIZE]);
         if !s.ok {
-            return Extent {
-                ok: false,
-                count: count,
-                len: len,
-            };
+            return Err(count);
         }
         len += line_length(s.time, s.len);
-        count += 1;
     }
-    Extent {
-        ok: true,
-        count: count,
-        len: len,
-    }
+    Ok(len)
 }
 
 // The line of a record, from p on; the place past it.
@@ -66,12 +48,10 @@ pub fn lines(records: &[u8], out: &mut [u8]) -> usize
     ensures { Lined records.now out.old result out.new }
 {
     let n = records.len() / capture_record::SIZE;
-    let mut count = 0;
     let mut p = 0;
-    while count < n {
+    for count in 0..n {
         let at = count * capture_record::SIZE;
         p = line(&records[at..at + capture_record::SIZE], out, p);
-        count += 1;
     }
     p
 }

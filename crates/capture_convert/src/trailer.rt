@@ -1,7 +1,7 @@
 // The trailer of a capture (RULES 18.2).
-ghost use Rattle.std.specs.Prelude.{◌≡◌, false, ◌&&◌, ◌+◌, ◌*◌, ◌≤◌, ◌<◌, ◌^◌, eqb, length};
+ghost use Rattle.std.specs.Prelude.{◌≡◌, false, ◌&&◌, ◌+◌, ◌*◌, ◌≤◌, ◌<◌, ◌^◌, eqb, length, MatchOption};
 ghost use Rattle.bits.specs.Part.{splice};
-ghost use Rattle.capture_convert.specs.Capture.{trailer_size, sum_of, trailer_of};
+ghost use Rattle.capture_convert.specs.Capture.{trailer_size, sum_of, trailer_of, formed, trailed};
 ghost use Rattle.capture_convert.specs.inside.Walks.{Read, Located};
 
 // The bytes of a trailer.
@@ -10,19 +10,11 @@ pub const SIZE: usize = 16;
 // "CT" as a number, low byte first.
 const MARK: u64 = 0x5443;
 
-// A trailer that was read: whether mark and distance are right, the count, and the checksum.
+// A trailer with the right mark and distance that was read: the count, and the checksum.
 #[derive(Clone, Copy)]
 pub struct Trailer {
-    pub ok: bool,
     pub count: usize,
     pub sum: u64,
-}
-
-// The trailer of a capture: whether it is right, and where the first record begins.
-#[derive(Drop)]
-pub struct Place {
-    pub ok: bool,
-    pub from: usize,
 }
 
 // Internal. The checksum of records.
@@ -54,51 +46,41 @@ fn is_formed(mark: u64, distance: u64, size: u64) -> bool
     false
 }
 
-// Internal. Reads a trailer of 16 bytes.
-pub fn read(t: &[u8]) -> Trailer
+// Internal. Reads a trailer of 16 bytes; None if mark or distance is wrong.
+pub fn read(t: &[u8]) -> Option<Trailer>
     requires { length t.now ≡ trailer_size }
-    ensures { Read t.now result }
+    ensures { MatchOption result (formed t.now ≡ false) (Read t.now) }
 {
     let distance = bits::le::get_at(t, 0, 8);
     let count = bits::le::get_at(t, 8, 4);
     let size = count * 21;
     let mark = bits::le::get_at(t, 14, 2);
-    Trailer {
-        ok: is_formed(mark, distance, size),
+    if !is_formed(mark, distance, size) {
+        return None;
+    }
+    Some(Trailer {
         count: count as usize,
         sum: bits::le::get_at(t, 12, 2),
-    }
+    })
 }
 
-fn nowhere() -> Place
-    ensures { result ≡ record { ok = false; from = 0 } }
-{
-    Place { ok: false, from: 0 }
-}
-
-// Internal. Finds the records of a capture by its trailer.
-pub fn find(c: &[u8]) -> Place
-    ensures { Located c.now result }
+// Internal. Finds the records of a capture by its trailer: where the first begins. None if the trailer is not right.
+pub fn find(c: &[u8]) -> Option<usize>
+    ensures { MatchOption result (trailed c.now ≡ false) (Located c.now) }
 {
     let n = c.len();
     if n < SIZE {
-        return nowhere();
+        return None;
     }
     let end = n - SIZE;
-    let t = read(&c[end..n]);
-    if !t.ok {
-        return nowhere();
-    }
+    let t = read(&c[end..n])?;
     let size = t.count * capture_record::SIZE;
     if end < size {
-        return nowhere();
+        return None;
     }
     let from = end - size;
     if sum(&c[from..end]) as u64 == t.sum {
-        return Place {
-            ok: true,
-            from: from,
-        };
+        return Some(from);
     }
-    nowhere()
+    None
 }

@@ -11,6 +11,7 @@ use console::Progress;
 use std::env::FillError;
 use std::fs;
 use std::fs::File;
+use std::io;
 use std::io::{Read, Seek, SeekFrom};
 use std::os::unix::fs::FileTypeExt;
 use std::rt::{Env, Files};
@@ -20,71 +21,48 @@ pub const RECORDS: usize = 1024;
 
 pub const BLOCK: usize = RECORDS * capture_record::SIZE;
 
-// What the file is: a capture, by its trailer and length; none; or it cannot be read.
-#[derive(Drop)]
-pub enum Opened {
-    Capture(File, Trailer),
+// Why a file is not opened: it is no capture, by its trailer and length; or it cannot be read.
+#[derive(Clone, Copy, Debug, PartialEq, Eq)]
+pub enum OpenError {
     NoCapture,
     Unreadable,
 }
 
-fn least(a: usize, b: usize) -> usize
-    ensures { (result ≤ a) × (result ≤ b) }
-{
-    if a < b {
-        return a;
+impl From<io::Error> for OpenError {
+    fn from(_e: io::Error) -> OpenError {
+        OpenError::Unreadable
     }
-    b
 }
 
-// Where the first record begins, the trailer being at `end`; -1 if there are fewer records than it says, or more bytes than any file has.
-fn begin(t: Trailer, end: u64) -> i64
+// Where the first record begins, the trailer being at `end`; None if there are fewer records than it says, or more bytes than any file has.
+fn begin(t: Trailer, end: u64) -> Option<u64>
     requires { t.count < 2 ^ 32 }
 {
-    let size = t.count as u64 * 21;
-    if end < size {
-        return -1;
-    }
     if 0x4000_0000_0000_0000 < end {
-        return -1;
+        return None;
     }
-    (end - size) as i64
+    end.checked_sub(t.count as u64 * 21)
 }
 
 // Reads the trailer, which is at `end`, and goes to the first record.
-fn at_trailer(mut file: File, end: u64) -> Opened {
+fn at_trailer(mut file: File, end: u64) -> Result<(File, Trailer), OpenError> {
     let mut bytes = [0u8; trailer::SIZE];
-    if file.read_exact(&mut bytes).is_err() {
-        return Opened::Unreadable;
-    }
-    let t = trailer::read(&bytes);
-    let from = begin(t, end);
-    if !t.ok {
-        return Opened::NoCapture;
-    }
-    if from < 0 {
-        return Opened::NoCapture;
-    }
-    if file
-        .seek(SeekFrom::Start(shape::signed::size(from)))
-        .is_err()
-    {
-        return Opened::Unreadable;
-    }
-    Opened::Capture(file, t)
+    file.read_exact(&mut bytes)?;
+    let Some(t) = trailer::read(&bytes) else {
+        return Err(OpenError::NoCapture);
+    };
+    let from = begin(t, end).ok_or(OpenError::NoCapture)?;
+    file.seek(SeekFrom::Start(from))?;
+    Ok((file, t))
 }
 
 // Internal. Reads the trailer, and goes to the first record. The checksum is not looked at.
-pub fn open(rt: &(impl Files<File = File> + Env)) -> Opened {
-    let Some(mut file) = input(rt) else {
-        return Opened::Unreadable;
-    };
-    if file.seek(SeekFrom::End(0)).is_err() {
-        return Opened::Unreadable;
-    }
+pub fn open(rt: &(impl Files<File = File> + Env)) -> Result<(File, Trailer), OpenError> {
+    let mut file = input(rt).ok_or(OpenError::Unreadable)?;
+    file.seek(SeekFrom::End(0))?;
     match file.seek(SeekFrom::End(-16)) {
         Ok(end) => at_trailer(file, end),
-        Err(_) => Opened::NoCapture,
+        Err(_) => Err(OpenError::NoCapture),
     }
 }
 
@@ -123,10 +101,11 @@ fn is_pipe(rt: &impl Files, name: &str) -> bool {
 }
 
 // Internal. Reads the next records into a block, as many as are left and it has room for; how many, 0 if reading fails.
+// No Option: 0 is one of the numbers that it gives, and each caller does with it what it does after a failure.
 pub fn next(file: &mut File, block: &mut [u8], left: usize) -> usize
     ensures { (result ≤ left) × (result * record_size ≤ length block.old) }
 {
-    let k = least(left, block.len() / capture_record::SIZE);
+    let k = left.min(block.len() / capture_record::SIZE);
     let n = k * capture_record::SIZE;
     if file.read_exact(&mut block[0..n]).is_err() {
         return 0;

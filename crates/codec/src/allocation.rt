@@ -30,9 +30,7 @@ pub fn encode(words: &[u8], bytes: &mut [u8], out: &mut [u8]) -> Encoded
     requires { length words.now ≤ length bytes.old }
 {
     let mut v = [0i64; 2];
-    if !fields::read(&NAMES, words, &mut v, bytes) {
-        return Encoded::IllFormed;
-    }
+    fields::read(&NAMES, words, &mut v, bytes)?;
     let unique_id = fields::list(words, names::nth(&NAMES, 2), bytes);
-    Encoded::Answer(allocation::encode(v[0], v[1], unique_id, out))
+    Some(allocation::encode(v[0], v[1], unique_id, out))
 }

@@ -89,9 +89,7 @@ pub fn encode(words: &[u8], bytes: &mut [u8], out: &mut [u8]) -> Encoded
     requires { length words.now ≤ length bytes.old }
 {
     let mut v = [0i64; 13];
-    if !fields::read(&NAMES, words, &mut v, bytes) {
-        return Encoded::IllFormed;
-    }
+    fields::read(&NAMES, words, &mut v, bytes)?;
     let model_name = fields::list(words, names::nth(&NAMES, 13), bytes);
-    Encoded::Answer(written(v, model_name, out))
+    Some(written(v, model_name, out))
 }

@@ -6,7 +6,6 @@ use super::{
     get_node_info_request, get_node_info_response, get_set_request, get_set_response, key_value,
     log_message, node_status, raw_command,
 };
-use codec_text::hex::Length;
 use codec_text::{hex, put};
 use console::Console;
 
@@ -68,8 +67,8 @@ fn through(
     requires { length rest.now ≤ length bytes.old }
 {
     match hex::read(rest, bytes, 0) {
-        Length::Is(n) => typed(console, name, shape::part::within(bytes, 0, n), out, at),
-        Length::Not => put::ill_formed(console, out, at),
+        Some(n) => typed(console, name, shape::part::within(bytes, 0, n), out, at),
+        None => put::ill_formed(console, out, at),
     }
 }
 

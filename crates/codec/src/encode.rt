@@ -32,7 +32,7 @@ fn service(name: &[u8], words: &[u8], bytes: &mut [u8], message: &mut [u8]) -> E
     if name == b"ExecuteOpcode.Response".as_slice() {
         return execute_opcode_response::encode(words, bytes, message);
     }
-    Encoded::IllFormed
+    None
 }
 
 // The type by its name.
@@ -105,9 +105,8 @@ pub fn answer(console: &mut Console, name: &[u8], rest: &[u8], out: &mut [u8], a
     requires { length rest.now ≤ 8192 }
 {
     let e = digits::find(rest, 0, 32);
-    let n = number::digits(&rest[0..e]);
-    if answer::is_none(n) {
+    let Some(n) = number::digits(&rest[0..e]) else {
         return put::ill_formed(console, out, at);
-    }
+    };
     into(console, name, &rest[e..], answer::room(n), out, at)
 }

@@ -24,12 +24,10 @@ pub fn encode(words: &[u8], bytes: &mut [u8], out: &mut [u8]) -> Encoded
     requires { length words.now ≤ length bytes.old }
 {
     let mut v = [0i64; 2];
-    if !fields::read(&NAMES, words, &mut v, bytes) {
-        return Encoded::IllFormed;
-    }
+    fields::read(&NAMES, words, &mut v, bytes)?;
     let x = Request {
         opcode: v[0],
         argument: v[1],
     };
-    Encoded::Answer(execute_opcode_request::encode(x, out))
+    Some(execute_opcode_request::encode(x, out))
 }

@@ -13,7 +13,7 @@ pub fn decode(console: &mut Console, payload: &[u8], out: &mut [u8], at: usize) 
 
 pub fn encode(words: &[u8], bytes: &mut [u8], out: &mut [u8]) -> Encoded {
     if 0 < words.len() {
-        return Encoded::IllFormed;
+        return None;
     }
-    Encoded::Answer(get_node_info_request::encode(out))
+    Some(get_node_info_request::encode(out))
 }

@@ -104,8 +104,6 @@ pub fn encode(words: &[u8], bytes: &mut [u8], out: &mut [u8]) -> Encoded
     requires { length words.now ≤ length bytes.old }
 {
     let mut v = [0i64; 12];
-    if !fields::read(&NAMES, words, &mut v, bytes) {
-        return Encoded::IllFormed;
-    }
-    Encoded::Answer(written(words, v, bytes, out))
+    fields::read(&NAMES, words, &mut v, bytes)?;
+    Some(written(words, v, bytes, out))
 }

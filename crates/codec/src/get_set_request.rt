@@ -56,10 +56,8 @@ pub fn encode(words: &[u8], bytes: &mut [u8], out: &mut [u8]) -> Encoded
     requires { length words.now ≤ length bytes.old }
 {
     let mut v = [0i64; 5];
-    if !fields::read(&NAMES, words, &mut v, bytes) {
-        return Encoded::IllFormed;
-    }
+    fields::read(&NAMES, words, &mut v, bytes)?;
     let text = fields::list(words, names::nth(&NAMES, 5), bytes);
     let name = fields::list(words, names::nth(&NAMES, 6), bytes);
-    Encoded::Answer(written(v, text, name, out))
+    Some(written(v, text, name, out))
 }

@@ -135,11 +135,9 @@ pub fn encode(words: &[u8], bytes: &mut [u8], out: &mut [u8]) -> Encoded
     requires { length words.now ≤ length bytes.old }
 {
     let mut v = [0i64; 14];
-    if !fields::read(&NAMES, words, &mut v, bytes) {
-        return Encoded::IllFormed;
-    }
+    fields::read(&NAMES, words, &mut v, bytes)?;
     let text = fields::list(words, names::nth(&NAMES, 14), bytes);
     let other = fields::list(words, names::nth(&NAMES, 15), bytes);
     let name = fields::list(words, names::nth(&NAMES, 16), bytes);
-    Encoded::Answer(written(v, text, other, name, out))
+    Some(written(v, text, other, name, out))
 }

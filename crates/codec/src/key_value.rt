@@ -39,9 +39,7 @@ pub fn encode(words: &[u8], bytes: &mut [u8], out: &mut [u8]) -> Encoded
     requires { length words.now ≤ length bytes.old }
 {
     let mut v = [0i64; 1];
-    if !fields::read(&NAMES, words, &mut v, bytes) {
-        return Encoded::IllFormed;
-    }
+    fields::read(&NAMES, words, &mut v, bytes)?;
     let key = fields::list(words, names::nth(&NAMES, 1), bytes);
-    Encoded::Answer(written(v[0], key, out))
+    Some(written(v[0], key, out))
 }

@@ -37,10 +37,8 @@ pub fn encode(words: &[u8], bytes: &mut [u8], out: &mut [u8]) -> Encoded
     requires { length words.now ≤ length bytes.old }
 {
     let mut v = [0i64; 1];
-    if !fields::read(&NAMES, words, &mut v, bytes) {
-        return Encoded::IllFormed;
-    }
+    fields::read(&NAMES, words, &mut v, bytes)?;
     let source = fields::list(words, names::nth(&NAMES, 1), bytes);
     let text = fields::list(words, names::nth(&NAMES, 2), bytes);
-    Encoded::Answer(log_message::encode(v[0], source, text, out))
+    Some(log_message::encode(v[0], source, text, out))
 }

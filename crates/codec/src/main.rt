@@ -29,7 +29,7 @@ use std::process::ExitCode;
 const LONGEST: usize = 8192;
 
 // How far the gathering is: the bytes of the unfinished line, LONGEST + 1 for any longer one, and the bytes of the answers.
-#[derive(Drop)]
+#[derive(Clone, Copy)]
 struct At {
     line: usize,
     out: usize,
@@ -75,72 +75,50 @@ fn chunk(console: &mut Console, src: &[u8], line: &mut [u8], out: &mut [u8], a: 
     requires { 8192 ≤ length line.old }
 {
     let mut st = a;
-    let mut i = 0;
-    while i < src.len() {
-        st = step(console, line, out, st, src[i]);
-        i += 1;
+    for b in src {
+        st = step(console, line, out, st, *b);
     }
     st
 }
 
-// After a read: whether to go on, and if not, whether reading or writing failed.
-#[derive(Drop)]
-struct Go {
-    more: bool,
-    failed: bool,
-    at: At,
-}
+// Reading or writing failed, and its line is on standard error.
+#[derive(Clone, Copy)]
+struct Failed;
 
-fn stop(failed: bool, a: At) -> Go {
-    Go {
-        more: false,
-        failed: failed,
-        at: a,
-    }
-}
-
-// One read, and the answers to its lines: who types a request sees the answer before the next one.
-fn some(console: &mut Console, line: &mut [u8], out: &mut [u8], a: At) -> Go
+// One read, and the answers to its lines: who types a request sees the answer before the next one. None at the end of the input.
+fn some(console: &mut Console, line: &mut [u8], out: &mut [u8], a: At) -> Result<Option<At>, Failed>
     requires { 8192 ≤ length line.old }
 {
     let mut buf = [0u8; 65536];
     let Some(n) = console.read(&mut buf) else {
-        return stop(true, a);
+        return Err(Failed);
     };
     if n == 0 {
-        return stop(false, a);
+        return Ok(None);
     }
     let after = chunk(console, &buf[..n], line, out, a);
-    let at = after.out;
-    let good = put::flush(console, out, at);
-    Go {
-        more: good,
-        failed: !good,
-        at: At {
-            line: after.line,
-            out: 0,
-        },
+    if !put::flush(console, out, after.out) {
+        return Err(Failed);
     }
+    Ok(Some(At {
+        line: after.line,
+        out: 0,
+    }))
 }
 
 // Every line; one without line feed at the end of the input too.
 fn all(console: &mut Console, line: &mut [u8], out: &mut [u8])
     requires { 8192 ≤ length line.old }
 {
-    let mut turns = u64::MAX;
     let mut st = At { line: 0, out: 0 };
-    let mut more = true;
-    let mut failed = false;
-    while turns > 0 && more {
-        let g = some(console, line, out, st);
-        st = g.at;
-        more = g.more;
-        failed = g.failed;
-        turns -= 1;
+    for _ in 0..u64::MAX {
+        match some(console, line, out, st) {
+            Ok(Some(after)) => st = after,
+            Ok(None) => break,
+            Err(Failed) => return,
+        }
     }
-    if !failed {
-        last(console, line, out, st);
-    }
+    last(console, line, out, st);
 }
 
 // The line without line feed, if there is one. All others are answered and written.

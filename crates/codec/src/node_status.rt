@@ -30,9 +30,7 @@ pub fn encode(words: &[u8], bytes: &mut [u8], out: &mut [u8]) -> Encoded
     requires { length words.now ≤ length bytes.old }
 {
     let mut v = [0i64; 5];
-    if !fields::read(&NAMES, words, &mut v, bytes) {
-        return Encoded::IllFormed;
-    }
+    fields::read(&NAMES, words, &mut v, bytes)?;
     let x = NodeStatus {
         uptime_sec: v[0],
         health: v[1],
@@ -40,5 +38,5 @@ pub fn encode(words: &[u8], bytes: &mut [u8], out: &mut [u8]) -> Encoded
         sub_mode: v[3],
         vendor_specific_status_code: v[4],
     };
-    Encoded::Answer(node_status::encode(x, out))
+    Some(node_status::encode(x, out))
 }

@@ -1,6 +1,5 @@
 // RawCommand by hand. Its numbers are signed, with a comma between two.
 use codec_text::answer::Encoded;
-use codec_text::signed::Count;
 use codec_text::{answer, signed};
 use console::Console;
 use equipment_esc::raw_command;
@@ -28,8 +27,6 @@ pub fn decode(console: &mut Console, payload: &[u8], out: &mut [u8], at: usize) 
 // Internal.
 pub fn encode(words: &[u8], out: &mut [u8]) -> Encoded {
     let mut cmd = [0i64; 20];
-    match signed::only(words, &NAME, &mut cmd) {
-        Count::Is(count) => Encoded::Answer(raw_command::encode(RawCommand { count, cmd }, out)),
-        Count::Not => Encoded::IllFormed,
-    }
+    let count = signed::only(words, &NAME, &mut cmd)?;
+    Some(raw_command::encode(RawCommand { count, cmd }, out))
 }

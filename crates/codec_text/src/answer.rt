@@ -1,18 +1,13 @@
 // Answers to requests.
 ghost use Rattle.std.specs.Prelude.{◌≤◌};
 
-use super::number::Number;
 use super::{names, put, signed};
 use console::Console;
 use shape::answer::Refusal;
 use shape::part;
 
-// What a request to write a message comes to.
-#[derive(Drop)]
-pub enum Encoded {
-    IllFormed,
-    Answer(Result<usize, Refusal>),
-}
+// What a request to write a message comes to; None if it is not well formed.
+pub type Encoded = Option<Result<usize, Refusal>>;
 
 // A name, after a space, and the equals sign.
 fn label(console: &mut Console, out: &mut [u8], at: usize, name: &[u8]) -> usize {
@@ -47,11 +42,8 @@ pub fn numbers(
     values: &[i64],
 ) -> usize {
     let mut o = put::byte(console, out, at, 48);
-    let mut i = 0;
-    while i < values.len() {
-        let v = values[i];
-        o = number(console, out, o, names::nth(names, i), v);
-        i += 1;
+    for (i, v) in values.iter().enumerate() {
+        o = number(console, out, o, names::nth(names, i), *v);
     }
     o
 }
@@ -83,8 +75,8 @@ pub fn written(
     message: &[u8],
 ) -> usize {
     match e {
-        Encoded::IllFormed => put::ill_formed(console, out, at),
-        Encoded::Answer(w) => match w {
+        None => put::ill_formed(console, out, at),
+        Some(w) => match w {
             Err(r) => refused(console, out, at, r.number()),
             Ok(n) => {
                 let o = put::bytes(console, out, at, b"0 ");
@@ -95,24 +87,8 @@ pub fn written(
 }
 
 // Internal. The length of the output buffer, at most 512.
-pub fn room(n: Number) -> usize
+pub fn room(n: u64) -> usize
     ensures { result ≤ 512 }
 {
-    match n {
-        Number::Is(v) => {
-            if v < 512 {
-                return v as usize;
-            }
-            512
-        }
-        _ => 512,
-    }
-}
-
-// Internal.
-pub fn is_none(n: Number) -> bool {
-    match n {
-        Number::Not => true,
-        _ => false,
-    }
+    n.min(512) as usize
 }

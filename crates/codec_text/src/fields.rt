@@ -1,9 +1,6 @@
 // The fields that a request gives: words of a name, an equals sign and a value, each after a space.
 ghost use Rattle.std.specs.Prelude.{◌+◌, ◌≤◌, length};
 
-use super::hex::Length;
-use super::names::Found;
-use super::number::Signed;
 use super::{hex, names, number};
 use shape::answer::Place;
 use shape::part;
@@ -13,6 +10,7 @@ fn find(words: &[u8], name: &[u8]) -> Place
     ensures { result.at + result.len ≤ length words.now }
 {
     let mut p = 0;
+    // A while: how far it goes on depends on where each word ends.
     while p < words.len() {
         let e = digits::find(words, p + 1, 32);
         let q = digits::find(&words[0..e], p + 1, 61);
@@ -29,31 +27,16 @@ fn find(words: &[u8], name: &[u8]) -> Place
     Place { at: 0, len: 0 }
 }
 
-fn number(values: &mut [i64], i: usize, s: &[u8]) -> bool {
-    if i < values.len() {
-        match number::read(s) {
-            Signed::Is(v) => {
-                values[i] = v;
-                true
-            }
-            Signed::Not => false,
-        }
-    } else {
-        false
-    }
-}
-
 // The i-th field, whose value s is at `at`: a number as long as there are numbers, then a list, whose bytes go to the same place.
-fn value(values: &mut [i64], i: usize, s: &[u8], bytes: &mut [u8], at: usize) -> bool
+fn value(values: &mut [i64], i: usize, s: &[u8], bytes: &mut [u8], at: usize) -> Option<()>
     requires { at + length s.now ≤ length bytes.old }
 {
     if i < values.len() {
-        return number(values, i, s);
+        values[i] = number::read(s)?;
+        return Some(());
     }
-    match hex::read(s, bytes, at) {
-        Length::Is(_) => true,
-        Length::Not => false,
-    }
+    hex::read(s, bytes, at)?;
+    Some(())
 }
 
 // The word from `from` to `to`: a name of the type, the first time, and its value.
@@ -64,39 +47,36 @@ fn word(
     to: usize,
     values: &mut [i64],
     bytes: &mut [u8],
-) -> bool
+) -> Option<()>
     requires { (from ≤ to) × ((to ≤ length words.now) × (length words.now ≤ length bytes.old)) }
 {
     let w = &words[from..to];
     let q = digits::find(w, 0, 61);
     if q == w.len() {
-        return false;
+        return None;
     }
     let name = &w[0..q];
     let first = find(words, name);
     if first.at != from + q + 1 {
-        return false;
+        return None;
     }
-    match names::find(names, name) {
-        Found::At(i) => value(values, i, &w[q + 1..], bytes, from + q + 1),
-        Found::Nothing => false,
-    }
+    let i = names::find(names, name)?;
+    value(values, i, &w[q + 1..], bytes, from + q + 1)
 }
 
 // Internal. Reads every word: the numbers into `values`, in the order of the names, the lists into `bytes`, each where its digits are in
-// the words. A field that is not named stays as it is. Whether all is well formed.
-pub fn read(names: &[u8], words: &[u8], values: &mut [i64], bytes: &mut [u8]) -> bool
+// the words. A field that is not named stays as it is. None if a word is not well formed.
+pub fn read(names: &[u8], words: &[u8], values: &mut [i64], bytes: &mut [u8]) -> Option<()>
     requires { length words.now ≤ length bytes.old }
 {
     let mut p = 0;
+    // A while: how far it goes on depends on where each word ends.
     while p < words.len() {
         let e = digits::find(words, p + 1, 32);
-        if !word(names, words, p + 1, e, values, bytes) {
-            return false;
-        }
+        word(names, words, p + 1, e, values, bytes)?;
         p = e;
     }
-    true
+    Some(())
 }
 
 // Internal. The list of that name, of words that were read.

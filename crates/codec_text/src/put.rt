@@ -30,10 +30,8 @@ pub fn byte(console: &mut Console, out: &mut [u8], at: usize, b: u8) -> usize {
 // Internal.
 pub fn bytes(console: &mut Console, out: &mut [u8], at: usize, s: &[u8]) -> usize {
     let mut o = at;
-    let mut i = 0;
-    while i < s.len() {
-        o = byte(console, out, o, s[i]);
-        i += 1;
+    for b in s {
+        o = byte(console, out, o, *b);
     }
     o
 }
@@ -58,10 +56,8 @@ pub fn list(console: &mut Console, out: &mut [u8], at: usize, s: &[u8]) -> usize
         return byte(console, out, at, 45);
     }
     let mut o = at;
-    let mut i = 0;
-    while i < s.len() {
-        o = pair(console, out, o, &[s[i]]);
-        i += 1;
+    for b in s {
+        o = pair(console, out, o, &[*b]);
     }
     o
 }

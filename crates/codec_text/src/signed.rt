@@ -1,64 +1,46 @@
 // Signed numbers as text: decimal digits, after a minus sign or not; in a list, a comma between two, and a dash for none.
 ghost use Rattle.std.specs.Prelude.{◌+◌};
 
-use super::number::Signed;
 use super::{number, put};
 use console::Console;
 use shape::signed;
 
-// How many numbers a list has, or that it is none.
-#[derive(Drop)]
-pub enum Count {
-    Is(usize),
-    Not,
-}
-
 // The i-th number, if there is a place for it.
-fn keep(places: &mut [i64], i: usize, v: i64) -> bool {
+fn keep(places: &mut [i64], i: usize, v: i64) {
     if i < places.len() {
         places[i] = v;
-        return true;
-    }
-    true
-}
-
-fn take(places: &mut [i64], i: usize, x: Signed) -> bool {
-    match x {
-        Signed::Is(v) => keep(places, i, v),
-        Signed::Not => false,
     }
 }
 
-// Internal. The numbers that s stands for, as many as there are places; how many they are.
-pub fn read(s: &[u8], places: &mut [i64]) -> Count {
+// Internal. The numbers that s stands for, as many as there are places; how many they are. None if s is no list of numbers.
+pub fn read(s: &[u8], places: &mut [i64]) -> Option<usize> {
     if s == b"-".as_slice() {
-        return Count::Is(0);
+        return Some(0);
     }
     let mut n = 0;
     let mut p = 0;
+    // A while: how far it goes on depends on where each number ends.
     while p <= s.len() {
         let e = digits::find(s, p, 44);
-        if !take(places, n, number::read(&s[p..e])) {
-            return Count::Not;
-        }
+        keep(places, n, number::read(&s[p..e])?);
         n += 1;
         p = e + 1;
     }
-    Count::Is(n)
+    Some(n)
 }
 
 // Internal. The numbers of a type that has one list of them and no other field.
-pub fn only(words: &[u8], name: &[u8], places: &mut [i64]) -> Count {
-    if words.len() == 0 {
-        return Count::Is(0);
+pub fn only(words: &[u8], name: &[u8], places: &mut [i64]) -> Option<usize> {
+    if words.is_empty() {
+        return Some(0);
     }
     let w = &words[1..];
     let q = digits::find(w, 0, 61);
     if q == w.len() {
-        return Count::Not;
+        return None;
     }
     if &w[0..q] != name {
-        return Count::Not;
+        return None;
     }
     read(&w[q + 1..], places)
 }
@@ -94,12 +76,9 @@ pub fn list(console: &mut Console, out: &mut [u8], at: usize, s: &[i64]) -> usiz
         return put::byte(console, out, at, 45);
     }
     let mut o = at;
-    let mut i = 0;
-    while i < s.len() {
+    for (i, v) in s.iter().enumerate() {
         let a = comma(console, out, o, i);
-        let v = s[i];
-        o = number(console, out, a, v);
-        i += 1;
+        o = number(console, out, a, *v);
     }
     o
 }

@@ -7,26 +7,17 @@ ghost use Rattle.digits.specs.Digits.{glyph, digits, count_of, words, hexes, dig
 ghost use Rattle.digits.specs.inside.Text.{Puts, as_number};
 ghost use Rattle.digits.specs.Find.{before};
 
-// What text stands for: a number, or none.
-#[derive(Drop)]
-pub enum Parsed {
-    Is(u64),
-    Not,
-}
-
 // Internal. The index of the first c from `from` on, or the length.
 pub fn find(s: &[u8], from: usize, c: u8) -> usize
     requires { from ≤ length s.now }
     ensures { (result ≡ from + before c (drop from s.now)) × (result ≤ length s.now) }
 {
-    let mut i = from;
-    while i < s.len() {
+    for i in from..s.len() {
         if s[i] == c {
             return i;
         }
-        i += 1;
     }
-    i
+    s.len()
 }
 
 // Internal. The digit that a character is; 16, which is a digit in no base, of any other character.
@@ -49,21 +40,19 @@ pub fn digit(c: u8) -> u64
 }
 
 // Internal. The number of at most nine digits in a base of at most 16.
-pub fn number(s: &[u8], base: u64) -> Parsed
+pub fn number(s: &[u8], base: u64) -> Option<u64>
     requires { (length s.now ≤ 9) × (base ≤ 16) }
     ensures { result ≡ as_number (number_of base s.now) }
 {
     let mut v: u64 = 0;
-    let mut i = 0;
-    while i < s.len() {
-        let d = digit(s[i]);
+    for c in s {
+        let d = digit(*c);
         if base <= d {
-            return Parsed::Not;
+            return None;
         }
         v = v * base + d;
-        i += 1;
     }
-    Parsed::Is(v)
+    Some(v)
 }
 
 // Internal. How many decimal digits v has.
@@ -72,6 +61,7 @@ pub fn count(v: u64) -> usize
 {
     let mut k = 1;
     let mut x = v;
+    // A while: how far it goes on depends on the number.
     while 10 <= x {
         x = x / 10;
         k += 1;
@@ -85,9 +75,7 @@ pub fn put_digits(out: &mut [u8], at: usize, w: usize, v: u64)
     ensures { out.new ≡ splice out.old at (digits 10 w v) }
 {
     let mut x = v;
-    let mut i = w;
-    while 0 < i {
-        i -= 1;
+    for i in (0..w).rev() {
         out[at + i] = (48 + x % 10) as u8;
         x = x / 10;
     }
@@ -110,10 +98,8 @@ pub fn put_words(out: &mut [u8], at: usize, vs: &[u64]) -> usize
     ensures { (Puts out.old out.new at result (words vs.now)) × (result ≤ at + length vs.now * 21) }
 {
     let mut p = at;
-    let mut i = 0;
-    while i < vs.len() {
-        p = word(out, p, vs[i]);
-        i += 1;
+    for v in vs {
+        p = word(out, p, *v);
     }
     p
 }
@@ -134,9 +120,7 @@ pub fn put_hex(out: &mut [u8], at: usize, w: usize, v: u64)
     ensures { out.new ≡ splice out.old at (digits 16 w v) }
 {
     let mut x = v;
-    let mut i = w;
-    while 0 < i {
-        i -= 1;
+    for i in (0..w).rev() {
         out[at + i] = hex_digit((x % 16) as u8);
         x = x / 16;
     }
@@ -147,12 +131,9 @@ pub fn put_hexes(out: &mut [u8], at: usize, s: &[u8]) -> usize
     requires { at + length s.now * 2 ≤ length out.old }
     ensures { Puts out.old out.new at result (hexes s.now) }
 {
-    let mut i = 0;
-    while i < s.len() {
-        let b = s[i];
-        out[at + i * 2] = hex_digit(b / 16);
-        out[at + i * 2 + 1] = hex_digit(b % 16);
-        i += 1;
+    for (i, b) in s.iter().enumerate() {
+        out[at + i * 2] = hex_digit(*b / 16);
+        out[at + i * 2 + 1] = hex_digit(*b % 16);
     }
-    at + i * 2
+    at + s.len() * 2
 }

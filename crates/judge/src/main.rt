@@ -16,7 +16,7 @@ ghost use Rattle.judge_streams.specs.inside.Table.{Table};
 ghost use Rattle.state.specs.Layout.{size};
 
 use capture_convert::trailer::Trailer;
-use capture_file::Opened;
+use capture_file::OpenError;
 use console::{Console, Progress};
 use judge_capture::records;
 use judge_stream::Condition;
@@ -169,7 +169,7 @@ fn whole(
     if list::accepted(rt, console, state) {
         let mut progress = console::open_progress(rt);
         match capture_file::open(rt) {
-            Opened::Capture(mut file, t) => run(
+            Ok((mut file, t)) => run(
                 console,
                 &mut file,
                 &mut progress,
@@ -179,8 +179,8 @@ fn whole(
                 kept,
                 t,
             ),
-            Opened::NoCapture => verdict::no_capture(console),
-            Opened::Unreadable => console.cannot_read(),
+            Err(OpenError::NoCapture) => verdict::no_capture(console),
+            Err(OpenError::Unreadable) => console.cannot_read(),
         }
     }
 }

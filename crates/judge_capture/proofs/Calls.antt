@@ -7,16 +7,14 @@ use Prim.Native.Nat.{ℕ, zero, suc, ◌+◌, ◌*◌, ◌-◌, ◌^◌, ◌<◌
 use native.Mathlib.Omega.{arith}
 use borrow.Author.Tests.{le-ltb}
 use lib.ListN.{length, take, drop, replicate}
-use Rattle.std.specs.declared.result.Result.TheVariants.{Ok, Err}
 use Rattle.answers.specs.Setup.{Outcome}
 use Rattle.answers.specs.declared.SetupError.TheVariants.{Unacceptable}
 use Rattle.bits.specs.Order.{Octets}
 use Rattle.bits.specs.Part.{span}
 use Rattle.bits.proofs.Octets.{octets-take, octets-drop, octets-append, octets-span}
-use Rattle.capture_convert.specs.Capture.{trailer_in, count_in, records_in}
-use Rattle.capture_convert.specs.inside.Walks.{Located, found, missing}
-use Rattle.capture_convert.specs.declared.trailer.Place as place
-use Rattle.capture_convert.proofs.Calls.{Place, size-there, records-are}
+use Rattle.capture_convert.specs.Capture.{trailer_in, count_in, records_in, trailed}
+use Rattle.capture_convert.specs.inside.Walks.{Located}
+use Rattle.capture_convert.proofs.Calls.{size-there, records-are}
 use Rattle.capture_record.specs.Record.{size_of}
 use Rattle.judge_rules.specs.Laws.{Bytes}
 use Rattle.judge_rules.specs.Verdict.{verdict, verdict_by, verdict_of, Entry, on, run}
@@ -61,25 +59,24 @@ in-octets c o =
 
 -- ── a capture ──
 
-module _ (u : Setup) (c : List ℕ) (r : place.Place) where
-  pub no_capture : Located c r → r.ok ≡ false → Err answer.NoCapture ≡ captured u c
+module _ (u : Setup) (c : List ℕ) where
+  pub no_capture : trailed c ≡ false → Err answer.NoCapture ≡ captured u c
   unfolding captured
-  no_capture (found t k f e n) h = cc
-  no_capture (missing t k) h = rw t
+  no_capture t = rw t
 
-  module _ (o : Octets c) (p : Place c r) where
+  module _ (from : ℕ) (o : Octets c) (p : Located c from) where
     abbrev b : List ℕ
-    b = span c r.from (length c - 16 - r.from)
+    b = span c from (length c - 16 - from)
 
     abbrev count : ℕ
     count = count_in (trailer_in c)
 
     count-is : count_of b ≡ count
-    count-is = omega (arith, size-there c r p)
+    count-is = omega (arith, size-there c from p)
 
     frames-are : frames_told (count_of b) b ≡ frames_in c
     unfolding frames_in
-    frames-are = rw (count-is, records-are c [] r p b refl)
+    frames-are = rw (count-is, records-are c [] from p b refl)
 
     same : (w : Fed) (t' : List ℕ) → Feeds u (replicate table_size 0) b w t' → verdict_of (fed_from 0 (count_of b) w t') ≡ verdict u (frames_in c)
     unfolding brief_verdict verdict_by

@@ -18,11 +18,9 @@ fn of_capture(state: &[u8], capture: &[u8]) -> Verdict
     requires { size ≤ length state.now }
     ensures { (result ≡ captured (setup_of state.now) capture.now) × (frame_of result < 2 ^ 32) }
 {
-    let t = trailer::find(capture);
-    if !t.ok {
+    let Some(from) = trailer::find(capture) else {
         return Err(Refusal::NoCapture);
-    }
-    let from = t.from;
+    };
     let to = capture.len() - trailer::SIZE;
     let mut table = [0u64; judge_streams::SIZE];
     match records::feed(state, &mut table, &capture[from..to]) {

@@ -51,6 +51,7 @@ fn lines(state: &mut [u8], block: &[u8], out: &mut [u8], counts: Counts) -> Ran
     let mut from = 0;
     let mut at = 0;
     let mut end = digits::find(block, 0, b'\n');
+    // A while: how far it goes on depends on where each line ends.
     while end < block.len() {
         let s = log_replay::line(state, &block[from..end + 1], c, out, at);
         c = s.counts;

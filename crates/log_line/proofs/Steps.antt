@@ -1,4 +1,6 @@
 -- The steps of reading a line, on plain variables.
+use Rattle.std.specs.Prelude.{Some, None}
+use Rattle.std.specs.Prelude as std
 use mathlib.Core.Path.{◌≡◌, refl, sym, ap, ◌∙◌}
 use mathlib.Core.Bool.{Bool, true, false, false≢true, ◌&&◌}
 use mathlib.Core.List.{List, [], ◌∷◌, ◌++◌, append-nil}
@@ -8,30 +10,27 @@ use native.Mathlib.Nat.{add-zero, sub-zero, pow-le-pow_right}
 use native.Mathlib.Omega.{arith}
 use borrow.Author.Tests.{lt-ltb, le-leb, eq-eqb, ne_eqb, ltb-true, leb-true, eqb-true}
 use lib.Dec.{lit<, ltb, leb, eqb}
-use lib.ListN.{replicate, length, get_or, take, drop, set, length-drop, take-append-drop}
+use lib.ListN.{replicate, length, get_or, take, drop, set, take-append-drop}
 use lib.Seq.{drop-drop, get_or-drop, append_snoc, take-suc-set, length-take-le}
 use Rattle.bits.specs.Part.{span}
 use Rattle.bits.proofs.Splice.{length-span}
 use Rattle.rules.specs.Tests.{pick}
 use Rattle.digits.specs.Digits.{count_of, number}
 use Rattle.digits.specs.inside.Text.{as_number}
-use Rattle.digits.specs.declared.Parsed.{Parsed}
-use Rattle.digits.specs.declared.Parsed.TheVariants.{Is, Not}
 use Rattle.digits.proofs.Digits.{number_lt}
 use Rattle.log_line.specs.Reading.{pair_of, paired, pairs, shaped, framed, fields_of, line_with}
-use Rattle.log_line.specs.inside.Bytes.{or_bad}
 use Rattle.log_line.specs.declared.read.Line.{Line}
 use Rattle.rules.specs.Frame.{Frame}
 
 -- ── numbers ──
 
-pub is : (o : Option ℕ) (r : Parsed) (n : ℕ) → r ≡ as_number o → r ≡ Is n → o ≡ some n
-is none r n e f = let z : ◌≡◌ {A = ℕ} 0 1 = cc in absurd (omega arith)
-is (some m) r n e f = cc
+pub is : (o : Option ℕ) (n : ℕ) → Some n ≡ as_number o → o ≡ some n
+is none n e = let z : ◌≡◌ {A = ℕ} 0 1 = cc in absurd (omega arith)
+is (some m) n e = cc
 
-pub not : (o : Option ℕ) (r : Parsed) → r ≡ as_number o → r ≡ Not → o ≡ none
-not none r e f = refl
-not (some m) r e f = let z : ◌≡◌ {A = ℕ} 0 1 = cc in absurd (omega arith)
+pub not : (o : Option ℕ) → None ≡ as_number o → o ≡ none
+not none e = refl
+not (some m) e = let z : ◌≡◌ {A = ℕ} 0 1 = cc in absurd (omega arith)
 
 -- ── one byte ──
 
@@ -42,13 +41,13 @@ module _ (l : List ℕ) (at : ℕ) where
       let g : get_or (drop at l) 0 0 ≡ 32 = get_or-drop at l 0 0 ∙ ap (λ (k : ℕ). get_or l k 0) (add-zero at) ∙ h in
       rw (eq-eqb (get_or (drop at l) 0 0) 32 g, drop-drop 1 at l)
 
-  pub byte : (n : ℕ) → get_or l at 0 ≡ 32 → number 16 (span l (at + 1) 2) ≡ some n → n ≡ or_bad (pair_of (drop at l))
-  byte n h e = sym (ap or_bad (space h ∙ e))
+  pub byte : (n : ℕ) → get_or l at 0 ≡ 32 → number 16 (span l (at + 1) 2) ≡ some n → Some n ≡ as_number (pair_of (drop at l))
+  byte n h e = sym (ap as_number (space h ∙ e))
 
-  pub no_byte : get_or l at 0 ≡ 32 → number 16 (span l (at + 1) 2) ≡ none → 256 ≡ or_bad (pair_of (drop at l))
-  no_byte h e = sym (ap or_bad (space h ∙ e))
+  pub no_byte : get_or l at 0 ≡ 32 → number 16 (span l (at + 1) 2) ≡ none → None ≡ as_number (pair_of (drop at l))
+  no_byte h e = sym (ap as_number (space h ∙ e))
 
-  pub no-space : (get_or l at 0 ≡ 32 → ⊥) → 256 ≡ or_bad (pair_of (drop at l))
+  pub no-space : (get_or l at 0 ≡ 32 → ⊥) → None ≡ as_number (pair_of (drop at l))
   unfolding pair_of
   no-space h =
       let g : get_or (drop at l) 0 0 ≡ get_or l at 0 = get_or-drop at l 0 0 ∙ ap (λ (k : ℕ). get_or l k 0) (add-zero at) in
@@ -63,14 +62,6 @@ pair_lt l b h e = go (eqb (get_or l 0 0) 32) e where
   go true q = rw (length-span l 1 2 (omega arith)) at (number_lt 16 (omega arith) (omega arith) (span l 1 2) b q)
 
 -- ── bytes ──
-
-pub some_pair : (o : Option ℕ) (b : ℕ) → b ≡ or_bad o → b ≤ 255 → o ≡ some b
-some_pair none b e h = absurd (omega arith)
-some_pair (some x) b e h = ap some (sym e)
-
-pub no-pair : (o : Option ℕ) (b : ℕ) → ((x : ℕ) → o ≡ some x → x < 256) → b ≡ or_bad o → 255 < b → o ≡ none
-no-pair none b f e h = refl
-no-pair (some x) b f e h = absurd (omega (arith, f x refl))
 
 -- bytes in hand, in front of those to come
 abbrev pub ahead : List ℕ → Option (List ℕ) → Option (List ℕ)
@@ -90,19 +81,15 @@ module _ (l bytes : List ℕ) (at k j : ℕ) (more : j < k) (room : at + k * 3 �
       let f : at + j * 3 + 3 ≡ at + suc j * 3 = omega arith in
       rw (e, drop-drop 3 (at + j * 3) l, f)
 
-  pub on : (b : ℕ) → b ≡ or_bad (pair_of (drop (at + j * 3) l)) → b ≤ 255 → j < length bytes
-      → pairs k (drop at l) ≡ ahead (take (suc j) (set bytes j (b % 256))) (pairs (k - suc j) (drop (at + suc j * 3) l))
-  on b e h n =
-      let p = some_pair (pair_of (drop (at + j * 3) l)) b e h in
-      let m : b % 256 ≡ b = omega arith in
+  pub on : (b : ℕ) → pair_of (drop (at + j * 3) l) ≡ some b → j < length bytes
+      → pairs k (drop at l) ≡ ahead (take (suc j) (set bytes j b)) (pairs (k - suc j) (drop (at + suc j * 3) l))
+  on b p n =
       inv ∙ ap (ahead (take j bytes)) (next ∙ ap (λ (o : Option ℕ). paired o (pairs (k - suc j) (drop (at + suc j * 3) l))) p)
       ∙ ahead-one (take j bytes) b (pairs (k - suc j) (drop (at + suc j * 3) l))
-      ∙ ap (λ (x : List ℕ). ahead x (pairs (k - suc j) (drop (at + suc j * 3) l))) (rw m (sym (take-suc-set bytes j b n)))
+      ∙ ap (λ (x : List ℕ). ahead x (pairs (k - suc j) (drop (at + suc j * 3) l))) (sym (take-suc-set bytes j b n))
 
-  pub off : (b : ℕ) → b ≡ or_bad (pair_of (drop (at + j * 3) l)) → 255 < b → none ≡ pairs k (drop at l)
-  off b e h =
-      let d : 3 ≤ length (drop (at + j * 3) l) = rw (length-drop (at + j * 3) l) (omega arith) in
-      let p = no-pair (pair_of (drop (at + j * 3) l)) b (λ x q. pair_lt (drop (at + j * 3) l) x d q) e h in
+  pub off : pair_of (drop (at + j * 3) l) ≡ none → none ≡ pairs k (drop at l)
+  off p =
       sym (inv ∙ ap (ahead (take j bytes)) (next ∙ ap (λ (o : Option ℕ). paired o (pairs (k - suc j) (drop (at + suc j * 3) l))) p))
 
 pub done : (l bytes : List ℕ) (at k j : ℕ) → j ≡ k → pairs k (drop at l) ≡ ahead (take j bytes) (pairs (k - j) (drop (at + j * 3) l))
@@ -168,8 +155,8 @@ reshape s l h =
 
 -- ── the numbers ──
 
-pub unread : (s : ℕ) (says : Option Frame) (r : Line) → r ≡ line_with 0 none → says ≡ none → r ≡ line_with s says
-unread s says r e n = rw (e, n)
+pub unread : (s : ℕ) (says : Option Frame) → says ≡ none → None ≡ line_with s says
+unread s says n = sym (ap (line_with s) n)
 
 pub drop-zeros : (k n : ℕ) → drop {A = ℕ} k (replicate n 0) ≡ replicate (n - k) 0
 drop-zeros zero n = ap (λ (i : ℕ). replicate i 0) (sym (sub-zero n))
@@ -179,7 +166,7 @@ drop-zeros (suc k) (suc n) = let z : n - k ≡ suc n - suc k = omega arith in dr
 -- a frame that was read, in the struct
 pub told : (s k id time : ℕ) (bytes : List ℕ) (says : Option Frame) → length bytes ≡ 8 → k ≤ 8 → drop k bytes ≡ replicate (8 - k) 0
     → some (record { id = id; bytes = take k bytes; time = time }) ≡ says
-    → ◌≡◌ {A = Line} (record { ok = true; head = s + 4; id = id; time = time; len = k; bytes = bytes }) (line_with s says)
+    → ◌≡◌ {A = std.Option Line} (Some (record { head = s + 4; id = id; time = time; len = k; bytes = bytes })) (line_with s says)
 told s k id time bytes says n h z e =
     let l : length (take k bytes) ≡ k = length-take-le k bytes (omega arith) in
     let b : take k bytes ++ replicate (8 - k) 0 ≡ bytes = rw (← z) (take-append-drop k bytes) in
@@ -213,16 +200,14 @@ module _ (s : ℕ) (l : List ℕ) where
       no-id e = rw (e₁, e₂, e)
 
       module _ (id : ℕ) (e₃ : number 16 (span l (s + 5) 8) ≡ some id) where
-        pub no-data : (ok : Bool) (bs : List ℕ) → ok ≡ false → pick ok (some bs) none ≡ pairs ((length l - (s + 14)) / 3) (drop (s + 13) l)
-            → fields_of s l ≡ none
+        pub no-data : none ≡ pairs ((length l - (s + 14)) / 3) (drop (s + 13) l) → fields_of s l ≡ none
         unfolding fields_of framed
-        no-data ok bs n e = rw (e₁, e₂, e₃, ← e, n)
+        no-data e = rw (e₁, e₂, e₃, ← e)
 
-        pub read_all : count_of sec ≡ s → (ok : Bool) (bs : List ℕ) → ok ≡ true
-            → pick ok (some bs) none ≡ pairs ((length l - (s + 14)) / 3) (drop (s + 13) l)
+        pub read_all : count_of sec ≡ s → (bs : List ℕ) → some bs ≡ pairs ((length l - (s + 14)) / 3) (drop (s + 13) l)
             → some (record { id = id; bytes = bs; time = sec * 1000000 + ms * 1000 }) ≡ fields_of s l
         unfolding fields_of framed
-        read_all h ok bs y e = rw (e₁, e₂, e₃, ← e, y, eq-eqb (count_of sec) s h)
+        read_all h bs e = rw (e₁, e₂, e₃, ← e, eq-eqb (count_of sec) s h)
 
 -- a field of n digits in base b
 pub field_lt : (b : ℕ) → b ≤ 16 → 0 < b → (l : List ℕ) (at n v : ℕ) → at + n ≤ length l → number b (span l at n) ≡ some v → v < b ^ n

@@ -1,5 +1,6 @@
 -- RULES 12.2, 12.8: reading a line, in the steps that the code takes. specs/Laws.antt says what it comes to.
-use Rattle.std.specs.Prelude.{Bool, true, false, ◌&&◌, List, [], ◌∷◌, ◌++◌, ℕ, zero, suc, ◌+◌, ◌*◌, ◌-◌, ◌/◌, ◌%◌, ltb, leb, eqb, length, get_or, drop, replicate}
+use Rattle.std.specs.Prelude.{Bool, true, false, ◌&&◌, List, [], ◌∷◌, ◌++◌, ℕ, zero, suc, ◌+◌, ◌*◌, ◌-◌, ◌/◌, ◌%◌, ltb, leb, eqb, length, get_or, drop, replicate, Some, None}
+use Rattle.std.specs.Prelude as std
 use Rattle.std.proofs.Math.Option.{Option, none, some}
 use Rattle.bits.specs.Part.{span}
 use Rattle.log_line.specs.declared.read.Line.{Line}
@@ -52,17 +53,16 @@ said l = pick (shaped (before 46 l) l) (fields_of (before 46 l) l) none
 -- ── as the code tells it ──
 
 -- the reader's struct, where s characters come before the dot: the frame, its bytes filled up with zeros, and how many characters its time takes
-abbrev pub line_with : ℕ → Option Frame → Line
-line_with s none = record { ok = false; head = 0; id = 0; time = 0; len = 0; bytes = replicate 8 0 }
+abbrev pub line_with : ℕ → Option Frame → std.Option Line
+line_with s none = None
 line_with s (some f) =
-    record {
-      ok = true;
+    Some (record {
       head = s + 4;
       id = f.id;
       time = f.time;
       len = length f.bytes;
       bytes = f.bytes ++ replicate (8 - length f.bytes) 0;
-    }
+    })
 
-abbrev pub line_in : List ℕ → Line
+abbrev pub line_in : List ℕ → std.Option Line
 line_in l = line_with (before 46 l) (said l)

@@ -42,12 +42,10 @@ fn put_data(out: &mut [u8], at: usize, s: &[u8]) -> usize
     requires { at + length s.now * 3 ≤ length out.old }
     ensures { Puts out.old out.new at result (data_text s.now) }
 {
-    let mut i = 0;
-    while i < s.len() {
-        put_byte(out, at + i * 3, s[i]);
-        i += 1;
+    for (i, b) in s.iter().enumerate() {
+        put_byte(out, at + i * 3, *b);
     }
-    at + i * 3
+    at + s.len() * 3
 }
 
 // Internal. The line of a frame, from `at` on; the place past it.

@@ -1,6 +1,8 @@
 -- What a line gives, step by step.
 use mathlib.Core.Path.{◌≡◌, refl, sym, ap, ◌∙◌}
-use mathlib.Core.Bool.{true, false, false≢true}
+use mathlib.Core.Bool.{true}
+use Rattle.std.specs.Prelude.{Some, None, unwrap_or}
+use Rattle.std.specs.Prelude as std
 use mathlib.Core.List.{List, ◌++◌}
 use mathlib.Core.Option.{Option, none, some}
 use Prim.Native.Nat.{ℕ, ◌+◌, ◌-◌, ◌≤◌}
@@ -39,12 +41,16 @@ record Struct (l : List ℕ) (r : line.Line) : Type 0 where
   head : r.head ≡ before 46 l + 4
   few : r.len ≤ length r.bytes
 
-struct : (l : List ℕ) (r : line.Line) → r ≡ line_in l → r.ok ≡ true → Struct l r
-struct l r e ok = go (said l) refl where
+struct : (l : List ℕ) (r : line.Line) → line_in l ≡ Some r → Struct l r
+struct l r e = go (said l) refl where
   go : (o : Option Frame) → said l ≡ o → Struct l r
-  go none n = let z : false ≡ true = sym (ap (λ (x : line.Line). x.ok) (e ∙ ap (line_with (before 46 l)) n)) ∙ ok in absurd (false≢true z)
+  go none n =
+      let q : ◌≡◌ {A = std.Option line.Line} None (Some r) = sym (ap (line_with (before 46 l)) n) ∙ e in
+      let z : ◌≡◌ {A = ℕ} 0 1 = cc in
+      absurd (omega arith)
   go (some f) n =
-      let q : r ≡ line_with (before 46 l) (some f) = e ∙ ap (line_with (before 46 l)) n in
+      let q : r ≡ unwrap_or (line_with (before 46 l) (some f)) r =
+      ap (λ (o : std.Option line.Line). unwrap_or o r) (sym e ∙ ap (line_with (before 46 l)) n) in
       let t : take (length f.bytes) (f.bytes ++ replicate (8 - length f.bytes) 0) ≡ f.bytes = take_at f.bytes (replicate (8 - length f.bytes) 0) (length f.bytes) refl in
       record {
         says = n ∙ rw q (ap (λ (b : List ℕ). some (frame_at f.id b f.time)) (sym t));
@@ -52,27 +58,27 @@ struct l r e ok = go (said l) refl where
         few = rw q (omega (arith, length-append f.bytes (replicate (8 - length f.bytes) 0)));
       }
 
-module _ (l : List ℕ) (r : line.Line) (is : r ≡ line_in l) (ok : r.ok ≡ true) where
+module _ (l : List ℕ) (r : line.Line) (is : line_in l ≡ Some r) where
   pub says : said l ≡ some (frame_said r)
-  says = (struct l r is ok).says
+  says = (struct l r is).says
 
   front : Timed l (frame_said r)
   front = timed l (frame_said r) says
 
   pub len-in : r.len ≤ length r.bytes
-  len-in = (struct l r is ok).few
+  len-in = (struct l r is).few
 
   pub head_in : r.head ≤ length l
-  head_in = omega (arith, (struct l r is ok).head, front.long)
+  head_in = omega (arith, (struct l r is).head, front.long)
 
   pub head_few : r.head ≤ 13
-  head_few = omega (arith, (struct l r is ok).head, front.few)
+  head_few = omega (arith, (struct l r is).head, front.few)
 
   pub least : 15 ≤ length l
   least = front.least
 
   pub time : take r.head l ≡ time_text r.time
-  time = ap (λ (k : ℕ). take k l) (struct l r is ok).head ∙ front.text
+  time = ap (λ (k : ℕ). take k l) (struct l r is).head ∙ front.text
 
   -- what the types of a frame give
   pub in-range : Typed (frame_said r)

@@ -74,7 +74,7 @@ fn refuse(out: &mut [u8], at: usize, c: Counts) -> Said
 
 // A well-formed line. The receiver's state has no fault, and has none after.
 fn receive(state: &mut [u8], l: Line, line: &[u8], c: Counts, out: &mut [u8], at: usize) -> Said
-    requires { (l ≡ line_in line.now) × ((l.ok ≡ true) × ((sound_state state.old ≡ true) × (at + room ≤ length out.old))) }
+    requires { (line_in line.now ≡ Some l) × ((sound_state state.old ≡ true) × (at + room ≤ length out.old)) }
     ensures out_after { returned result state.new out.new ≡ replayed state.old line.now c out.old at }
     ensures fact { (sound_state state.new ≡ true) × (result.past ≤ at + length line.now * 80) }
 {
@@ -99,11 +99,10 @@ pub fn line(state: &mut [u8], line: &[u8], c: Counts, out: &mut [u8], at: usize)
     ensures out_after { returned result state.new out.new ≡ replayed state.old line.now c out.old at }
     ensures fact { (sound_state state.new ≡ true) × (result.past ≤ at + length line.now * 80) }
 {
-    let l = log_line::read::read(line);
-    if l.ok {
-        return receive(state, l, line, c, out, at);
+    match log_line::read::read(line) {
+        Some(l) => receive(state, l, line, c, out, at),
+        None => refuse(out, at, c),
     }
-    refuse(out, at, c)
 }
 
 // Internal. The last line.

@@ -7,7 +7,7 @@ ghost use Rattle.std.specs.Prelude.{◌≡◌, ◌<◌, ◌≤◌, length};
 
 use capture_convert::lines;
 use capture_convert::trailer::Trailer;
-use capture_file::Opened;
+use capture_file::OpenError;
 use console::{Console, Progress};
 use std::fs::File;
 use std::process::ExitCode;
@@ -16,14 +16,14 @@ use std::rt::{Env, Files};
 // Room for the lines of a block, each as long as any.
 const OUT: usize = 48128;
 
-// Records: how many are left and how many were read; the checksum of these; the first that no line can carry, counted from 1, or 0; whether
-// reading or writing failed.
+// Records: how many are left and how many were read; the checksum of these; the first that no line can carry, counted from 1; whether reading or
+// writing failed. A flag: how many were read is told after a failure too.
 #[derive(Clone, Copy)]
 struct Rest {
     left: usize,
     done: u64,
     sum: u16,
-    bad: u64,
+    bad: Option<u64>,
     failed: bool,
 }
 
@@ -31,12 +31,12 @@ fn no_capture(console: &Console) {
     console.say("22: not a capture, or damaged\n");
 }
 
-// 23, with the record; 0 if there is none.
-fn judged(console: &Console, record: u64) {
-    if record == 0 {
-        return console.done();
+// 23, with the record, if there is one.
+fn judged(console: &Console, bad: Option<u64>) {
+    match bad {
+        None => console.done(),
+        Some(record) => console.say(format_args!("23: no log line can carry record {record}\n")),
     }
-    console.say(format_args!("23: no log line can carry record {record}\n"));
 }
 
 // The lines of a block's records are written; whether that failed.
@@ -45,12 +45,11 @@ fn print(console: &mut Console, records: &[u8], out: &mut [u8], s: Rest) -> Rest
     ensures { result.left ≡ s.left }
 {
     let mut r = s;
-    if 0 < s.bad {
+    if s.bad.is_some() {
         return r;
     }
-    let m = lines::measure(records);
-    if !m.ok {
-        r.bad = s.done.wrapping_add(m.count as u64).wrapping_add(1);
+    if let Err(count) = lines::measure(records) {
+        r.bad = Some(s.done.wrapping_add(count as u64).wrapping_add(1));
         return r;
     }
     let len = lines::lines(records, out);
@@ -94,9 +93,10 @@ fn run(
         left: t.count,
         done: 0,
         sum: 0xFFFF,
-        bad: 0,
+        bad: None,
         failed: false,
     };
+    // A while: how far it goes on depends on how many records each read gives.
     while 0 < s.left && !s.failed {
         s = turn(console, file, block, out, s);
         capture_file::tell(progress, s.done);
@@ -120,9 +120,9 @@ fn whole(
 {
     let mut progress = console::open_progress(rt);
     match capture_file::open(rt) {
-        Opened::Capture(mut file, t) => run(console, &mut file, &mut progress, block, out, t),
-        Opened::NoCapture => no_capture(console),
-        Opened::Unreadable => console.cannot_read(),
+        Ok((mut file, t)) => run(console, &mut file, &mut progress, block, out, t),
+        Err(OpenError::NoCapture) => no_capture(console),
+        Err(OpenError::Unreadable) => console.cannot_read(),
     }
 }
 

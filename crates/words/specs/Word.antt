@@ -15,7 +15,6 @@ use Rattle.patch.specs.Answer as patch
 use Rattle.patch.specs.Patch.{patches}
 use Rattle.dsdl_signature.specs.Call as signing
 use Rattle.capture_convert.specs.Answer as conversion
-use Rattle.capture_convert.specs.declared.answer.Converted.{Converted}
 use Rattle.judge_capture.specs.Answer as judge
 use Rattle.judge_capture.specs.Judge.{judges}
 use Rattle.rules.specs.Range.{answered}
@@ -92,13 +91,13 @@ pub record SignaturesWordLaws : Type 0 where
 
 -- ── the result word of a conversion: the number in bits 0 to 7, the length from bit 8 on ──
 
-abbrev pub conversion_word : Converted → ℕ
+abbrev pub conversion_word : conversion.Converted → ℕ
 conversion_word a = conversion.number_of a + conversion.length_in a * 2 ^ 8
 
 -- C reads both
 pub record ConversionWordLaws : Type 0 where
-  pub number : (a : Converted) → number_in (conversion_word a) ≡ conversion.number_of a
-  pub len : (a : Converted) → conversion_word a / 2 ^ 8 ≡ conversion.length_in a
+  pub number : (a : conversion.Converted) → number_in (conversion_word a) ≡ conversion.number_of a
+  pub len : (a : conversion.Converted) → conversion_word a / 2 ^ 8 ≡ conversion.length_in a
 
 -- ── the result word of a verdict: the number in bits 0 to 7, the frame from bit 8 on ──
 

@@ -15,7 +15,7 @@ ghost use Rattle.words.specs.Word.{many_word, sent_word, patch_word, allocation_
 use allocator::answer;
 use answers::{Dispatch, SendError};
 use batch::BatchError;
-use capture_convert::answer::Converted;
+use capture_convert::answer::ConvertError;
 use judge_capture::verdict::Verdict;
 use patch::PatchError;
 
@@ -70,11 +70,14 @@ pub fn of_signatures(a: dsdl_signature::answer::Answer) -> u64
 }
 
 // Internal. The result word of a conversion.
-pub fn of_converted(a: Converted) -> u64
+pub fn of_converted(a: Result<usize, ConvertError>) -> u64
     requires { length_in a < 2 ^ 38 }
     ensures { result ≡ conversion_word a }
 {
-    a.number() + a.length() as u64 * 0x100
+    match a {
+        Ok(n) => n as u64 * 0x100,
+        Err(e) => e.number(),
+    }
 }
 
 // Internal. The result word of a verdict.

@@ -3,8 +3,8 @@ use Rattle.std.proofs.Common.{◌-◌, take, arith, length-take-le}
 use Rattle.capture_convert.proofs.Logs.{cut-few}
 use Rattle.capture.proofs.feed.Goals as goal
 
-pub records-r-requires : goal.records-r-requires
-records-r-requires c =
+pub records-requires : goal.records-requires
+records-requires c =
     let p = c.args.block.now in
     let n = c.args.n in
     omega (arith, cut-few (take (n - 0) p), length-take-le (n - 0) p (omega (arith, c.requires.0, c.requires.1.0)), c.requires.0, c.requires.1.1)

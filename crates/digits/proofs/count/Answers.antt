@@ -13,12 +13,6 @@ at-most v h = count-le 19 v (omega arith)
 pub loop-x-init : goal.loop-x-init
 loop-x-init c = (refl, at-most c.args.v c.ranges.v.fits)
 
-pub overflow_add-k : goal.overflow_add-k
-overflow_add-k c = omega arith
-
-pub loop-x-smaller : goal.loop-x-smaller
-loop-x-smaller c = omega arith
-
 pub loop-x-preserved : goal.loop-x-preserved
 loop-x-preserved c = (omega (arith, count-more c.loop-x.x c.loop-x-test.true), c.loop-x.invariant.1)
 

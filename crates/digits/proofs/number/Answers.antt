@@ -25,16 +25,13 @@ done : (s : List ℕ) (b v i : ℕ) → i ≡ length s → number_from b v (drop
 unfolding number_from
 done s b v i e = rw (e, drop-length s)
 
-pub loop-i-init : goal.loop-i-init
-loop-i-init c = (omega arith, (lit< tt, refl))
-
-pub bounds-s-i : goal.bounds-s-i
-bounds-s-i c = omega arith
+pub loop-c-init : goal.loop-c-init
+loop-c-init c = (lit< tt, refl)
 
 pub returns-then-base-d : goal.returns-then-base-d
 returns-then-base-d c =
     let a = c.args in
-    sym (ap as_number (sym c.loop-i.invariant.1.1 ∙ off a.s.now a.base c.loop-i.v c.loop-i.i c.digit-d.result (omega arith)
+    sym (ap as_number (sym c.loop-c.invariant.1 ∙ off a.s.now a.base c.loop-c.v c.loop-c.c-index c.digit-d.result (omega arith)
     c.digit-d.ensures c.if-base-d.true))
 
 pub overflow_mul-v : goal.overflow_mul-v
@@ -42,7 +39,7 @@ overflow_mul-v c =
     let a = c.args in
     omega (
       arith,
-      grows c.loop-i.v c.loop-i.i a.base c.digit-d.result c.loop-i.invariant.1.0 (omega (arith, c.requires))
+      grows c.loop-c.v c.loop-c.c-index a.base c.digit-d.result c.loop-c.invariant.0 (omega (arith, c.requires))
           c.requires.1 c.if-base-d.false,
     )
 
@@ -51,25 +48,19 @@ overflow_add-v c =
     let a = c.args in
     omega (
       arith,
-      grows c.loop-i.v c.loop-i.i a.base c.digit-d.result c.loop-i.invariant.1.0 (omega (arith, c.requires))
+      grows c.loop-c.v c.loop-c.c-index a.base c.digit-d.result c.loop-c.invariant.0 (omega (arith, c.requires))
           c.requires.1 c.if-base-d.false,
     )
 
-pub overflow_add-i : goal.overflow_add-i
-overflow_add-i c = omega arith
-
-pub loop-i-smaller : goal.loop-i-smaller
-loop-i-smaller c = omega arith
-
-pub loop-i-preserved : goal.loop-i-preserved
-loop-i-preserved c =
+pub loop-c-preserved : goal.loop-c-preserved
+loop-c-preserved c =
     let a = c.args in
-    let g = grows c.loop-i.v c.loop-i.i a.base c.digit-d.result c.loop-i.invariant.1.0 (omega (arith, c.requires))
+    let g = grows c.loop-c.v c.loop-c.c-index a.base c.digit-d.result c.loop-c.invariant.0 (omega (arith, c.requires))
     c.requires.1 c.if-base-d.false in
-    let o = on a.s.now a.base c.loop-i.v c.loop-i.i c.digit-d.result (omega arith) c.digit-d.ensures c.if-base-d.false in
-    (omega arith, rw add-one (g.0, sym o ∙ c.loop-i.invariant.1.1))
+    let o = on a.s.now a.base c.loop-c.v c.loop-c.c-index c.digit-d.result (omega arith) c.digit-d.ensures c.if-base-d.false in
+    rw add-one (g.0, sym o ∙ c.loop-c.invariant.1)
 
 pub returns : goal.returns
 returns c =
     let a = c.args in
-    ap as_number (sym (done a.s.now a.base c.loop-i.v c.loop-i.i (omega arith)) ∙ c.loop-i.invariant.1.1)
+    ap as_number (sym (done a.s.now a.base c.loop-c.v c.loop-c.c-index (omega arith)) ∙ c.loop-c.invariant.1)

@@ -1,12 +1,7 @@
 use Rattle.digits.specs.Digits.{digits}
 use Rattle.bits.specs.Part.{splice}
-use lib.ListN.{length}
-use Prim.Native.Nat.{◌≤◌}
 use mathlib.Core.Path.{◌≡◌}
 use Rattle.digits.proofs.put_digits.Given as goal
 
 abbrev pub invariant-loop-i : goal.invariant-loop-i
-invariant-loop-i l = (l.i ≤ l.w) × ((length l.out ≡ length l.initial.out) × (splice l.out l.at (digits 10 l.i l.x) ≡ splice l.initial.out l.at (digits 10 l.w l.v)))
-
-abbrev pub decreases-loop-i : goal.decreases-loop-i
-decreases-loop-i l = l.i
+invariant-loop-i l = splice l.out l.at (digits 10 l.i l.x) ≡ splice l.initial.out l.at (digits 10 l.w l.v)

@@ -35,70 +35,23 @@ turn m₀ m s at i x y h r l b p q e =
 
 pub loop-i-init : goal.loop-i-init
 unfolding hexes
-loop-i-init c = let a = c.args in (omega arith, (refl, sym (splice-nil a.out.now a.at)))
-
-pub bounds-s-i : goal.bounds-s-i
-bounds-s-i c = omega arith
-
-pub hex_digit-requires : goal.hex_digit-requires
-hex_digit-requires c = omega (arith, c.type_inv.s c.loop-i.i)
-
-pub overflow_mul-out : goal.overflow_mul-out
-overflow_mul-out c = omega arith
-
-pub overflow_add-out : goal.overflow_add-out
-overflow_add-out c = omega arith
-
-pub bounds-out-at : goal.bounds-out-at
-bounds-out-at c = omega arith
-
-pub hex_digit-requires-in-loop-i : goal.hex_digit-requires-in-loop-i
-hex_digit-requires-in-loop-i c = omega arith
-
-pub overflow_mul-out-in-loop-i : goal.overflow_mul-out-in-loop-i
-overflow_mul-out-in-loop-i c = omega arith
-
-pub overflow_add-out-in-loop-i : goal.overflow_add-out-in-loop-i
-overflow_add-out-in-loop-i c = omega arith
-
-pub overflow_add-out-in-loop-i-2 : goal.overflow_add-out-in-loop-i-2
-overflow_add-out-in-loop-i-2 c = omega arith
+loop-i-init c = sym (splice-nil c.args.out.now c.args.at)
 
 pub bounds-out-at-in-loop-i : goal.bounds-out-at-in-loop-i
 bounds-out-at-in-loop-i c = simp length-set (omega arith)
 
-pub overflow_add-i : goal.overflow_add-i
-overflow_add-i c = omega arith
-
-pub loop-i-smaller : goal.loop-i-smaller
-loop-i-smaller c = omega arith
-
 pub loop-i-preserved : goal.loop-i-preserved
 loop-i-preserved c =
-    let a = c.args in (
-      omega arith,
-      (
-        simp length-set c.loop-i.invariant.1.0,
-        rw (add-one c.loop-i.i) (turn a.out.now c.loop-i.out a.s.now a.at c.loop-i.i c.hex_digit.result
-            c.hex_digit-in-loop-i.result (omega arith) c.requires c.loop-i.invariant.1.0
-            (omega (arith, c.type_inv.s c.loop-i.i)) c.hex_digit.ensures c.hex_digit-in-loop-i.ensures c.loop-i.invariant.1.1),
-      ),
-    )
-
-pub overflow_mul-result : goal.overflow_mul-result
-overflow_mul-result c = omega arith
-
-pub overflow_add-result : goal.overflow_add-result
-overflow_add-result c = omega arith
-
-pub shape_of-out : goal.shape_of-out
-shape_of-out c = c.loop-i.invariant.1.0
+    let a = c.args in
+    rw (add-one c.loop-i.i) (turn a.out.now c.loop-i.out a.s.now a.at c.loop-i.i c.hex_digit.result
+            c.hex_digit-in-loop-i.result (omega arith) c.requires c.loop-i.auto.out
+            (omega (arith, c.type_inv.s c.loop-i.i)) c.hex_digit.ensures c.hex_digit-in-loop-i.ensures c.loop-i.invariant)
 
 pub returns : goal.returns
 returns c =
     let a = c.args in
     let e : c.loop-i.i ≡ length a.s.now = omega arith in
     record {
-      out = c.loop-i.invariant.1.1 ∙ ap (λ (z : List ℕ). splice a.out.now a.at (hexes z)) (take_all c.loop-i.i a.s.now (omega arith));
+      out = c.loop-i.invariant ∙ ap (λ (z : List ℕ). splice a.out.now a.at (hexes z)) (take_all c.loop-i.i a.s.now (omega arith));
       end = omega (arith, length-hexes a.s.now, e);
     }

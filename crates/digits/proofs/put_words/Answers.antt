@@ -9,7 +9,7 @@ use native.Mathlib.Numerals.{add-one}
 use native.Mathlib.Nat.{add-zero}
 use Prim.Native.Nat.{ℕ, suc, ◌+◌, ◌≤◌, ◌<◌}
 use mathlib.Core.List.{List, [], ◌∷◌, ◌++◌}
-use mathlib.Core.Path.{◌≡◌, refl, sym, ap, ◌∙◌}
+use mathlib.Core.Path.{◌≡◌, sym, ap, ◌∙◌}
 use Rattle.digits.proofs.put_words.Goals as goal
 
 -- a turn: one word after the others
@@ -20,51 +20,25 @@ turn a b d vs at i p q h l f g =
     ∙ words_snoc (take i vs) (get_or vs i 0) in
     rw e (puts-next a b d at p q (words (take i vs)) (words (get_or vs i 0 ∷ [])) f g (omega (arith, f.end)))
 
-pub loop-i-init : goal.loop-i-init
+pub loop-v-init : goal.loop-v-init
 unfolding words
-loop-i-init c =
+loop-v-init c =
     let a = c.args in
-    (omega arith, (refl, (omega arith, record { out = sym (splice-nil a.out.now a.at); end = sym (add-zero a.at) })))
+    (omega arith, record { out = sym (splice-nil a.out.now a.at); end = sym (add-zero a.at) })
 
-pub offset_bounds-vs-i : goal.offset_bounds-vs-i
-offset_bounds-vs-i c = omega arith
-
-pub bounds-vs-i : goal.bounds-vs-i
-bounds-vs-i c = omega arith
-
-pub word-p-requires : goal.word-p-requires
-word-p-requires c =
-    omega (arith, c.requires, c.loop-i.invariant)
-
-pub overflow_add-i : goal.overflow_add-i
-overflow_add-i c = omega arith
-
-pub loop-i-smaller : goal.loop-i-smaller
-loop-i-smaller c = omega arith
-
-pub loop-i-preserved : goal.loop-i-preserved
-loop-i-preserved c =
+pub loop-v-preserved : goal.loop-v-preserved
+loop-v-preserved c =
     let a = c.args in
-    let i = c.loop-i.i in
-    let v = c.loop-i.invariant.1 in (
-      omega arith,
-      (
-        omega (arith, c.word-p.auto.out, v.0),
-        (
-          omega (arith, c.word-p.ensures.1, v.1.0),
-          rw (add-one i) (turn a.out.now c.loop-i.out c.word-p.new.out a.vs.now a.at i c.loop-i.p c.word-p.result
-              (omega arith)
-              (omega (arith, c.requires, v.1.0)) v.1.1 c.word-p.ensures.0),
-        ),
-      ),
+    let i = c.loop-v.v-index in
+    let v = c.loop-v.invariant in (
+      omega (arith, c.word-p.ensures.1, v.0),
+      rw (add-one i) (turn a.out.now c.loop-v.out c.word-p.new.out a.vs.now a.at i c.loop-v.p c.word-p.result (omega arith)
+          (omega (arith, c.requires, v.0, c.loop-v.auto.out)) v.1 c.word-p.ensures.0),
     )
-
-pub shape_of-out : goal.shape_of-out
-shape_of-out c = c.loop-i.invariant.1.0
 
 pub returns : goal.returns
 returns c =
     let a = c.args in
-    let v = c.loop-i.invariant.1.1 in
-    let e : take c.loop-i.i a.vs.now ≡ a.vs.now = take_all c.loop-i.i a.vs.now (omega arith) in
+    let v = c.loop-v.invariant in
+    let e : take c.loop-v.v-index a.vs.now ≡ a.vs.now = take_all c.loop-v.v-index a.vs.now (omega arith) in
     (rw e at v.1, omega (arith, v.0))

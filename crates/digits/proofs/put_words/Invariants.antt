@@ -1,12 +1,8 @@
 use Rattle.digits.specs.Digits.{words}
 use Rattle.digits.specs.inside.Text.{Puts}
-use lib.ListN.{length, take}
-use Prim.Native.Nat.{◌+◌, ◌*◌, ◌-◌, ◌≤◌}
-use mathlib.Core.Path.{◌≡◌}
+use lib.ListN.{take}
+use Prim.Native.Nat.{◌+◌, ◌*◌, ◌≤◌}
 use Rattle.digits.proofs.put_words.Given as goal
 
-abbrev pub invariant-loop-i : goal.invariant-loop-i
-invariant-loop-i l = (l.i ≤ length l.vs) × ((length l.out ≡ length l.initial.out) × ((l.p ≤ l.at + l.i * 21) × Puts l.initial.out l.out l.at l.p (words (take l.i l.vs))))
-
-abbrev pub decreases-loop-i : goal.decreases-loop-i
-decreases-loop-i l = length l.vs - l.i
+abbrev pub invariant-loop-v : goal.invariant-loop-v
+invariant-loop-v l = (l.p ≤ l.at + l.v-index * 21) × Puts l.initial.out l.out l.at l.p (words (take l.v-index l.vs))

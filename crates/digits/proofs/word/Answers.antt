@@ -27,15 +27,6 @@ pub put_digits-requires : goal.put_digits-requires
 put_digits-requires c =
     simp length-set (omega (arith, c.count-w.ensures.1, c.requires))
 
-pub shape_of-out : goal.shape_of-out
-shape_of-out c =
-    omega (
-      arith,
-      c.put_digits.auto.out,
-      length-set c.args.out.now
-          c.args.at 32,
-    )
-
 pub returns : goal.returns
 returns c =
     let a = c.args in (

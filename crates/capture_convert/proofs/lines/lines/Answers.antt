@@ -12,21 +12,6 @@ loop-count-init c =
     let a = c.args in
     begin-lining a.records.now a.out.now (length a.records.now / 21)
 
-pub overflow_mul-at : goal.overflow_mul-at
-overflow_mul-at c = omega arith
-
-pub overflow_add-at : goal.overflow_add-at
-overflow_add-at c = omega arith
-
-pub slice_bounds-line-count : goal.slice_bounds-line-count
-slice_bounds-line-count c = omega arith
-
-pub slice_bounds-line-start : goal.slice_bounds-line-start
-slice_bounds-line-start c = omega arith
-
-pub slice_bounds-line-end : goal.slice_bounds-line-end
-slice_bounds-line-end c = omega arith
-
 pub line-p-requires : goal.line-p-requires
 line-p-requires c =
     let b = c.args.records.now in
@@ -39,12 +24,6 @@ line-p-requires c =
             c.loop-count-test.true,
       ),
     )
-
-pub overflow_add-count : goal.overflow_add-count
-overflow_add-count c = omega arith
-
-pub loop-count-smaller : goal.loop-count-smaller
-loop-count-smaller c = omega arith
 
 pub loop-count-preserved : goal.loop-count-preserved
 loop-count-preserved c =

@@ -1,5 +1,5 @@
 -- `lines::measure` meets its contract.
-use mathlib.Core.Path.{◌≡◌, refl, sym, ◌∙◌}
+use mathlib.Core.Path.{◌≡◌, sym, ◌∙◌}
 use Prim.Native.Nat.{◌+◌, ◌*◌, ◌-◌, ◌/◌}
 use native.Mathlib.Omega.{arith}
 use borrow.Author.Tests.{not-true, not-false}
@@ -7,27 +7,11 @@ use lib.ListN.{length}
 use Rattle.bits.specs.Part.{span}
 use Rattle.bits.proofs.Splice.{length-span}
 use Rattle.capture_record.proofs.Records.{carriable-fit}
-use Rattle.capture_convert.specs.inside.Walks.{whole, broken}
 use Rattle.capture_convert.proofs.Walking.{begin-measuring, halt, passed, size_is, next-measuring}
 use Rattle.capture_convert.proofs.lines.measure.Goals as goal
 
 pub loop-count-init : goal.loop-count-init
 loop-count-init c = begin-measuring c.args.records.now (length c.args.records.now / 21)
-
-pub overflow_mul-at : goal.overflow_mul-at
-overflow_mul-at c = omega arith
-
-pub overflow_add-at : goal.overflow_add-at
-overflow_add-at c = omega arith
-
-pub slice_bounds-read-count : goal.slice_bounds-read-count
-slice_bounds-read-count c = omega arith
-
-pub slice_bounds-read-start : goal.slice_bounds-read-start
-slice_bounds-read-start c = omega arith
-
-pub slice_bounds-read-end : goal.slice_bounds-read-end
-slice_bounds-read-end c = omega arith
 
 pub read-s-requires : goal.read-s-requires
 read-s-requires c =
@@ -37,8 +21,8 @@ read-s-requires c =
 pub returns-then-not-s : goal.returns-then-not-s
 returns-then-not-s c =
     let p = c.args.records.now in
-    broken (halt p (length p / 21) c.loop-count.count c.loop-count.invariant.gone c.loop-count-test.true
-    (sym c.read-s.ensures.ok ∙ not-true c.read-s.result.ok c.if-not-s.true)) refl
+    halt p (length p / 21) c.loop-count.count c.loop-count.invariant.gone c.loop-count-test.true
+    (sym c.read-s.ensures.ok ∙ not-true c.read-s.result.ok c.if-not-s.true)
 
 pub line_length-len-requires : goal.line_length-len-requires
 line_length-len-requires c =
@@ -47,16 +31,6 @@ line_length-len-requires c =
       c.read-s.ensures.len,
       (carriable-fit _ (sym c.read-s.ensures.ok ∙ not-false c.read-s.result.ok c.if-not-s.false)).few,
     )
-
-pub overflow_add-len : goal.overflow_add-len
-overflow_add-len c =
-    omega (arith, c.line_length-len.ensures.1, c.loop-count.invariant.few, c.requires)
-
-pub overflow_add-count : goal.overflow_add-count
-overflow_add-count c = omega arith
-
-pub loop-count-smaller : goal.loop-count-smaller
-loop-count-smaller c = omega arith
 
 pub loop-count-preserved : goal.loop-count-preserved
 loop-count-preserved c =
@@ -71,4 +45,8 @@ loop-count-preserved c =
 pub returns : goal.returns
 returns c =
     let p = c.args.records.now in
-    whole c.loop-count.invariant.gone.done (passed p (length p / 21) c.loop-count.count c.loop-count.invariant.gone c.loop-count-test.false) refl c.loop-count.invariant.sum
+    record {
+      frames = c.loop-count.invariant.gone.done;
+      carried = passed p (length p / 21) c.loop-count.count c.loop-count.invariant.gone c.loop-count-test.false;
+      len = c.loop-count.invariant.sum;
+    }
