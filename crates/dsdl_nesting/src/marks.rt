@@ -33,7 +33,7 @@ fn row(sets: [bool; SETS], i: usize, marks: [bool; PLACES]) -> bool
     true
 }
 
-// Internal. For each definition, whether all its nested types are marked.
+// Internal. For each definition, whether all its nested types are marked. Arrays are filled by loops, not by a closure, which C could not call.
 pub fn next(sets: [bool; SETS], n: usize, marks: [bool; PLACES]) -> [bool; PLACES]
     requires { n ≤ definition_max }
     ensures { Kept false (row_holds sets marks) true n n result }

@@ -45,30 +45,43 @@ fn put_length(lengths: &mut [u8], at: usize, n: usize) {
     le::put_at(lengths, at, 4, n as u64);
 }
 
+// A definition: the name of a type, and the text.
+#[derive(Clone, Copy)]
+struct Definition {
+    name: &'static [u8],
+    text: &'static [u8],
+}
+
 // One more definition, of at most eight.
-fn with(g: Given, source: &mut [u8], name: &[u8], text: &[u8]) -> Given {
+fn with(g: Given, source: &mut [u8], d: &Definition) -> Given {
     let count = g.count;
     if 7 < count {
         return g;
     }
-    let named = put(source, g.at, name);
-    let end = put(source, named, text);
+    let named = put(source, g.at, d.name);
+    let end = put(source, named, d.text);
     let mut lengths = g.lengths;
-    put_length(&mut lengths, count * 8, name.len());
-    put_length(&mut lengths, count * 8 + 4, text.len());
+    put_length(&mut lengths, count * 8, d.name.len());
+    put_length(&mut lengths, count * 8 + 4, d.text.len());
     Given {
         at: end,
         count: count + 1,
-        lengths: lengths,
+        lengths,
     }
 }
 
-fn node_status(g: Given, source: &mut [u8]) -> Given {
-    with(
-        g,
-        source,
-        b"uavcan.protocol.NodeStatus",
-        b"uint32 uptime_sec
+// All of them, one after the other.
+fn all_of(definitions: &[Definition], source: &mut [u8]) -> Given {
+    let mut g = none();
+    for d in definitions {
+        g = with(g, source, d);
+    }
+    g
+}
+
+const NODE_STATUS: Definition = Definition {
+    name: b"uavcan.protocol.NodeStatus",
+    text: b"uint32 uptime_sec
 uint2 HEALTH_OK = 0
 uint2 HEALTH_CRITICAL = 3
 uint2 health
@@ -77,29 +90,21 @@ uint3 mode
 uint3 sub_mode # zero
 uint16 vendor_specific_status_code
 ",
-    )
-}
+};
 
-fn get_node_info(g: Given, source: &mut [u8]) -> Given {
-    with(
-        g,
-        source,
-        b"uavcan.protocol.GetNodeInfo",
-        b"---
+const GET_NODE_INFO: Definition = Definition {
+    name: b"uavcan.protocol.GetNodeInfo",
+    text: b"---
 NodeStatus status
 SoftwareVersion software_version
 HardwareVersion hardware_version
 uint8[<=80] name
 ",
-    )
-}
+};
 
-fn software_version(g: Given, source: &mut [u8]) -> Given {
-    with(
-        g,
-        source,
-        b"uavcan.protocol.SoftwareVersion",
-        b"uint8 major
+const SOFTWARE_VERSION: Definition = Definition {
+    name: b"uavcan.protocol.SoftwareVersion",
+    text: b"uint8 major
 uint8 minor
 uint8 OPTIONAL_FIELD_FLAG_VCS_COMMIT = 1
 uint8 OPTIONAL_FIELD_FLAG_IMAGE_CRC  = 2
@@ -107,77 +112,53 @@ uint8 optional_field_flags
 uint32 vcs_commit
 uint64 image_crc
 ",
-    )
-}
+};
 
-fn hardware_version(g: Given, source: &mut [u8]) -> Given {
-    with(
-        g,
-        source,
-        b"uavcan.protocol.HardwareVersion",
-        b"uint8 major
+const HARDWARE_VERSION: Definition = Definition {
+    name: b"uavcan.protocol.HardwareVersion",
+    text: b"uint8 major
 uint8 minor
 uint8[16] unique_id
 uint8[<=255] certificate_of_authenticity
 ",
-    )
-}
+};
 
-fn allocation(g: Given, source: &mut [u8]) -> Given {
-    with(
-        g,
-        source,
-        b"uavcan.protocol.dynamic_node_id.Allocation",
-        b"uint16 FOLLOWUP_TIMEOUT_MS = 500
+const ALLOCATION: Definition = Definition {
+    name: b"uavcan.protocol.dynamic_node_id.Allocation",
+    text: b"uint16 FOLLOWUP_TIMEOUT_MS = 500
 uint7 ANY_NODE_ID = 0
 uint7 node_id
 bool first_part_of_unique_id
 uint8[<=16] unique_id
 ",
-    )
-}
+};
 
-fn key_value(g: Given, source: &mut [u8]) -> Given {
-    with(
-        g,
-        source,
-        b"uavcan.protocol.debug.KeyValue",
-        b"float32 value
+const KEY_VALUE: Definition = Definition {
+    name: b"uavcan.protocol.debug.KeyValue",
+    text: b"float32 value
 uint8[<=58] key
 ",
-    )
-}
+};
 
-fn log_message(g: Given, source: &mut [u8]) -> Given {
-    with(
-        g,
-        source,
-        b"uavcan.protocol.debug.LogMessage",
-        b"LogLevel level
+const LOG_MESSAGE: Definition = Definition {
+    name: b"uavcan.protocol.debug.LogMessage",
+    text: b"LogLevel level
 uint8[<=31] source
 uint8[<=90] text
 ",
-    )
-}
+};
 
-fn log_level(g: Given, source: &mut [u8]) -> Given {
-    with(
-        g,
-        source,
-        b"uavcan.protocol.debug.LogLevel",
-        b"uint3 DEBUG = 0
+const LOG_LEVEL: Definition = Definition {
+    name: b"uavcan.protocol.debug.LogLevel",
+    text: b"uint3 DEBUG = 0
 uint3 ERROR = 3
 uint3 value
 ",
-    )
-}
+};
 
-fn battery_info(g: Given, source: &mut [u8]) -> Given {
-    with(
-        g,
-        source,
-        b"uavcan.equipment.power.BatteryInfo",
-        b"float16 temperature
+const BATTERY_INFO: Definition = Definition {
+    name: b"uavcan.equipment.power.BatteryInfo",
+    text: b"float16 temperature
 float16 voltage
 float16 current
 float16 average_power_10sec
@@ -195,25 +176,17 @@ uint8 battery_id
 uint32 model_instance_id
 uint8[<=31] model_name
 ",
-    )
-}
+};
 
-fn raw_command(g: Given, source: &mut [u8]) -> Given {
-    with(
-        g,
-        source,
-        b"uavcan.equipment.esc.RawCommand",
-        b"int14[<=20] cmd
+const RAW_COMMAND: Definition = Definition {
+    name: b"uavcan.equipment.esc.RawCommand",
+    text: b"int14[<=20] cmd
 ",
-    )
-}
+};
 
-fn get_set(g: Given, source: &mut [u8]) -> Given {
-    with(
-        g,
-        source,
-        b"uavcan.protocol.param.GetSet",
-        b"uint13 index
+const GET_SET: Definition = Definition {
+    name: b"uavcan.protocol.param.GetSet",
+    text: b"uint13 index
 Value value
 uint8[<=92] name
 ---
@@ -227,47 +200,36 @@ void6
 NumericValue min_value
 uint8[<=92] name
 ",
-    )
-}
+};
 
-fn value(g: Given, source: &mut [u8]) -> Given {
-    with(
-        g,
-        source,
-        b"uavcan.protocol.param.Value",
-        b"@union
+const VALUE: Definition = Definition {
+    name: b"uavcan.protocol.param.Value",
+    text: b"@union
 Empty empty
 int64 integer_value
 float32 real_value
 uint8 boolean_value
 uint8[<=128] string_value
 ",
-    )
-}
+};
 
-fn numeric_value(g: Given, source: &mut [u8]) -> Given {
-    with(
-        g,
-        source,
-        b"uavcan.protocol.param.NumericValue",
-        b"@union
+const NUMERIC_VALUE: Definition = Definition {
+    name: b"uavcan.protocol.param.NumericValue",
+    text: b"@union
 Empty empty
 int64 integer_value
 float32 real_value
 ",
-    )
-}
+};
 
-fn empty(g: Given, source: &mut [u8]) -> Given {
-    with(g, source, b"uavcan.protocol.param.Empty", b"")
-}
+const EMPTY: Definition = Definition {
+    name: b"uavcan.protocol.param.Empty",
+    text: b"",
+};
 
-fn execute_opcode(g: Given, source: &mut [u8]) -> Given {
-    with(
-        g,
-        source,
-        b"uavcan.protocol.param.ExecuteOpcode",
-        b"uint8 OPCODE_SAVE = 0
+const EXECUTE_OPCODE: Definition = Definition {
+    name: b"uavcan.protocol.param.ExecuteOpcode",
+    text: b"uint8 OPCODE_SAVE = 0
 uint8 OPCODE_ERASE = 1
 uint8 opcode
 int48 argument
@@ -275,14 +237,13 @@ int48 argument
 int48 argument
 bool ok
 ",
-    )
-}
+};
 
 // The call with the first n bytes of lengths. A refusal leaves the records, and shows in the table.
 fn work_out(source: &[u8], lengths: &[u8], n: usize, records: &mut [u8]) {
     let mut forms = [0u8; 2000];
     if n <= lengths.len() {
-        dsdl_signature::call::signatures(source, &lengths[0..n], &mut forms, records);
+        let _ = dsdl_signature::call::signatures(source, &lengths[0..n], &mut forms, records);
     }
 }
 
@@ -310,14 +271,17 @@ fn row(rt: &impl Print, name: &str, records: [u8; 96], i: usize, public: u64) ->
 // What the transport and the debugging of nodes use.
 fn protocol(rt: &impl Print) -> io::Result<()> {
     let mut source = [0u8; 2000];
-    let mut g = node_status(none(), &mut source);
-    g = get_node_info(g, &mut source);
-    g = software_version(g, &mut source);
-    g = hardware_version(g, &mut source);
-    g = allocation(g, &mut source);
-    g = key_value(g, &mut source);
-    g = log_message(g, &mut source);
-    g = log_level(g, &mut source);
+    let definitions = [
+        NODE_STATUS,
+        GET_NODE_INFO,
+        SOFTWARE_VERSION,
+        HARDWARE_VERSION,
+        ALLOCATION,
+        KEY_VALUE,
+        LOG_MESSAGE,
+        LOG_LEVEL,
+    ];
+    let g = all_of(&definitions, &mut source);
     let r = records_of(g, &source);
     row(
         rt,
@@ -358,8 +322,8 @@ fn protocol(rt: &impl Print) -> io::Result<()> {
 
 fn equipment(rt: &impl Print) -> io::Result<()> {
     let mut source = [0u8; 2000];
-    let mut g = battery_info(none(), &mut source);
-    g = raw_command(g, &mut source);
+    let definitions = [BATTERY_INFO, RAW_COMMAND];
+    let g = all_of(&definitions, &mut source);
     let r = records_of(g, &source);
     row(
         rt,
@@ -380,11 +344,8 @@ fn equipment(rt: &impl Print) -> io::Result<()> {
 // Types of the parameters, with unions and padding. `types` does not have them.
 fn parameters(rt: &impl Print) -> io::Result<()> {
     let mut source = [0u8; 2000];
-    let mut g = get_set(none(), &mut source);
-    g = value(g, &mut source);
-    g = numeric_value(g, &mut source);
-    g = empty(g, &mut source);
-    g = execute_opcode(g, &mut source);
+    let definitions = [GET_SET, VALUE, NUMERIC_VALUE, EMPTY, EXECUTE_OPCODE];
+    let g = all_of(&definitions, &mut source);
     let r = records_of(g, &source);
     row(
         rt,
