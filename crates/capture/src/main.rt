@@ -52,7 +52,13 @@ fn stored(console: &mut Console, records: &[u8], count: u64) -> bool {
 }
 
 // The lines among the first n bytes of the block: their records are written, and what follows them is kept.
-fn feed(console: &mut Console, block: &mut [u8], n: usize, out: &mut [u8], s: After) -> Result<After, Told>
+fn feed(
+    console: &mut Console,
+    block: &mut [u8],
+    n: usize,
+    out: &mut [u8],
+    s: After,
+) -> Result<After, Told>
     requires { (n ≤ 32768) × ((length block.old ≡ 32768) × (length out.old ≡ 688128)) }
     ensures { IfOk result (λ s. s.kept ≤ 32768) }
 {
@@ -77,7 +83,12 @@ fn feed(console: &mut Console, block: &mut [u8], n: usize, out: &mut [u8], s: Af
 }
 
 // One read; None at the end of the input.
-fn turn(console: &mut Console, block: &mut [u8], out: &mut [u8], s: After) -> Result<Option<After>, Told>
+fn turn(
+    console: &mut Console,
+    block: &mut [u8],
+    out: &mut [u8],
+    s: After,
+) -> Result<Option<After>, Told>
     requires { (s.kept ≤ 32768) × ((length block.old ≡ 32768) × (length out.old ≡ 688128)) }
     ensures { IfOk result (λ o. IfSome o (λ s. s.kept ≤ 32768)) }
 {

@@ -9,12 +9,11 @@ use capture_convert::trailer;
 use capture_convert::trailer::Trailer;
 use console::Progress;
 use std::env::FillError;
-use std::fs;
 use std::fs::File;
-use std::io;
 use std::io::{Read, Seek, SeekFrom};
 use std::os::unix::fs::FileTypeExt;
 use std::rt::{Env, Files};
+use std::{fs, io};
 
 // The records of a block, and its bytes.
 pub const RECORDS: usize = 1024;

@@ -13,6 +13,7 @@ use log_line::read::Line;
 pub const SIZE: usize = 21;
 
 // A record that was read: whether a line can carry it, and what it says; its data are the `len` bytes after its first 13.
+// A flag: what the record says holds either way, and is shown where no line can carry it.
 #[derive(Drop)]
 pub struct Stamped {
     pub ok: bool,

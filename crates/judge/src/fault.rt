@@ -61,7 +61,7 @@ fn show_frame(console: &mut Console, r: &[u8])
 {
     let mut out = [0u8; 47];
     text::say(console, b"frame:     ");
-    if lines::measure(r).is_ok() {
+    if let Ok(_) = lines::measure(r) {
         let n = lines::lines(r, &mut out);
         return text::say(console, &out[0..n]);
     }

@@ -1,7 +1,7 @@
 // The log program (RULES 12): standard input to standard output, a block at a time. Reading and writing are here, all else is in `log_feed`.
 #![tactic(auto)]
 
-ghost use Rattle.std.specs.Prelude.{◌≡◌, true, ◌≤◌, length};
+ghost use Rattle.std.specs.Prelude.{◌≡◌, true, ◌≤◌, length, IfSome, IfOk};
 ghost use Rattle.state.specs.Layout.{size};
 ghost use Rattle.state.specs.Sound.{sound_state};
 
@@ -15,82 +15,64 @@ const BLOCK: usize = 8192;
 
 const OUT: usize = 656560;
 
-// After a block: whether to go on, and if not, whether reading or writing failed; how many bytes of an unfinished line are in front of the
-// buffer; the counts.
-#[derive(Drop)]
+// After a block: how many bytes of an unfinished line are in front of the buffer; the counts.
+#[derive(Clone, Copy)]
 struct After {
-    more: bool,
-    failed: bool,
     kept: usize,
     counts: Counts,
 }
 
-fn stop(failed: bool, kept: usize, counts: Counts) -> After
-    ensures { result.kept ≡ kept }
-{
-    After {
-        more: false,
-        failed: failed,
-        kept: kept,
-        counts: counts,
-    }
-}
+// Reading or writing failed, and its line is on standard error.
+#[derive(Clone, Copy)]
+struct Failed;
 
-// One read: its lines, and what they gave is written.
+// One read: its lines, and what they gave is written. None at the end of the input.
 fn turn(
     console: &mut Console,
     state: &mut [u8],
     block: &mut [u8],
-    kept: usize,
     out: &mut [u8],
-    counts: Counts,
-) -> After
-    requires { (sound_state state.old ≡ true) × ((kept ≤ 48) × ((length block.old ≡ 8192) × (length out.old ≡ 656560))) }
-    ensures { (sound_state state.new ≡ true) × (result.kept ≤ 48) }
+    s: After,
+) -> Result<Option<After>, Failed>
+    requires { (sound_state state.old ≡ true) × ((s.kept ≤ 48) × ((length block.old ≡ 8192) × (length out.old ≡ 656560))) }
+    ensures { (sound_state state.new ≡ true) × IfOk result (λ o. IfSome o (λ s. s.kept ≤ 48)) }
 {
+    let kept = s.kept;
     let Some(got) = console.read(&mut block[kept..]) else {
-        return stop(true, kept, counts);
+        return Err(Failed);
     };
-    let n = kept + got;
-    if n == kept {
-        return stop(false, kept, counts);
+    if got == 0 {
+        return Ok(None);
     }
-    let f = log_feed::feed(state, block, n, out, counts);
-    let len = f.len;
-    let after = f.counts;
-    let good = console.written(&out[0..len]);
-    After {
-        more: good,
-        failed: !good,
+    let f = log_feed::feed(state, block, kept + got, out, s.counts);
+    if !console.written(&out[0..f.len]) {
+        return Err(Failed);
+    }
+    Ok(Some(After {
         kept: f.kept,
-        counts: after,
-    }
+        counts: f.counts,
+    }))
 }
 
 // All blocks, and the end, which is not told after a failure.
 fn run(console: &mut Console, state: &mut [u8], block: &mut [u8], out: &mut [u8])
     requires { (sound_state state.old ≡ true) × ((length block.old ≡ 8192) × (length out.old ≡ 656560)) }
 {
-    let mut counts = Counts {
-        lines: 0,
-        transfers: 0,
+    let mut s = After {
+        kept: 0,
+        counts: Counts {
+            lines: 0,
+            transfers: 0,
+        },
     };
-    let mut kept = 0;
-    let mut more = true;
-    let mut failed = false;
-    let mut turns = u64::MAX;
-    while turns > 0 && more {
-        let t = turn(console, state, block, kept, out, counts);
-        counts = t.counts;
-        kept = t.kept;
-        more = t.more;
-        failed = t.failed;
-        turns -= 1;
+    for _ in 0..u64::MAX {
+        match turn(console, state, block, out, s) {
+            Ok(Some(after)) => s = after,
+            Ok(None) => break,
+            Err(Failed) => return,
+        }
     }
-    if failed {
-        return;
-    }
-    let n = log_feed::finish(state, &block[0..kept], out, counts);
+    let n = log_feed::finish(state, &block[0..s.kept], out, s.counts);
     console.written(&out[0..n]);
 }
 

@@ -14,7 +14,7 @@ use log_line::read::Line;
 use rules::limits::PAYLOAD;
 
 // Lines read and transfers handed out.
-#[derive(Drop)]
+#[derive(Clone, Copy)]
 pub struct Counts {
     pub lines: u64,
     pub transfers: u64,

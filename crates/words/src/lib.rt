@@ -75,7 +75,7 @@ pub fn of_converted(a: Result<usize, ConvertError>) -> u64
     ensures { result ≡ conversion_word a }
 {
     match a {
-        Ok(n) => n as u64 * 0x100,
+        Ok(len) => len as u64 * 0x100,
         Err(e) => e.number(),
     }
 }

@@ -5,4 +5,4 @@ use Rattle.judge.proofs.fault.show_frame.Goals as goal
 
 pub lines-n-requires : goal.lines-n-requires
 lines-n-requires c =
-    prints c.args.r.now c.measure.result 47 c.measure.ensures c.if-measure.true (omega (arith, c.requires))
+    prints c.args.r.now _ 47 c.in-Ok.ensures (omega (arith, c.requires))
