@@ -18,9 +18,7 @@ use Rattle.dsdl_number.specs.inside.Capped.{cap}
 -- ── a character alone ──
 
 module _ (c : ℕ) where
-
   module _ (h : 32 ≤ c) where
-
     module _ (k : c ≤ 126) where
       pub quote : c ≡ 39 → 256 ≡ plain c
       quote e = rw (le-leb 32 c h, le-leb c 126 k, eq-eqb c 39 e)
@@ -43,7 +41,6 @@ module _ (s : List ℕ) (v : ℕ) (e : many Hexadecimal s ≡ true) (q : v ≡ m
 -- ── the closing quote ──
 
 module _ (s : List ℕ) (n : ℕ) where
-
   pub closed : (r : Bool) → n ≤ length s → get_or s (n - 1) 0 ≡ 39 → r ≡ all Blank (take (length s - n) (drop n s))
       → (r ≡ is_closed n s) × (r ≡ true → n ≤ length s)
   closed r h e q = (rw (eq-eqb (get_or s (n - 1) 0) 39 e) (q ∙ ap (all Blank) (rest n s)), λ t. h)

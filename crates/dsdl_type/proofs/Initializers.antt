@@ -121,7 +121,6 @@ nothing b [] h = refl
 nothing b (x ∷ xs) h = absurd (omega arith)
 
 module _ (l : List ℕ) (c : ℕ) (ec : c ≡ first l) where
-
   module _ (b : Base) where
     pub in-quotes : (q : ℕ) (r : Bool) → c ≡ 39 → q ≡ quoted (take (length l - 1) (drop 1 l)) → r ≡ fits b (character q) → r ≡ fits b (initializer l)
     unfolding initializer

@@ -32,7 +32,12 @@ pub struct Outgoing {
 }
 
 // A message or a request: the transfer ID comes from the map.
-fn number(map: &mut [u8], c: Outgoing, payload: &[u8], out: &mut [u8]) -> Result<Dispatch, SendError>
+fn number(
+    map: &mut [u8],
+    c: Outgoing,
+    payload: &[u8],
+    out: &mut [u8],
+) -> Result<Dispatch, SendError>
     requires ready { (sound_map map.old ≡ true) × InRange (call_of c payload.now) }
     requires fits { (c.transfer_type ≡ 2 → ⊥) × ((length payload.now ≤ payload_max) × (frame_record * frame_count (length payload.now) ≤ length out.old)) }
     ensures { returned result map.new out.new ≡ lent map.old out.old (send_in (slot_for (topic_of (call_of c payload.now)) c.time (map_of map.old)) (call_of c payload.now) (map_of map.old)) }
@@ -52,7 +57,12 @@ fn number(map: &mut [u8], c: Outgoing, payload: &[u8], out: &mut [u8]) -> Result
 }
 
 // On a map without a fault.
-fn dispatch(map: &mut [u8], c: Outgoing, payload: &[u8], out: &mut [u8]) -> Result<Dispatch, SendError>
+fn dispatch(
+    map: &mut [u8],
+    c: Outgoing,
+    payload: &[u8],
+    out: &mut [u8],
+) -> Result<Dispatch, SendError>
     requires { sound_map map.old ≡ true }
     ensures { returned result map.new out.new ≡ lent map.old out.old (send_step (call_of c payload.now) (map_of map.old) (length out.old)) }
 {
@@ -76,7 +86,12 @@ fn dispatch(map: &mut [u8], c: Outgoing, payload: &[u8], out: &mut [u8]) -> Resu
 }
 
 // Sends a payload: the answer, the map after and the output buffer (RULES 7.3, 7.6). A map at fault answers 20.
-pub fn send(map: &mut [u8], c: Outgoing, payload: &[u8], out: &mut [u8]) -> Result<Dispatch, SendError>
+pub fn send(
+    map: &mut [u8],
+    c: Outgoing,
+    payload: &[u8],
+    out: &mut [u8],
+) -> Result<Dispatch, SendError>
     ensures { returned result map.new out.new ≡ sends map.old (call_of c payload.now) out.old }
 {
     if id_map::sound::is_sound(map) {

@@ -44,8 +44,8 @@ pub loop-i-preserved : goal.loop-i-preserved
 loop-i-preserved c =
     let a = c.args in
     rw (add-one c.loop-i.i) (turn a.out.now c.loop-i.out a.s.now a.at c.loop-i.i c.hex_digit.result
-            c.hex_digit-in-loop-i.result (omega arith) c.requires c.loop-i.auto.out
-            (omega (arith, c.type_inv.s c.loop-i.i)) c.hex_digit.ensures c.hex_digit-in-loop-i.ensures c.loop-i.invariant)
+    c.hex_digit-in-loop-i.result (omega arith) c.requires c.loop-i.auto.out
+    (omega (arith, c.type_inv.s c.loop-i.i)) c.hex_digit.ensures c.hex_digit-in-loop-i.ensures c.loop-i.invariant)
 
 pub returns : goal.returns
 returns c =

@@ -21,9 +21,11 @@ returns-then-is_prefixed-2 c =
 
 pub returns-then-is_prefixed-3 : goal.returns-then-is_prefixed-3
 unfolding base_of
-returns-then-is_prefixed-3 c =
-    (next _ _ _ _ (by c.is_decimal.ensures c.if-is_decimal.false) (next _ _ _ _ (by c.is_prefixed.ensures c.if-is_prefixed.false) (next _ _ _ _ (by c.is_prefixed-2.ensures c.if-is_prefixed-2.false)
-    (first _ _ _ (by c.is_prefixed-3.ensures c.if-is_prefixed-3.true)))), omega arith)
+returns-then-is_prefixed-3 c = (
+  next _ _ _ _ (by c.is_decimal.ensures c.if-is_decimal.false) (next _ _ _ _ (by c.is_prefixed.ensures c.if-is_prefixed.false) (next _ _ _ _ (by c.is_prefixed-2.ensures c.if-is_prefixed-2.false)
+      (first _ _ _ (by c.is_prefixed-3.ensures c.if-is_prefixed-3.true)))),
+  omega arith,
+)
 
 pub returns : goal.returns
 unfolding base_of

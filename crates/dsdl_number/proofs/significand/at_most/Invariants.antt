@@ -8,4 +8,3 @@ use Rattle.dsdl_number.proofs.significand.at_most.Given as goal
 abbrev pub invariant-loop-k : goal.invariant-loop-k
 invariant-loop-k l =
     (l.k ≤ l.n) × ((l.v ≤ l.m) × (value_from l.base l.v (drop l.k (padded l.n (significand l.point l.s))) ≡ value l.base (padded l.n (significand l.point l.s))))
-

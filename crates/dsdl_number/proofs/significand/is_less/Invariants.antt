@@ -12,4 +12,3 @@ abbrev pub invariant-loop-i : goal.invariant-loop-i
 invariant-loop-i l =
     (l.i ≤ length l.bound)
     × (is_less (drop (l.from + l.i) (front l.s l.point l.from (length l.bound))) (drop l.i l.bound) ≡ is_less (drop l.from (front l.s l.point l.from (length l.bound))) l.bound)
-
