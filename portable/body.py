@@ -306,11 +306,12 @@ class Body(Values):
         """A block around a loop alone is one with it, and any other that is left early a loop of one turn: leaving either is `break`."""
         self.label += 1
         label = f'end_{self.label}'
-        if not is_left(s[1]):
+        around = len(s[1]) == 1 and s[1][0][0] == 'loop'
+        if not around and not is_left(s[1]):
             self.run(s[1], targets + (('block', label, False),))
             return
         inside = tuple((kind, name, False) for kind, name, _ in targets) + (('block', label, True),)
-        if len(s[1]) == 1 and s[1][0][0] == 'loop':
+        if around:
             self.lines.open('for (;;) {')
             self.run(s[1][0][1], inside + (('loop', None, True),))
             self.lines.close('}')
