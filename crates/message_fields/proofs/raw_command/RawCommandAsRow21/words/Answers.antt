@@ -1,4 +1,4 @@
--- `raw_command::words` meets its contract. The invariant: the count, and the words of the first i numbers, stand in front.
+-- `words` of RawCommand meets its contract. The invariant: the count, and the words of the first i numbers, stand in front.
 use mathlib.Core.Path.{◌≡◌, refl, ap, ◌∙◌}
 use mathlib.Core.List.{List, ◌∷◌}
 use Prim.Native.Nat.{ℕ, ◌+◌, ◌<◌}
@@ -10,8 +10,8 @@ use lib.ListN.{length, get_or, set}
 use Rattle.equipment_esc.proofs.RawCommandFacts.{mapped, all-mapped}
 use Rattle.row.specs.Row.{word}
 use Rattle.row.proofs.Rows.{word-of}
-use Rattle.message_fields.proofs.raw_command.words.Invariants.{front}
-use Rattle.message_fields.proofs.raw_command.words.Goals as goal
+use Rattle.message_fields.proofs.raw_command.RawCommandAsRow21.words.Invariants.{front}
+use Rattle.message_fields.proofs.raw_command.RawCommandAsRow21.words.Goals as goal
 
 -- a turn's store, one place further
 turn : (cmd : List ℤ) (n : ℕ) (w : List ℕ) (i v : ℕ) → i < length cmd → i < 20 → w ≡ n ∷ front cmd i → v ≡ word (get_or cmd i (pos 0)) → set w (i + 1) v ≡ n ∷ front cmd (i + 1)
@@ -21,8 +21,8 @@ turn cmd n w i v h k e g =
 
 pub loop-i-preserved : goal.loop-i-preserved
 loop-i-preserved c =
-    turn c.args.x.cmd c.args.x.count c.loop-i.w c.loop-i.i c.word.result (omega arith) (omega arith) c.loop-i.invariant (word-of _ (record { sfits = c.v-1.given }) _ c.word.ensures)
+    turn c.args.self.cmd c.args.self.count c.loop-i.w c.loop-i.i c.word.result (omega arith) (omega arith) c.loop-i.invariant (word-of _ (record { sfits = c.v-1.given }) _ c.word.ensures)
 
 pub returns : goal.returns
 returns c =
-    c.loop-i.invariant ∙ ap (λ (m : List ℕ). c.args.x.count ∷ m) (all-mapped word c.args.x.cmd 0 (front c.args.x.cmd c.loop-i.i) c.loop-i.i (search rules) (omega arith) refl)
+    c.loop-i.invariant ∙ ap (λ (m : List ℕ). c.args.self.count ∷ m) (all-mapped word c.args.self.cmd 0 (front c.args.self.cmd c.loop-i.i) c.loop-i.i (search rules) (omega arith) refl)

@@ -1,4 +1,4 @@
--- `raw_command::from` meets its contract. The invariant: the first i numbers are read.
+-- `of_row` of RawCommand meets its contract. The invariant: the first i numbers are read.
 use mathlib.Core.Path.{◌≡◌, sym, ap, ◌∙◌}
 use mathlib.Core.List.{List}
 use Prim.Native.Nat.{ℕ, ◌+◌, ◌≤◌, ◌<◌}
@@ -11,7 +11,7 @@ use Rattle.bits.proofs.Splice.{length-span}
 use Rattle.shape.specs.Signed.{signed_of}
 use Rattle.equipment_esc.proofs.RawCommandFacts.{mapped, all-mapped}
 use Rattle.row.proofs.Rows.{held}
-use Rattle.message_fields.proofs.raw_command.from.Goals as goal
+use Rattle.message_fields.proofs.raw_command.RawCommandOfRow21.of_row.Goals as goal
 
 twenty : (ws : List ℕ) → 21 ≤ length ws → length (span ws 1 20) ≡ 20
 twenty ws h = length-span ws 1 20 h
