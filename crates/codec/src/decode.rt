@@ -2,12 +2,14 @@
 ghost use Rattle.std.specs.Prelude.{◌≤◌, length};
 
 use super::{
-    allocation, battery_info, execute_opcode_request, execute_opcode_response,
-    get_node_info_request, get_node_info_response, get_set_request, get_set_response, key_value,
-    log_message, node_status, raw_command,
+    allocation, battery_info, get_node_info_request, get_node_info_response, get_set_request,
+    get_set_response, key_value, log_message, numbers, raw_command,
 };
 use codec_text::{hex, put};
 use console::Console;
+use protocol::node_status::NodeStatus;
+use protocol_param::execute_opcode_request::Request;
+use protocol_param::execute_opcode_response::Response;
 
 // A service by its name, and which half of it.
 fn service(console: &mut Console, name: &[u8], payload: &[u8], out: &mut [u8], at: usize) -> usize {
@@ -24,10 +26,10 @@ fn service(console: &mut Console, name: &[u8], payload: &[u8], out: &mut [u8], a
         return get_set_response::decode(console, payload, out, at);
     }
     if name == b"ExecuteOpcode.Request".as_slice() {
-        return execute_opcode_request::decode(console, payload, out, at);
+        return numbers::decode::<2, Request>(console, payload, out, at);
     }
     if name == b"ExecuteOpcode.Response".as_slice() {
-        return execute_opcode_response::decode(console, payload, out, at);
+        return numbers::decode::<2, Response>(console, payload, out, at);
     }
     put::ill_formed(console, out, at)
 }
@@ -35,7 +37,7 @@ fn service(console: &mut Console, name: &[u8], payload: &[u8], out: &mut [u8], a
 // The type by its name.
 fn typed(console: &mut Console, name: &[u8], payload: &[u8], out: &mut [u8], at: usize) -> usize {
     if name == b"NodeStatus".as_slice() {
-        return node_status::decode(console, payload, out, at);
+        return numbers::decode::<5, NodeStatus>(console, payload, out, at);
     }
     if name == b"Allocation".as_slice() {
         return allocation::decode(console, payload, out, at);

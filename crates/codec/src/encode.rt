@@ -2,13 +2,15 @@
 ghost use Rattle.std.specs.Prelude.{◌≤◌, length};
 
 use super::{
-    allocation, battery_info, execute_opcode_request, execute_opcode_response,
-    get_node_info_request, get_node_info_response, get_set_request, get_set_response, key_value,
-    log_message, node_status, raw_command,
+    allocation, battery_info, get_node_info_request, get_node_info_response, get_set_request,
+    get_set_response, key_value, log_message, numbers, raw_command,
 };
 use codec_text::answer::Encoded;
 use codec_text::{answer, number, put};
 use console::Console;
+use protocol::node_status::NodeStatus;
+use protocol_param::execute_opcode_request::Request;
+use protocol_param::execute_opcode_response::Response;
 
 // A service by its name, and which half of it.
 fn service(name: &[u8], words: &[u8], bytes: &mut [u8], message: &mut [u8]) -> Encoded
@@ -27,10 +29,10 @@ fn service(name: &[u8], words: &[u8], bytes: &mut [u8], message: &mut [u8]) -> E
         return get_set_response::encode(words, bytes, message);
     }
     if name == b"ExecuteOpcode.Request".as_slice() {
-        return execute_opcode_request::encode(words, bytes, message);
+        return numbers::encode::<2, Request>(words, bytes, message);
     }
     if name == b"ExecuteOpcode.Response".as_slice() {
-        return execute_opcode_response::encode(words, bytes, message);
+        return numbers::encode::<2, Response>(words, bytes, message);
     }
     None
 }
@@ -40,7 +42,7 @@ fn typed(name: &[u8], words: &[u8], bytes: &mut [u8], message: &mut [u8]) -> Enc
     requires { length words.now ≤ length bytes.old }
 {
     if name == b"NodeStatus".as_slice() {
-        return node_status::encode(words, bytes, message);
+        return numbers::encode::<5, NodeStatus>(words, bytes, message);
     }
     if name == b"Allocation".as_slice() {
         return allocation::encode(words, bytes, message);

@@ -1,33 +1,28 @@
 // ExecuteOpcode's request by hand.
-ghost use Rattle.std.specs.Prelude.{◌≤◌, length};
-
-use codec_text::answer::Encoded;
-use codec_text::{answer, fields};
-use console::Console;
+use super::numbers::Numbers;
 use protocol_param::execute_opcode_request;
 use protocol_param::execute_opcode_request::Request;
+use shape::answer::Refusal;
 
-const NAMES: [u8; 15] = *b"opcode argument";
+impl Numbers<2> for Request {
+    const NAMES: &'static [u8] = b"opcode argument";
 
-pub fn decode(console: &mut Console, payload: &[u8], out: &mut [u8], at: usize) -> usize {
-    match execute_opcode_request::decode(payload) {
-        Err(r) => answer::refused(console, out, at, r.number()),
-        Ok(x) => {
-            let v = [x.opcode, x.argument];
-            answer::numbers(console, out, at, &NAMES, &v)
+    fn read(payload: &[u8]) -> Result<Request, Refusal> {
+        execute_opcode_request::decode(payload)
+    }
+
+    fn numbers(self) -> [i64; 2] {
+        [self.opcode, self.argument]
+    }
+
+    fn of_numbers(v: [i64; 2]) -> Request {
+        Request {
+            opcode: v[0],
+            argument: v[1],
         }
     }
-}
 
-// Internal.
-pub fn encode(words: &[u8], bytes: &mut [u8], out: &mut [u8]) -> Encoded
-    requires { length words.now ≤ length bytes.old }
-{
-    let mut v = [0i64; 2];
-    fields::read(&NAMES, words, &mut v, bytes)?;
-    let x = Request {
-        opcode: v[0],
-        argument: v[1],
-    };
-    Some(execute_opcode_request::encode(x, out))
+    fn write(self, out: &mut [u8]) -> Result<usize, Refusal> {
+        execute_opcode_request::encode(self, out)
+    }
 }

@@ -1,33 +1,28 @@
 // ExecuteOpcode's response by hand.
-ghost use Rattle.std.specs.Prelude.{◌≤◌, length};
-
-use codec_text::answer::Encoded;
-use codec_text::{answer, fields};
-use console::Console;
+use super::numbers::Numbers;
 use protocol_param::execute_opcode_response;
 use protocol_param::execute_opcode_response::Response;
+use shape::answer::Refusal;
 
-const NAMES: [u8; 11] = *b"argument ok";
+impl Numbers<2> for Response {
+    const NAMES: &'static [u8] = b"argument ok";
 
-pub fn decode(console: &mut Console, payload: &[u8], out: &mut [u8], at: usize) -> usize {
-    match execute_opcode_response::decode(payload) {
-        Err(r) => answer::refused(console, out, at, r.number()),
-        Ok(x) => {
-            let v = [x.argument, x.ok];
-            answer::numbers(console, out, at, &NAMES, &v)
+    fn read(payload: &[u8]) -> Result<Response, Refusal> {
+        execute_opcode_response::decode(payload)
+    }
+
+    fn numbers(self) -> [i64; 2] {
+        [self.argument, self.ok]
+    }
+
+    fn of_numbers(v: [i64; 2]) -> Response {
+        Response {
+            argument: v[0],
+            ok: v[1],
         }
     }
-}
 
-// Internal.
-pub fn encode(words: &[u8], bytes: &mut [u8], out: &mut [u8]) -> Encoded
-    requires { length words.now ≤ length bytes.old }
-{
-    let mut v = [0i64; 2];
-    fields::read(&NAMES, words, &mut v, bytes)?;
-    let x = Response {
-        argument: v[0],
-        ok: v[1],
-    };
-    Some(execute_opcode_response::encode(x, out))
+    fn write(self, out: &mut [u8]) -> Result<usize, Refusal> {
+        execute_opcode_response::encode(self, out)
+    }
 }

@@ -15,6 +15,7 @@ mod get_set_response;
 mod key_value;
 mod log_message;
 mod node_status;
+mod numbers;
 mod param_value;
 mod raw_command;
 mod request;

@@ -1,42 +1,37 @@
 // NodeStatus by hand.
-ghost use Rattle.std.specs.Prelude.{◌≤◌, length};
-
-use codec_text::answer::Encoded;
-use codec_text::{answer, fields};
-use console::Console;
+use super::numbers::Numbers;
 use protocol::node_status;
 use protocol::node_status::NodeStatus;
+use shape::answer::Refusal;
 
-const NAMES: [u8; 59] = *b"uptime_sec health mode sub_mode vendor_specific_status_code";
+impl Numbers<5> for NodeStatus {
+    const NAMES: &'static [u8] = b"uptime_sec health mode sub_mode vendor_specific_status_code";
 
-pub fn decode(console: &mut Console, payload: &[u8], out: &mut [u8], at: usize) -> usize {
-    match node_status::decode(payload) {
-        Err(r) => answer::refused(console, out, at, r.number()),
-        Ok(x) => {
-            let v = [
-                x.uptime_sec,
-                x.health,
-                x.mode,
-                x.sub_mode,
-                x.vendor_specific_status_code,
-            ];
-            answer::numbers(console, out, at, &NAMES, &v)
+    fn read(payload: &[u8]) -> Result<NodeStatus, Refusal> {
+        node_status::decode(payload)
+    }
+
+    fn numbers(self) -> [i64; 5] {
+        [
+            self.uptime_sec,
+            self.health,
+            self.mode,
+            self.sub_mode,
+            self.vendor_specific_status_code,
+        ]
+    }
+
+    fn of_numbers(v: [i64; 5]) -> NodeStatus {
+        NodeStatus {
+            uptime_sec: v[0],
+            health: v[1],
+            mode: v[2],
+            sub_mode: v[3],
+            vendor_specific_status_code: v[4],
         }
     }
-}
 
-// Internal.
-pub fn encode(words: &[u8], bytes: &mut [u8], out: &mut [u8]) -> Encoded
-    requires { length words.now ≤ length bytes.old }
-{
-    let mut v = [0i64; 5];
-    fields::read(&NAMES, words, &mut v, bytes)?;
-    let x = NodeStatus {
-        uptime_sec: v[0],
-        health: v[1],
-        mode: v[2],
-        sub_mode: v[3],
-        vendor_specific_status_code: v[4],
-    };
-    Some(node_status::encode(x, out))
+    fn write(self, out: &mut [u8]) -> Result<usize, Refusal> {
+        node_status::encode(self, out)
+    }
 }

@@ -2,13 +2,15 @@
 ghost use Rattle.std.specs.Prelude.{◌≡◌, true, ◌^◌, ◌≤◌, ◌<◌, length, take, get_or};
 ghost use Rattle.binary16.specs.Convert.{widened, narrowed};
 ghost use Rattle.shape.specs.Shape.{all_below};
+ghost use Rattle.equipment_power.specs.BatteryInfo.{raw_in};
 ghost use Rattle.row.specs.Row as form;
 ghost use Rattle.message_fields.specs.BatteryInfo.{info_words, info_in, info_from, info_made};
 
+use super::as_row::{self, AsRow};
 use binary16::pattern;
 use equipment_power::battery_info;
 use equipment_power::battery_info::Raw;
-use shape::answer::Place;
+use shape::answer::{Place, Refusal};
 
 fn wide(h: u16) -> u64
     ensures { result ≡ widened h }
@@ -16,39 +18,42 @@ fn wide(h: u16) -> u64
     pattern::widen(h) as u64
 }
 
-fn words(x: Raw, name: Place) -> [u64; 15]
-    ensures { result ≡ info_words (x, name) }
-{
-    [
-        wide(x.temperature),
-        wide(x.voltage),
-        wide(x.current),
-        wide(x.average_power_10sec),
-        wide(x.remaining_capacity_wh),
-        wide(x.full_charge_capacity_wh),
-        wide(x.hours_to_full_charge),
-        row::word(x.status_flags),
-        row::word(x.state_of_health_pct),
-        row::word(x.state_of_charge_pct),
-        row::word(x.state_of_charge_pct_stdev),
-        row::word(x.battery_id),
-        row::word(x.model_instance_id),
-        name.at as u64,
-        name.len as u64,
-    ]
+impl AsRow<15> for (Raw, Place) {
+    ghost read = { raw_in };
+
+    ghost words = { info_words };
+
+    fn read(payload: &[u8]) -> Result<(Raw, Place), Refusal> {
+        battery_info::decode_raw(payload)
+    }
+
+    fn words(self) -> [u64; 15] {
+        let (x, name) = self;
+        [
+            wide(x.temperature),
+            wide(x.voltage),
+            wide(x.current),
+            wide(x.average_power_10sec),
+            wide(x.remaining_capacity_wh),
+            wide(x.full_charge_capacity_wh),
+            wide(x.hours_to_full_charge),
+            row::word(x.status_flags),
+            row::word(x.state_of_health_pct),
+            row::word(x.state_of_charge_pct),
+            row::word(x.state_of_charge_pct_stdev),
+            row::word(x.battery_id),
+            row::word(x.model_instance_id),
+            name.at as u64,
+            name.len as u64,
+        ]
+    }
 }
 
 // Reads a pack's state into a row: 15 and 16, then 8 for too few places.
 pub fn decode(payload: &[u8], fields: &mut [u64]) -> u32
     ensures { (result, fields.new) ≡ form.row (info_in payload.now) fields.old }
 {
-    match battery_info::decode_raw(payload) {
-        Err(r) => r.number(),
-        Ok((x, name)) => {
-            let w = words(x, name);
-            row::put(&w, fields)
-        }
-    }
+    as_row::decode::<15, (Raw, Place)>(payload, fields)
 }
 
 // The first seven words are floats.

@@ -1,11 +1,16 @@
 // GetNodeInfo's response as a row of 18 (RULES 10.7).
 ghost use Rattle.std.specs.Prelude.{◌≡◌, ◌≤◌, length};
+ghost use Rattle.shape.specs.Answer.{map_answer};
+ghost use Rattle.shape.specs.Shape.{decoded};
+ghost use Rattle.protocol.specs.GetNodeInfoResponse.{response, response_of};
 ghost use Rattle.row.specs.Row as form;
 ghost use Rattle.message_fields.specs.GetNodeInfo.{software_words, response_words, response_in, software_from, numbers_from, response_made};
 
-use super::node_status;
+use super::as_row::{self, AsRow, OfRow};
 use protocol::get_node_info_response;
 use protocol::get_node_info_response::{Numbers, Response, SoftwareVersion};
+use protocol::node_status::NodeStatus;
+use shape::answer::Refusal;
 
 fn software_words(v: SoftwareVersion) -> [u64; 5]
     ensures { result ≡ software_words v }
@@ -19,48 +24,50 @@ fn software_words(v: SoftwareVersion) -> [u64; 5]
     ]
 }
 
-fn words(x: Response) -> [u64; 18]
-    ensures { result ≡ response_words x }
-{
-    let s = node_status::words(x.status);
-    let v = software_words(x.software_version);
-    let h = x.hardware_version;
-    let u = h.unique_id;
-    let c = h.certificate_of_authenticity;
-    let n = x.name;
-    [
-        s[0],
-        s[1],
-        s[2],
-        s[3],
-        s[4],
-        v[0],
-        v[1],
-        v[2],
-        v[3],
-        v[4],
-        row::word(h.major),
-        row::word(h.minor),
-        u.at as u64,
-        u.len as u64,
-        c.at as u64,
-        c.len as u64,
-        n.at as u64,
-        n.len as u64,
-    ]
+impl AsRow<18> for Response {
+    ghost read = { λ p. map_answer response_of (decoded response p) };
+
+    ghost words = { response_words };
+
+    fn read(payload: &[u8]) -> Result<Response, Refusal> {
+        get_node_info_response::decode(payload)
+    }
+
+    fn words(self) -> [u64; 18] {
+        let s = self.status.words();
+        let v = software_words(self.software_version);
+        let h = self.hardware_version;
+        let u = h.unique_id;
+        let c = h.certificate_of_authenticity;
+        let n = self.name;
+        [
+            s[0],
+            s[1],
+            s[2],
+            s[3],
+            s[4],
+            v[0],
+            v[1],
+            v[2],
+            v[3],
+            v[4],
+            row::word(h.major),
+            row::word(h.minor),
+            u.at as u64,
+            u.len as u64,
+            c.at as u64,
+            c.len as u64,
+            n.at as u64,
+            n.len as u64,
+        ]
+    }
 }
 
 // Reads a response into a row: 15, 16 and 17, then 8 for too few places.
 pub fn decode(payload: &[u8], fields: &mut [u64]) -> u32
     ensures { (result, fields.new) ≡ form.row (response_in payload.now) fields.old }
 {
-    match get_node_info_response::decode(payload) {
-        Err(r) => r.number(),
-        Ok(x) => {
-            let w = words(x);
-            row::put(&w, fields)
-        }
-    }
+    as_row::decode::<18, Response>(payload, fields)
 }
 
 fn software(fields: &[u64]) -> SoftwareVersion
@@ -81,7 +88,7 @@ fn from(fields: &[u64]) -> Numbers
     ensures { result ≡ numbers_from fields.now }
 {
     Numbers {
-        status: node_status::from(fields),
+        status: NodeStatus::of_row(fields),
         software_version: software(fields),
         hardware_version_major: row::count(fields, 10),
         hardware_version_minor: row::count(fields, 11),

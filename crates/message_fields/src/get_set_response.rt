@@ -1,56 +1,63 @@
 // GetSet's response as a row of 14 (RULES 10.13).
 ghost use Rattle.std.specs.Prelude.{◌≡◌, ◌≤◌, length};
+ghost use Rattle.shape.specs.Answer.{map_answer};
+ghost use Rattle.shape.specs.Shape.{decoded};
+ghost use Rattle.protocol_param.specs.GetSetResponse.{response, response_of};
 ghost use Rattle.row.specs.Row as form;
 ghost use Rattle.message_fields.specs.GetSet.{response_words, response_in, response_made};
 ghost use Rattle.message_fields.specs.inside.Value.{any_too_large, all_known};
 
+use super::as_row::{self, AsRow};
 use super::param_value;
 use protocol_param::get_set_response;
 use protocol_param::get_set_response::Response;
+use shape::answer::Refusal;
 
-fn words(x: Response) -> [u64; 14]
-    ensures { result ≡ response_words x }
-{
-    let value = x.value;
-    let default_value = x.default_value;
-    let max_value = x.max_value;
-    let min_value = x.min_value;
-    let v = param_value::words(value);
-    let s = x.string_value;
-    let d = param_value::words(default_value);
-    let t = x.default_string_value;
-    let max = param_value::words(max_value);
-    let min = param_value::words(min_value);
-    let n = x.name;
-    [
-        v[0],
-        v[1],
-        s.at as u64,
-        s.len as u64,
-        d[0],
-        d[1],
-        t.at as u64,
-        t.len as u64,
-        max[0],
-        max[1],
-        min[0],
-        min[1],
-        n.at as u64,
-        n.len as u64,
-    ]
+impl AsRow<14> for Response {
+    ghost read = { λ p. map_answer response_of (decoded response p) };
+
+    ghost words = { response_words };
+
+    fn read(payload: &[u8]) -> Result<Response, Refusal> {
+        get_set_response::decode(payload)
+    }
+
+    fn words(self) -> [u64; 14] {
+        let value = self.value;
+        let default_value = self.default_value;
+        let max_value = self.max_value;
+        let min_value = self.min_value;
+        let v = param_value::words(value);
+        let s = self.string_value;
+        let d = param_value::words(default_value);
+        let t = self.default_string_value;
+        let max = param_value::words(max_value);
+        let min = param_value::words(min_value);
+        let n = self.name;
+        [
+            v[0],
+            v[1],
+            s.at as u64,
+            s.len as u64,
+            d[0],
+            d[1],
+            t.at as u64,
+            t.len as u64,
+            max[0],
+            max[1],
+            min[0],
+            min[1],
+            n.at as u64,
+            n.len as u64,
+        ]
+    }
 }
 
 // Reads a response into a row: 15, 27 and 16, then 8 for too few places.
 pub fn decode(payload: &[u8], fields: &mut [u64]) -> u32
     ensures { (result, fields.new) ≡ form.row (response_in payload.now) fields.old }
 {
-    match get_set_response::decode(payload) {
-        Err(r) => r.number(),
-        Ok(x) => {
-            let w = words(x);
-            row::put(&w, fields)
-        }
-    }
+    as_row::decode::<14, Response>(payload, fields)
 }
 
 // Any of the four values is a real that is no float.

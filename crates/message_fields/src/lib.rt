@@ -3,6 +3,7 @@
 #![tactic(auto)]
 
 pub mod allocation;
+mod as_row;
 pub mod battery_info;
 pub mod execute_opcode_request;
 pub mod execute_opcode_response;
