@@ -1,6 +1,9 @@
-// What an allocatee answers (RULES 13.1, 21.3).
-ghost use Rattle.std.specs.Prelude.{◌≡◌};
+// What an allocatee does after a call, and what refuses one (RULES 13.1, 21.3).
+ghost use Rattle.std.specs.Prelude.{◌≡◌, Ok, Err};
 ghost use Rattle.allocatee.specs.Answer.{number_of, length_in, wait_in, node_in};
+ghost use Rattle.allocatee.specs.declared.answer.AllocateeError.TheVariants.{Message};
+
+use shape::answer::Refusal;
 
 // A payload to send: its length, and in how many microseconds there is something to do after it.
 #[derive(Clone, Copy)]
@@ -9,66 +12,79 @@ pub struct Sending {
     pub wait: u64,
 }
 
-// `Waits` holds the microseconds until there is something to do, `Has` the node ID, `Refused` the number 8, 13, 15, 16 or 17.
-// No Result: three answers are no refusals, and each has a value of its own. A number, not an enum: `sent_as` and `on_read` hand on what a description refuses with.
+// `Waits` holds the microseconds until there is something to do, `Has` the node ID.
 #[derive(Clone, Copy)]
-pub enum Answer {
+pub enum Step {
     Waits(u64),
     Sends(Sending),
     Has(u32),
-    Refused(u32),
-    Faulty,
 }
 
-impl Answer {
-    pub fn number(self) -> u32
-        ensures { result ≡ number_of self }
-    {
-        match self {
-            Answer::Waits(_) => 0,
-            Answer::Sends(_) => 0,
-            Answer::Has(_) => 0,
-            Answer::Refused(n) => n,
-            Answer::Faulty => 20,
-        }
-    }
-
+impl Step {
     // The length of what is to be sent; 0 if nothing is.
     pub fn length(self) -> usize
-        ensures { result ≡ length_in self }
+        ensures { result ≡ length_in (Ok self) }
     {
         match self {
-            Answer::Waits(_) => 0,
-            Answer::Sends(s) => s.len,
-            Answer::Has(_) => 0,
-            Answer::Refused(_) => 0,
-            Answer::Faulty => 0,
+            Step::Waits(_) => 0,
+            Step::Sends(s) => s.len,
+            Step::Has(_) => 0,
         }
     }
 
     // The microseconds until there is something to do.
     pub fn wait(self) -> u64
-        ensures { result ≡ wait_in self }
+        ensures { result ≡ wait_in (Ok self) }
     {
         match self {
-            Answer::Waits(n) => n,
-            Answer::Sends(s) => s.wait,
-            Answer::Has(_) => 0,
-            Answer::Refused(_) => 0,
-            Answer::Faulty => 0,
+            Step::Waits(n) => n,
+            Step::Sends(s) => s.wait,
+            Step::Has(_) => 0,
         }
     }
 
     // The node ID; 0 if there is none yet.
     pub fn node(self) -> u32
-        ensures { result ≡ node_in self }
+        ensures { result ≡ node_in (Ok self) }
     {
         match self {
-            Answer::Waits(_) => 0,
-            Answer::Sends(_) => 0,
-            Answer::Has(n) => n,
-            Answer::Refused(_) => 0,
-            Answer::Faulty => 0,
+            Step::Waits(_) => 0,
+            Step::Sends(_) => 0,
+            Step::Has(n) => n,
         }
+    }
+}
+
+#[derive(Clone, Copy, Debug, PartialEq, Eq)]
+pub enum AllocateeError {
+    OutputSmall,
+    // the preferred node ID is above 127
+    NodeId,
+    // the unique ID has not 16 bytes
+    UniqueId,
+    // what the message is refused with
+    Message(Refusal),
+    Faulty,
+}
+
+impl AllocateeError {
+    pub fn number(self) -> u32
+        ensures { result ≡ number_of (Err self) }
+    {
+        match self {
+            AllocateeError::OutputSmall => 8,
+            AllocateeError::NodeId => 13,
+            AllocateeError::UniqueId => 17,
+            AllocateeError::Message(r) => r.number(),
+            AllocateeError::Faulty => 20,
+        }
+    }
+}
+
+impl From<Refusal> for AllocateeError {
+    ghost from_gives = { λ r e. e ≡ Message r };
+
+    fn from(r: Refusal) -> AllocateeError {
+        AllocateeError::Message(r)
     }
 }

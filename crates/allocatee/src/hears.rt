@@ -1,10 +1,10 @@
 // An Allocation message that came (RULES 21.3): rules E, C and D in this order.
-ghost use Rattle.std.specs.Prelude.{◌&&◌, not, ◌≡◌, ◌≤◌, ◌<◌, eqb, length};
+ghost use Rattle.std.specs.Prelude.{◌&&◌, not, ◌≡◌, ◌≤◌, ◌<◌, eqb, length, Ok};
 ghost use Rattle.allocatee.specs.Calls.{state, begins, is_own, skips, on_message};
 ghost use Rattle.allocatee.specs.Layout.{size, unique_of};
 ghost use Rattle.allocatee.specs.Limits.{unique_id_max};
 
-use super::answer::Answer;
+use super::answer::Step;
 use super::limits::UNIQUE_ID;
 use super::{Heard, store, view};
 
@@ -41,18 +41,18 @@ fn skipped(own: bool, n: usize) -> u8
 }
 
 // A message: its node ID, and its unique ID.
-pub fn message(bytes: &mut [u8], q: Heard, node: u64, u: &[u8]) -> Answer
+pub fn message(bytes: &mut [u8], q: Heard, node: u64, u: &[u8]) -> Step
     requires { (size ≤ length bytes.old) × ((length u.now ≤ unique_id_max) × (node < 128)) }
-    ensures { state result bytes.new ≡ on_message bytes.old q node u.now }
+    ensures { state (Ok result) bytes.new ≡ on_message bytes.old q node u.now }
 {
     let own = is_own(bytes, q.source, u);
     if takes(own, u.len(), node) {
         store::node(bytes, node as u8);
-        return Answer::Has(node as u32);
+        return Step::Has(node as u32);
     }
     store::timer(bytes, q.time, q.random);
     store::pending(bytes, skipped(own, u.len()));
-    Answer::Waits(view::wait(bytes, q.time))
+    Step::Waits(view::wait(bytes, q.time))
 }
 
 // Rule E: a whole unique ID, and a node ID.

@@ -15,7 +15,7 @@ ghost use Rattle.std.specs.Prelude.{◌≡◌};
 ghost use Rattle.allocatee.specs.Calls.{state, after_setup, returned, polled, heard};
 ghost use Rattle.allocatee.specs.Layout as specs;
 
-use answer::Answer;
+use answer::{AllocateeError, Step};
 use layout::SIZE;
 use limits::{NODE, UNIQUE_ID};
 use protocol_dynamic_node_id::allocation;
@@ -44,32 +44,37 @@ pub fn size() -> usize
 }
 
 // Makes the lent bytes an allocatee that has no ID, and starts its timer.
-pub fn setup(bytes: &mut [u8], unique_id: &[u8], q: Start) -> Answer
+pub fn setup(bytes: &mut [u8], unique_id: &[u8], q: Start) -> Result<Step, AllocateeError>
     ensures { state result bytes.new ≡ after_setup bytes.old unique_id.now q }
 {
     if unique_id.len() != UNIQUE_ID {
-        return Answer::Refused(17);
+        return Err(AllocateeError::UniqueId);
     }
     if bytes.len() < SIZE {
-        return Answer::Faulty;
+        return Err(AllocateeError::Faulty);
     }
     if NODE < q.preferred {
-        return Answer::Refused(13);
+        return Err(AllocateeError::NodeId);
     }
     store::fresh(bytes, unique_id, q.preferred, q.time, q.random);
-    Answer::Waits(view::wait(bytes, q.time))
+    Ok(Step::Waits(view::wait(bytes, q.time)))
 }
 
 // A call on time: what is to be sent goes to the front of `out`.
-pub fn poll(bytes: &mut [u8], time: u64, random: u64, out: &mut [u8]) -> Answer
+pub fn poll(
+    bytes: &mut [u8],
+    time: u64,
+    random: u64,
+    out: &mut [u8],
+) -> Result<Step, AllocateeError>
     ensures { returned result bytes.new out.new ≡ polled bytes.old time random out.old }
 {
     if !sound::is_sound(bytes) {
-        return Answer::Faulty;
+        return Err(AllocateeError::Faulty);
     }
     let node = view::node(bytes);
     if node != 0 {
-        return Answer::Has(node);
+        return Ok(Step::Has(node));
     }
     if view::follow_up_due(bytes, time) {
         return sends::follow_up(bytes, time, out);
@@ -77,22 +82,20 @@ pub fn poll(bytes: &mut [u8], time: u64, random: u64, out: &mut [u8]) -> Answer
     if view::request_due(bytes, time) {
         return sends::request(bytes, time, random, out);
     }
-    Answer::Waits(view::wait(bytes, time))
+    Ok(Step::Waits(view::wait(bytes, time)))
 }
 
 // One Allocation message that came: its payload.
-pub fn hear(bytes: &mut [u8], q: Heard, payload: &[u8]) -> Answer
+pub fn hear(bytes: &mut [u8], q: Heard, payload: &[u8]) -> Result<Step, AllocateeError>
     ensures { state result bytes.new ≡ heard bytes.old q payload.now }
 {
     if !sound::is_sound(bytes) {
-        return Answer::Faulty;
+        return Err(AllocateeError::Faulty);
     }
     let node = view::node(bytes);
     if node != 0 {
-        return Answer::Has(node);
+        return Ok(Step::Has(node));
     }
-    match allocation::decode(payload) {
-        Err(r) => Answer::Refused(r.number()),
-        Ok(a) => hears::message(bytes, q, a.node_id as u64, allocation::unique_id(payload)),
-    }
+    let a = allocation::decode(payload)?;
+    Ok(hears::message(bytes, q, a.node_id as u64, allocation::unique_id(payload)))
 }

@@ -25,8 +25,9 @@ use Rattle.allocator.specs.Calls.{Call, result_of, after_calls, Reply, Completes
 use Rattle.allocator.specs.Laws.{SameIdAgain, Chosen, lowest, highest, IdsDiffer, Away, TurnedAway}
 use Rattle.allocator.specs.Stage.{joined, preferred}
 use Rattle.allocator.specs.declared.Request.{Request}
-use Rattle.allocator.specs.declared.answer.Answer.TheVariants.{Exhausted}
-use Rattle.allocator.proofs.Called.{Decided, ignores, waits, parts, finds, adds, lacks, Called, faults, refuses, acts, called, by-message}
+use Rattle.std.specs.Prelude.{Err}
+use Rattle.allocator.specs.declared.answer.AllocateError.TheVariants.{Exhausted}
+use Rattle.allocator.proofs.Called.{Decided, ignores, waits, parts, finds, adds, lacks, Called, faults, disowned, refuses, acts, called, by-message}
 use Rattle.allocator.proofs.Decisions.{known_small, is-whole}
 use Rattle.allocator.proofs.Lasts.{none_above, complete, kept_on}
 use Rattle.allocator.proofs.Messages.{values_of}
@@ -61,6 +62,7 @@ module _ (m : List ℕ) (c : Call) (g : List ℕ) (whole : length g ≡ unique_i
 
   by_call : (x : Result) → Called m c.request c.payload c.out x → Reply x k g → k ≡ n
   by_call x faults r = absurd (let q = r.answer in let z : ◌≡◌ {A = ℕ} 0 1 = cc in omega arith)
+  by_call x disowned r = absurd (let q = r.answer in let z : ◌≡◌ {A = ℕ} 0 1 = cc in omega arith)
   by_call x (refuses i h) r = absurd (let q = r.answer in let z : ◌≡◌ {A = ℕ} 0 1 = cc in omega arith)
   by_call x (acts s o v d y e) r = by-verdict s v y e r
 
@@ -132,7 +134,7 @@ given-none f p taken = go (given f p) refl where
   go none e = refl
   go (some n) e = absurd (false≢true (sym (taken n) ∙ given-takes f p n e))
 
-not-exhausted : (a : Answer (List ℕ)) (m m' out : List ℕ) → (answered a m m' out).answer ≡ Exhausted → ⊥
+not-exhausted : (a : Answer (List ℕ)) (m m' out : List ℕ) → (answered a m m' out).answer ≡ Err Exhausted → ⊥
 not-exhausted (refused n) m m' out e = let z : ◌≡◌ {A = ℕ} 0 1 = cc in omega arith
 not-exhausted (got bs) m m' out e = let z : ◌≡◌ {A = ℕ} 0 1 = cc in omega arith
 
@@ -141,7 +143,7 @@ module _ (m : List ℕ) (c : Call) where
   q = c.request
 
   away-by : sound_state m ≡ true → no_own c.request.reserved.own ≡ false → (v : Fields) → decoded allocation c.payload ≡ got (values_of v) → (x : Verdict) → Decided m c.request v x
-      → (performs x m c.request.time (joined m c.request.time v.1.1) c.out).answer ≡ Exhausted → Away m c
+      → (performs x m c.request.time (joined m c.request.time v.1.1) c.out).answer ≡ Err Exhausted → Away m c
   unfolding performs
   away-by s o v r x ignores e = absurd (let z : ◌≡◌ {A = ℕ} 0 1 = cc in omega arith)
   away-by s o v r x waits e = absurd (let z : ◌≡◌ {A = ℕ} 0 1 = cc in omega arith)
@@ -162,8 +164,9 @@ module _ (m : List ℕ) (c : Call) where
             };
       }
 
-  away-call : (x : Result) → Called m c.request c.payload c.out x → x.answer ≡ Exhausted → Away m c
+  away-call : (x : Result) → Called m c.request c.payload c.out x → x.answer ≡ Err Exhausted → Away m c
   away-call x faults e = absurd (let z : ◌≡◌ {A = ℕ} 0 1 = cc in omega arith)
+  away-call x disowned e = absurd (let z : ◌≡◌ {A = ℕ} 0 1 = cc in omega arith)
   away-call x (refuses n h) e = absurd (let z : ◌≡◌ {A = ℕ} 0 1 = cc in omega arith)
   away-call x (acts s o v r y d) e = away-by s o v r y d e
 
@@ -173,7 +176,7 @@ module _ (m : List ℕ) (c : Call) where
   unfolding on_message
   on-message s o v r = by-message m q c.payload c.out s o ∙ ap (λ (a : Answer (Values allocation)). on_message a m q c.out) r
 
-  turned : (g : List ℕ) (p : ℕ) → Completes m c g p → NoneFree m c g → (result_of m c).answer ≡ Exhausted
+  turned : (g : List ℕ) (p : ℕ) → Completes m c g p → NoneFree m c g → (result_of m c).answer ≡ Err Exhausted
   unfolding performs completes
   turned g p d f =
       let v : Fields = (p, (d.first, d.part)) in

@@ -10,6 +10,7 @@ use lib.Dec.{eqb, ltb}
 use lib.ListN.{length}
 use Rattle.bits.specs.Little.{le}
 use Rattle.bits.specs.Order.{unpack}
+use Rattle.std.specs.Prelude.{Err}
 use Rattle.shape.specs.Answer.{Answer, refused, got}
 use Rattle.shape.specs.Shape.{Values, decoded}
 use Rattle.protocol_dynamic_node_id.specs.Allocation.{allocation}
@@ -17,9 +18,10 @@ use Rattle.allocator_table.specs.Layout.{table_of, sound_state}
 use Rattle.allocator_table.specs.Limits.{unique_id_max}
 use Rattle.allocator_table.specs.Table.{node_of, is_free, given}
 use Rattle.allocator.specs.Allocate.{Verdict, ignored, awaits, gathers, knows, gives, exhausted, allots, completes, Fields, fields_of, decide, Result, returned, performs, on_message, no_own, allocated}
+use Rattle.allocator.specs.Answer.{refusal_of}
 use Rattle.allocator.specs.Stage.{accepts, kept_at, joined, preferred}
 use Rattle.allocator.specs.declared.Request.{Request}
-use Rattle.allocator.specs.declared.answer.Answer.TheVariants.{Refused, Faulty}
+use Rattle.allocator.specs.declared.answer.AllocateError.TheVariants.{OwnId, Message, Faulty}
 use Rattle.allocator.proofs.Messages.{values_of, read-natural}
 use Rattle.allocator.proofs.Refusals.{Small, small-read}
 use Rattle.allocator.proofs.Decisions.{is-ignored, is-awaited, is-part, is-whole, accepted-fits, length-joined}
@@ -73,17 +75,18 @@ module _ (m : List ℕ) (q : Request) (v : Fields) where
 -- ── a call ──
 
 pub data Called (m : List ℕ) (q : Request) (p out : List ℕ) : Result → Type 0 where
-  faults : Called m q p out (returned Faulty m out)
-  refuses : (n : ℕ) → n ≤ 25 → Called m q p out (returned (Refused n) m out)
+  faults : Called m q p out (returned (Err Faulty) m out)
+  disowned : Called m q p out (returned (Err OwnId) m out)
+  refuses : (n : ℕ) → n ≤ 25 → Called m q p out (returned (Err (Message (refusal_of n))) m out)
   acts : sound_state m ≡ true → no_own q.reserved.own ≡ false → (v : Fields) → decoded allocation p ≡ got (values_of v) → (x : Verdict) → Decided m q v x
       → Called m q p out (performs x m q.time (joined m q.time v.1.1) out)
 
 module _ (m : List ℕ) (q : Request) (p out : List ℕ) where
-  by-fault : sound_state m ≡ false → allocated m q p out ≡ returned Faulty m out
+  by-fault : sound_state m ≡ false → allocated m q p out ≡ returned (Err Faulty) m out
   unfolding allocated
   by-fault s = rw s
 
-  by-own : sound_state m ≡ true → no_own q.reserved.own ≡ true → allocated m q p out ≡ returned (Refused 13) m out
+  by-own : sound_state m ≡ true → no_own q.reserved.own ≡ true → allocated m q p out ≡ returned (Err OwnId) m out
   unfolding allocated
   by-own s o = rw (s, o)
 
@@ -102,7 +105,7 @@ module _ (m : List ℕ) (q : Request) (p out : List ℕ) where
     message s o (got v) e = acts s o (fields_of v) (e ∙ ap got (read-natural p v e)) (decide m q (fields_of v)) (decided m q (fields_of v) s)
 
     own : sound_state m ≡ true → (b : Bool) → no_own q.reserved.own ≡ b → Called m q p out (allocated m q p out)
-    own s true o = subst (Called m q p out) (sym (by-own s o)) (refuses 13 (omega arith))
+    own s true o = subst (Called m q p out) (sym (by-own s o)) disowned
     own s false o = subst (Called m q p out) (sym (by-message s o)) (message s o (decoded allocation p) refl)
 
     sound : (b : Bool) → sound_state m ≡ b → Called m q p out (allocated m q p out)

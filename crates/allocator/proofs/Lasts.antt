@@ -27,7 +27,7 @@ use Rattle.allocator.specs.Allocate.{Verdict, Fields, Result, answered, performs
 use Rattle.allocator.specs.Calls.{Call, result_of, after_calls, Completes}
 use Rattle.allocator.specs.Laws.{Chosen, lowest, highest, Entered, StateLasts, TableGrows, IdGiven}
 use Rattle.allocator.specs.Stage.{kept_at, joined, preferred}
-use Rattle.allocator.proofs.Called.{Expected, Decided, ignores, waits, parts, finds, adds, lacks, Called, faults, refuses, acts, called}
+use Rattle.allocator.proofs.Called.{Expected, Decided, ignores, waits, parts, finds, adds, lacks, Called, faults, disowned, refuses, acts, called}
 use Rattle.allocator.proofs.Decisions.{kept-few}
 use Rattle.allocator.proofs.Messages.{values_of}
 use Rattle.allocator.proofs.Stages.{preferred-le}
@@ -162,6 +162,7 @@ module _ (m : List ℕ) (c : Call) (s : sound_state m ≡ true) where
 
   by_call : (x : Result) → Called m c.request c.payload c.out x → After m c x.state
   by_call x faults = unchanged
+  by_call x disowned = unchanged
   by_call x (refuses n h) = unchanged
   by_call x (acts s' own v r y d) = by-verdict own v r y d
 

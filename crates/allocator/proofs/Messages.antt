@@ -16,6 +16,7 @@ use Rattle.std.specs.Prelude.{Ok, Err}
 use Rattle.std.specs.declared.result.Result.{Result}
 use Rattle.shape.specs.Answer.{Answer, refused, got, Numbered, numbered, number_of, answer_of, refuse_if, map_answer}
 use Rattle.shape.specs.declared.answer.Refusal.{Refusal}
+use Rattle.shape.specs.declared.answer.Refusal.TheVariants.{NoRoom, TooShort, TooLong, NotAllowed, Padding, NoCase}
 use Rattle.shape.specs.Shape.{Values, tail, anything, decode, decoded}
 use Rattle.shape.proofs.CastFacts.{number-below}
 use Rattle.shape.proofs.SignedFacts.{is}
@@ -25,6 +26,7 @@ use Rattle.protocol_dynamic_node_id.specs.declared.allocation.Allocation.{Alloca
 use Rattle.protocol_dynamic_node_id.proofs.AllocationFacts.{short}
 use Rattle.protocol_dynamic_node_id.proofs.Trips.{laws}
 use Rattle.allocator.specs.Allocate.{Fields, fields_of}
+use Rattle.allocator.specs.Answer.{refusal_of}
 
 refused-by : (n : ℕ) (x : Answer (Values allocation)) → numbered (refused n) ≡ numbered (map_answer allocation_of x) → x ≡ refused n
 unfolding map_answer
@@ -40,6 +42,15 @@ got-by a (got w) e v h =
     let b = ap (λ (r : Numbered Allocation). r.value) e in
     let d : a ≡ allocation_of w = cc in
     (ap got i, d ∙ ap allocation_of i)
+
+-- a refusal is found by its number
+pub same_refusal : (r : Refusal) → refusal_of (number_of r) ≡ r
+same_refusal NoRoom = refl
+same_refusal TooShort = refl
+same_refusal TooLong = refl
+same_refusal NotAllowed = refl
+same_refusal Padding = refl
+same_refusal NoCase = refl
 
 -- a number that is not negative, as a number of 64 bits
 pub record Held (z : ℤ) : Type 0 where

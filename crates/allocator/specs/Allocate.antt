@@ -1,5 +1,5 @@
 -- RULES 16.2 to 16.9: one call of an allocator, on lent bytes.
-use Rattle.std.specs.Prelude.{Bool, not, ◌||◌, List, ◌++◌, ℕ, eqb, ltb, pos, nat_abs, length, drop}
+use Rattle.std.specs.Prelude.{Bool, not, ◌||◌, List, ◌++◌, ℕ, eqb, ltb, pos, nat_abs, length, drop, Some, None, Ok, Err}
 use Rattle.std.proofs.Math.Option.{Option, none, some}
 use Rattle.bits.specs.Little.{le}
 use Rattle.rules.specs.Tests.{pick}
@@ -9,10 +9,11 @@ use Rattle.protocol_dynamic_node_id.specs.Allocation.{allocation}
 use Rattle.allocator_table.specs.Layout.{table_of, sound_state, with_time, with_count, with_gathered, with_entry}
 use Rattle.allocator_table.specs.Limits.{unique_id_max}
 use Rattle.allocator_table.specs.Table.{node_of, is_free, given}
+use Rattle.allocator.specs.Answer as code
+use Rattle.allocator.specs.Answer.{refusal_of}
 use Rattle.allocator.specs.Stage.{accepts, kept_at, joined, preferred}
 use Rattle.allocator.specs.declared.Request.{Request}
-use Rattle.allocator.specs.declared.answer.Answer as code
-use Rattle.allocator.specs.declared.answer.Answer.TheVariants.{Silent, Replied, Refused, Exhausted, Faulty}
+use Rattle.allocator.specs.declared.answer.AllocateError.TheVariants.{OwnId, Message, Exhausted, Faulty}
 
 -- ── what is to be done ──
 
@@ -64,25 +65,25 @@ returned a m out = record { answer = a; state = m; out = out }
 
 -- RULES 16.6: the reply is an Allocation message with first part 0. If there is no room for it, nothing changes
 abbrev pub answered : Answer (List ℕ) → List ℕ → List ℕ → List ℕ → Result
-answered (refused n) m m' out = returned (Refused n) m out
-answered (got bs) m m' out = returned (Replied (length bs)) m' (bs ++ drop (length bs) out)
+answered (refused n) m m' out = returned (Err (Message (refusal_of n))) m out
+answered (got bs) m m' out = returned (Ok (Some (length bs))) m' (bs ++ drop (length bs) out)
 
 abbrev pub replies : ℕ → List ℕ → List ℕ → List ℕ → List ℕ → Result
 replies n g m m' out = answered (encoded allocation (pos n, (pos 0, g)) (length out)) m m' out
 
 -- RULES 16.9: at the time t, with the bytes g gathered
 unfoldable pub performs : Verdict → List ℕ → ℕ → List ℕ → List ℕ → Result
-performs ignored m t g out = returned Silent m out
-performs awaits m t g out = returned Silent (with_count m (kept_at m t)) out
+performs ignored m t g out = returned (Ok None) m out
+performs awaits m t g out = returned (Ok None) (with_count m (kept_at m t)) out
 performs gathers m t g out = replies 0 g m (with_time (with_gathered m g) t) out
 performs (knows n) m t g out = replies n g m (with_time (with_count m 0) t) out
 performs (gives n) m t g out = replies n g m (with_time (with_count (with_entry m g n) 0) t) out
-performs exhausted m t g out = returned Exhausted (with_count m 0) out
+performs exhausted m t g out = returned (Err Exhausted) (with_count m 0) out
 
 -- ── the call, RULES 16.3 ──
 
 unfoldable pub on_message : Answer (Values allocation) → List ℕ → Request → List ℕ → Result
-on_message (refused n) m q out = returned (Refused n) m out
+on_message (refused n) m q out = returned (Err (Message (refusal_of n))) m out
 on_message (got v) m q out = performs (decide m q (fields_of v)) m q.time (joined m q.time v.1.1) out
 
 -- an own node ID that 13 refuses
@@ -91,5 +92,5 @@ no_own own = eqb own 0 || ltb 127 own
 
 unfoldable pub allocated : List ℕ → Request → List ℕ → List ℕ → Result
 allocated m q p out =
-    pick (not (sound_state m)) (returned Faulty m out)
-    (pick (no_own q.reserved.own) (returned (Refused 13) m out) (on_message (decoded allocation p) m q out))
+    pick (not (sound_state m)) (returned (Err Faulty) m out)
+    (pick (no_own q.reserved.own) (returned (Err OwnId) m out) (on_message (decoded allocation p) m q out))

@@ -1,5 +1,5 @@
 -- RULES 16.11: lists of calls on one state, and what a caller reads of a reply.
-use Rattle.std.specs.Prelude.{◌≡◌, true, false, List, [], ◌∷◌, ℕ, pos, length, take}
+use Rattle.std.specs.Prelude.{◌≡◌, true, false, List, [], ◌∷◌, ℕ, pos, length, take, Some, Ok}
 use Rattle.std.proofs.Math.Option.{none}
 use Rattle.bits.specs.Little.{le}
 use Rattle.shape.specs.Answer.{got}
@@ -11,7 +11,6 @@ use Rattle.allocator_table.specs.Table.{node_of, is_free}
 use Rattle.allocator.specs.Allocate.{Result, no_own, allocated}
 use Rattle.allocator.specs.Stage.{accepts, kept_at, joined}
 use Rattle.allocator.specs.declared.Request.{Request}
-use Rattle.allocator.specs.declared.answer.Answer.TheVariants.{Replied}
 
 pub record Call : Type 0 where
   pub request : Request
@@ -29,7 +28,7 @@ after_calls m (c ∷ cs) = after_calls (result_of m c).state cs
 -- the reply is an Allocation message with the node ID n, first part 0 and the unique ID g, at the front of the output buffer
 pub record Reply (r : Result) (n : ℕ) (g : List ℕ) : Type 0 where
   pub len : ℕ
-  pub answer : r.answer ≡ Replied len
+  pub answer : r.answer ≡ Ok (Some len)
   pub message : decoded allocation (take len r.out) ≡ got (pos n, (pos 0, g))
 
 -- a call that completes the unique ID g, which prefers the node ID p

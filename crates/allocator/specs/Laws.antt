@@ -1,5 +1,5 @@
 -- RULES 16.11: what holds of calls on an allocator. `laws.rt` has a function for each, whose contract it is.
-use Rattle.std.specs.Prelude.{◌≡◌, Bool, true, false, List, [], ◌∷◌, ◌++◌, ◌⊎◌, ℕ, ◌≤◌, ◌<◌, length}
+use Rattle.std.specs.Prelude.{◌≡◌, Bool, true, false, List, [], ◌∷◌, ◌++◌, ◌⊎◌, ℕ, ◌≤◌, ◌<◌, length, Err}
 use Rattle.std.proofs.Math.Option.{none, some}
 use Rattle.bits.specs.Little.{le}
 use Rattle.allocator_table.specs.Layout.{size, gathered_count, table_of, sound_state}
@@ -8,9 +8,8 @@ use Rattle.allocator_table.specs.Table.{Entry, entry, holds, node_of, insert, is
 use Rattle.allocator.specs.Calls.{Call, result_of, after_calls, Reply, Completes, NoneFree}
 use Rattle.allocator.specs.Setup.{after_setup}
 use Rattle.allocator.specs.Stage.{preferred}
-use Rattle.allocator.specs.Answer.{number_of, length_in}
-use Rattle.allocator.specs.declared.answer.Answer.{Answer}
-use Rattle.allocator.specs.declared.answer.Answer.TheVariants.{Exhausted}
+use Rattle.allocator.specs.Answer.{Answer, number_of, length_in}
+use Rattle.allocator.specs.declared.answer.AllocateError.TheVariants.{Exhausted}
 
 -- RULES 16.10: after setup the table is empty, nothing is gathered, and there is no fault, whatever was in the bytes
 pub record SetupLaws : Type 0 where
@@ -72,8 +71,8 @@ pub record Away (m : List ℕ) (c : Call) : Type 0 where
   pub free : NoneFree m c unique
 
 pub record TurnedAway : Type 0 where
-  pub only_if : (m : List ℕ) (c : Call) → (result_of m c).answer ≡ Exhausted → Away m c
-  pub if : (m : List ℕ) (c : Call) → Away m c → (result_of m c).answer ≡ Exhausted
+  pub only_if : (m : List ℕ) (c : Call) → (result_of m c).answer ≡ Err Exhausted → Away m c
+  pub if : (m : List ℕ) (c : Call) → Away m c → (result_of m c).answer ≡ Err Exhausted
 
 -- RULES 13.3: every answer fits the word of the C entry
 pub record Range (a : Answer) : Type 0 where

@@ -1,41 +1,29 @@
-// What an allocator answers (RULES 13.1, 16.3).
-ghost use Rattle.std.specs.Prelude.{◌≡◌};
-ghost use Rattle.allocator.specs.Answer.{number_of, length_in};
+// What refuses a message to an allocator (RULES 13.1, 16.3), and what is answered if nothing does: the length of the reply, or None for no reply.
+ghost use Rattle.std.specs.Prelude.{◌≡◌, Err};
+ghost use Rattle.allocator.specs.Answer.{number_of};
 
-// `Replied` holds the length of the reply, `Refused` the number 8, 13, 15 or 16.
-// No Result: with `Exhausted` too the call is done and the state changes. A number, not an enum: `answered` and `on_message` hand on what a description refuses with.
-#[derive(Clone, Copy)]
-pub enum Answer {
-    Silent,
-    Replied(usize),
-    Refused(u32),
+use shape::answer::Refusal;
+
+#[derive(Clone, Copy, Debug, PartialEq, Eq)]
+pub enum AllocateError {
+    // the own node ID is not 1 to 127
+    OwnId,
+    // what the message or its reply is refused with
+    Message(Refusal),
+    // no ID is free: what was gathered is dropped
     Exhausted,
     Faulty,
 }
 
-impl Answer {
+impl AllocateError {
     pub fn number(self) -> u32
-        ensures { result ≡ number_of self }
+        ensures { result ≡ number_of (Err self) }
     {
         match self {
-            Answer::Silent => 0,
-            Answer::Replied(_) => 0,
-            Answer::Refused(n) => n,
-            Answer::Exhausted => 21,
-            Answer::Faulty => 20,
-        }
-    }
-
-    // The length of the reply; 0 if there is none.
-    pub fn length(self) -> usize
-        ensures { result ≡ length_in self }
-    {
-        match self {
-            Answer::Silent => 0,
-            Answer::Replied(n) => n,
-            Answer::Refused(_) => 0,
-            Answer::Exhausted => 0,
-            Answer::Faulty => 0,
+            AllocateError::OwnId => 13,
+            AllocateError::Message(r) => r.number(),
+            AllocateError::Exhausted => 21,
+            AllocateError::Faulty => 20,
         }
     }
 }

@@ -14,7 +14,7 @@ ghost use Rattle.allocator_table.specs.Layout as layout;
 use allocator_table::free::Reserved;
 use allocator_table::layout::SIZE;
 use allocator_table::sound;
-use answer::Answer;
+use answer::AllocateError;
 use answers::SetupError;
 use protocol_dynamic_node_id::allocation;
 
@@ -45,22 +45,28 @@ pub fn setup(state: &mut [u8]) -> Result<(), SetupError>
     Ok(())
 }
 
-// One Allocation message: its payload, and the reply's to the front of `out`.
-pub fn allocate(state: &mut [u8], q: Request, payload: &[u8], out: &mut [u8]) -> Answer
+// One Allocation message: its payload, and the reply's to the front of `out`; its length, or None for no reply.
+pub fn allocate(
+    state: &mut [u8],
+    q: Request,
+    payload: &[u8],
+    out: &mut [u8],
+) -> Result<Option<usize>, AllocateError>
     ensures { returned result state.new out.new ≡ allocated state.old q payload.now out.old }
 {
     if !sound::is_sound(state) {
-        return Answer::Faulty;
+        return Err(AllocateError::Faulty);
     }
     let reserved = q.reserved;
     if reserved.own == 0 {
-        return Answer::Refused(13);
+        return Err(AllocateError::OwnId);
     }
     if 127 < reserved.own {
-        return Answer::Refused(13);
+        return Err(AllocateError::OwnId);
     }
+    // A match: the C library translates no `?` that converts.
     match allocation::decode(payload) {
-        Err(r) => Answer::Refused(r.number()),
+        Err(r) => Err(AllocateError::Message(r)),
         Ok(a) => serve::message(
             state,
             q,

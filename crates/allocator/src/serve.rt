@@ -2,76 +2,88 @@
 ghost use Rattle.std.specs.Prelude.{true, ◌++◌, ◌≡◌, ◌+◌, ◌≤◌, ◌<◌, length, take};
 ghost use Rattle.bits.specs.Part.{span};
 ghost use Rattle.allocator.specs.Allocate.{returned, gathers, knows, gives, performs, completes, decide};
+ghost use Rattle.allocator.specs.Answer.{replied};
 ghost use Rattle.allocator.specs.Stage.{joined};
 ghost use Rattle.allocator_table.specs.Layout.{size, gathered_at, entry_count, sound_state};
 ghost use Rattle.allocator_table.specs.Limits.{unique_id_max, node_max};
 
-use super::answer::Answer;
+use super::answer::AllocateError;
 use super::{Request, stage};
 use allocator_table::layout::GATHERED_AT;
 use allocator_table::limits::UNIQUE_ID;
 use allocator_table::{entry, find, free, store};
 use protocol_dynamic_node_id::allocation;
+use shape::answer::Refusal;
+
+// What was written, as the call's answer. No `From<Refusal>`: the C library translates no `?` that converts.
+fn replied(written: Result<usize, Refusal>) -> Result<Option<usize>, AllocateError>
+    ensures { result ≡ replied written }
+{
+    match written {
+        Ok(n) => Ok(Some(n)),
+        Err(r) => Err(AllocateError::Message(r)),
+    }
+}
 
 // The reply to a part of a unique ID, g so far.
-fn follow_up(state: &mut [u8], t: u64, g: &[u8], out: &mut [u8]) -> Answer
+fn follow_up(state: &mut [u8], t: u64, g: &[u8], out: &mut [u8]) -> Result<usize, Refusal>
     requires { (size ≤ length state.old) × (length g.now ≤ unique_id_max) }
-    ensures { returned result state.new out.new ≡ performs gathers state.old t g.now out.old }
+    ensures { returned (replied result) state.new out.new ≡ performs gathers state.old t g.now out.old }
 {
-    match allocation::encode(0, 0, g, out) {
-        Err(r) => Answer::Refused(r.number()),
-        Ok(n) => {
-            store::gathered(state, g);
-            store::time(state, t);
-            Answer::Replied(n)
-        }
-    }
+    let n = allocation::encode(0, 0, g, out)?;
+    store::gathered(state, g);
+    store::time(state, t);
+    Ok(n)
 }
 
 // The reply to a unique ID in the table.
-fn confirm(state: &mut [u8], t: u64, g: &[u8], node: usize, out: &mut [u8]) -> Answer
+fn confirm(
+    state: &mut [u8],
+    t: u64,
+    g: &[u8],
+    node: usize,
+    out: &mut [u8],
+) -> Result<usize, Refusal>
     requires { (size ≤ length state.old) × (node ≤ node_max) }
-    ensures { returned result state.new out.new ≡ performs (knows node) state.old t g.now out.old }
+    ensures { returned (replied result) state.new out.new ≡ performs (knows node) state.old t g.now out.old }
 {
-    match allocation::encode(node as i64, 0, g, out) {
-        Err(r) => Answer::Refused(r.number()),
-        Ok(n) => {
-            store::gathered_count(state, 0);
-            store::time(state, t);
-            Answer::Replied(n)
-        }
-    }
+    let n = allocation::encode(node as i64, 0, g, out)?;
+    store::gathered_count(state, 0);
+    store::time(state, t);
+    Ok(n)
 }
 
 // The reply to a new unique ID, and its entry.
-fn enter(state: &mut [u8], t: u64, g: &[u8], node: usize, out: &mut [u8]) -> Answer
+fn enter(state: &mut [u8], t: u64, g: &[u8], node: usize, out: &mut [u8]) -> Result<usize, Refusal>
     requires { (sound_state state.old ≡ true) × ((entry_count state.old < node_max) × ((length g.now ≡ unique_id_max) × (node ≤ node_max))) }
-    ensures { returned result state.new out.new ≡ performs (gives node) state.old t g.now out.old }
+    ensures { returned (replied result) state.new out.new ≡ performs (gives node) state.old t g.now out.old }
 {
-    match allocation::encode(node as i64, 0, g, out) {
-        Err(r) => Answer::Refused(r.number()),
-        Ok(n) => {
-            store::entry(state, g, node);
-            store::gathered_count(state, 0);
-            store::time(state, t);
-            Answer::Replied(n)
-        }
-    }
+    let n = allocation::encode(node as i64, 0, g, out)?;
+    store::entry(state, g, node);
+    store::gathered_count(state, 0);
+    store::time(state, t);
+    Ok(n)
 }
 
 // A whole unique ID, 16 bytes, and the node ID that it prefers.
-fn complete(state: &mut [u8], q: Request, g: &[u8], p: u64, out: &mut [u8]) -> Answer
+fn complete(
+    state: &mut [u8],
+    q: Request,
+    g: &[u8],
+    p: u64,
+    out: &mut [u8],
+) -> Result<Option<usize>, AllocateError>
     requires { (sound_state state.old ≡ true) × (length g.now ≡ unique_id_max) }
     ensures { returned result state.new out.new ≡ performs (completes state.old q g.now p) state.old q.time g.now out.old }
 {
     if let Some(node) = find::node_of(state, entry::read(g, 0)) {
-        return confirm(state, q.time, g, node, out);
+        return replied(confirm(state, q.time, g, node, out));
     }
     match free::given(state, q.reserved, stage::preferred(p)) {
-        Some(node) => enter(state, q.time, g, node, out),
+        Some(node) => replied(enter(state, q.time, g, node, out)),
         None => {
             store::gathered_count(state, 0);
-            Answer::Exhausted
+            Err(AllocateError::Exhausted)
         }
     }
 }
@@ -88,22 +100,29 @@ fn join(state: &[u8], n: usize, u: &[u8]) -> [u8; UNIQUE_ID]
 }
 
 // A message: the node ID that is preferred, the first part, and the unique ID.
-pub fn message(state: &mut [u8], q: Request, p: u64, first: u64, u: &[u8], out: &mut [u8]) -> Answer
+pub fn message(
+    state: &mut [u8],
+    q: Request,
+    p: u64,
+    first: u64,
+    u: &[u8],
+    out: &mut [u8],
+) -> Result<Option<usize>, AllocateError>
     requires { sound_state state.old ≡ true }
     ensures { returned result state.new out.new ≡ performs (decide state.old q (p, (first, u.now))) state.old q.time (joined state.old q.time u.now) out.old }
 {
     if q.source != 0 {
-        return Answer::Silent;
+        return Ok(None);
     }
     let n = stage::kept(state, q.time);
     if !stage::accepts(first, u.len(), n) {
         store::gathered_count(state, n);
-        return Answer::Silent;
+        return Ok(None);
     }
     let g = join(state, n, u);
     let len = n + u.len();
     if len < UNIQUE_ID {
-        return follow_up(state, q.time, &g[0..len], out);
+        return replied(follow_up(state, q.time, &g[0..len], out));
     }
     complete(state, q, &g, p, out)
 }

@@ -6,16 +6,17 @@ use Prim.Native.Nat.{ℕ, suc, ◌+◌, ◌/◌, ◌%◌, ◌^◌, ◌≤◌, �
 use native.Mathlib.Omega.{arith}
 use borrow.Author.Tests.{ltb-false, le-ltb, eqb-true}
 use lib.Dec.{eqb, ltb}
-use lib.ListN.{length, get_or}
-use Rattle.rules.specs.Check.{large_id, bad_length}
+use lib.ListN.{length}
 use Rattle.rules.specs.Limits.{frame_record}
 use Rattle.rules.specs.Tests.{pick}
-use Rattle.queue.specs.Answer.{number_of}
+use Rattle.std.specs.Prelude.{Ok, Err}
+use Rattle.queue.specs.Answer.{error_number, number_of, refusal}
 use Rattle.queue.specs.Calls.{returned, shown, first, looked, after_setup, after_put, without_first, after_take}
-use Rattle.queue.specs.Laws.{Queue, SetupLaws, Call, puts, takes, result_of, after_calls, is_done, head, entered, taken, with_id, QueueLasts, InTurn, LowestFirst, AnswersInRange}
+use Rattle.queue.specs.Laws.{Queue, SetupLaws, Call, puts, takes, after_call, after_calls, is_done, head, entered, taken, with_id, QueueLasts, InTurn, LowestFirst, AnswersInRange}
 use Rattle.queue.specs.Layout.{records_at, capacity, count_of, queue_of, sound_queue, records_of, holding}
-use Rattle.queue.specs.Queue.{Record, id_of, fault_of, first_fault, put_all, in_order}
-use Rattle.queue.specs.declared.answer.Answer.TheVariants.{Done, Refused, Faulty}
+use Rattle.queue.specs.Queue.{Record, id_of, first_fault, put_all, in_order}
+use Rattle.queue.specs.declared.answer.QueueError.{QueueError}
+use Rattle.queue.specs.declared.answer.QueueError.TheVariants.{LargeId, BadLength, OutputSmall, Full, PartRecord, Faulty}
 use Rattle.queue.proofs.Lasting.{queue-held, sound-held, queue-of-held}
 use Rattle.queue.proofs.Order.{length-put}
 use Rattle.queue.proofs.Places.{Sized, length-queued, sized-queued, sized-given, sized-put}
@@ -137,14 +138,14 @@ module _ (m : List ℕ) (k : Queue m) where
 
 -- ── lists of calls ──
 
-call-lasts : (m : List ℕ) (c : Call) → Queue m → Queue (result_of m c).queue
+call-lasts : (m : List ℕ) (c : Call) → Queue m → Queue (after_call m c)
 call-lasts m (puts p) k = put-lasts m k p (put-case m p k.sound)
 call-lasts m takes k = take-lasts m k
 
 pub queue-lasts : QueueLasts
 unfolding after_calls
 queue-lasts m [] k = k
-queue-lasts m (c ∷ cs) k = queue-lasts (result_of m c).queue cs (call-lasts m c k)
+queue-lasts m (c ∷ cs) k = queue-lasts (after_call m c) cs (call-lasts m c k)
 
 pub in-turn : InTurn
 unfolding after_calls entered taken with_id
@@ -169,41 +170,33 @@ lowest-first m k r x q xs ys is e =
 
 -- ── numbers ──
 
-fault-small : (r : Record) → fault_of r ≤ 3
-unfolding fault_of
-fault-small r = go (large_id (id_of r)) (bad_length (get_or r 4 0)) where
-  go : (a b : Bool) → pick a 2 (pick b 3 0) ≤ 3
-  go true b = omega arith
-  go false true = omega arith
-  go false false = omega arith
-
-first_small : (rs : List Record) → first_fault rs ≤ 3
-unfolding first_fault
-first_small [] = omega arith
-first_small (r ∷ rs) = go (eqb (fault_of r) 0) (first_small rs) where
-  go : (b : Bool) → first_fault rs ≤ 3 → pick b (first_fault rs) (fault_of r) ≤ 3
-  go true h = h
-  go false h = fault-small r
+small : (e : QueueError) → error_number e ≤ 20
+small LargeId = omega arith
+small BadLength = omega arith
+small OutputSmall = omega arith
+small Full = omega arith
+small PartRecord = omega arith
+small Faulty = omega arith
 
 put-range : (m p : List ℕ) → number_of (after_put m p).answer ≤ 20
 unfolding after_put
 put-range m p = go (sound_queue m) (eqb (length p % frame_record) 0) (eqb (first_fault (records_of p)) 0) (ltb (capacity (length m)) (length (queue_of m) + length (records_of p))) where
   go : (s a b c : Bool)
       → number_of
-      (pick (not s) (returned Faulty m)
+      (pick (not s) (returned (Err Faulty) m)
       (pick a
-      (pick b (pick c (returned (Refused 9) m) (returned Done (holding m (put_all (queue_of m) (records_of p))))) (returned (Refused (first_fault (records_of p))) m))
-      (returned (Refused 15) m))).answer ≤ 20
+      (pick b (pick c (returned (Err Full) m) (returned (Ok (tt {0})) (holding m (put_all (queue_of m) (records_of p))))) (returned (Err (refusal (first_fault (records_of p)))) m))
+      (returned (Err PartRecord) m))).answer ≤ 20
   go false a b c = omega arith
   go true false b c = omega arith
-  go true true false c = omega (arith, first_small (records_of p))
+  go true true false c = small (refusal (first_fault (records_of p)))
   go true true true true = omega arith
   go true true true false = omega arith
 
 take_range : (m : List ℕ) → number_of (after_take m).answer ≤ 20
 unfolding after_take
 take_range m = go (sound_queue m) (queue_of m) where
-  go : (s : Bool) (q : List Record) → number_of (pick (not s) (returned Faulty m) (without_first m q)).answer ≤ 20
+  go : (s : Bool) (q : List Record) → number_of (pick (not s) (returned (Err Faulty) m) (without_first m q)).answer ≤ 20
   go false q = omega arith
   go true [] = omega arith
   go true (r ∷ q) = omega arith
@@ -211,7 +204,7 @@ take_range m = go (sound_queue m) (queue_of m) where
 look-range : (m out : List ℕ) → number_of (looked m out).answer ≤ 20
 unfolding looked
 look-range m out = go (sound_queue m) (queue_of m) (ltb (length out) frame_record) refl where
-  go : (s : Bool) (q : List Record) (b : Bool) → ltb (length out) frame_record ≡ b → number_of (pick (not s) (shown Faulty out) (first q out)).answer ≤ 20
+  go : (s : Bool) (q : List Record) (b : Bool) → ltb (length out) frame_record ≡ b → number_of (pick (not s) (shown (Err Faulty) out) (first q out)).answer ≤ 20
   go false q b e = omega arith
   go true [] b e = omega arith
   go true (r ∷ q) true e = rw e (omega arith)

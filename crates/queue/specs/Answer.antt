@@ -1,10 +1,29 @@
--- RULES 13.1, 20.3: the number of each answer of a queue.
-use Rattle.std.specs.Prelude.{ℕ}
-use Rattle.queue.specs.declared.answer.Answer.{Answer}
-use Rattle.queue.specs.declared.answer.Answer.TheVariants.{Done, Empty, Refused, Faulty}
+-- RULES 13.1, 20.3: the answers of a queue, and the number of each.
+use Rattle.std.specs.Prelude.{ℕ, eqb, Result, Ok, Err}
+use Rattle.rules.specs.Tests.{pick}
+use Rattle.queue.specs.declared.answer.QueueError.{QueueError}
+use Rattle.queue.specs.declared.answer.QueueError.TheVariants.{LargeId, BadLength, OutputSmall, Full, PartRecord, Faulty}
 
-abbrev pub number_of : Answer → ℕ
-number_of Done = 0
-number_of Empty = 0
-number_of (Refused n) = n
-number_of Faulty = 20
+-- a put is done or refused; of looking and taking, whether there was a record
+abbrev pub Answer : Type 0 → Type 0
+Answer A = Result A QueueError
+
+abbrev pub error_number : QueueError → ℕ
+error_number LargeId = 2
+error_number BadLength = 3
+error_number OutputSmall = 8
+error_number Full = 9
+error_number PartRecord = 15
+error_number Faulty = 20
+
+abbrev pub number_of : {A : Type 0} → Answer A → ℕ
+number_of (Ok a) = 0
+number_of (Err e) = error_number e
+
+-- what refuses a record, by its number (specs/Queue.antt)
+abbrev pub refusal : ℕ → QueueError
+refusal n = pick (eqb n 2) LargeId BadLength
+
+-- and whether it is refused
+abbrev pub checked : ℕ → Answer (Unit {0})
+checked n = pick (eqb n 0) (Ok tt) (Err (refusal n))

@@ -1,12 +1,10 @@
 -- RULES 20.6: what holds of a queue. `laws.rt` has a function for each, whose contract it is.
-use Rattle.std.specs.Prelude.{◌≡◌, Bool, true, false, List, [], ◌∷◌, ◌++◌, ℕ, ◌^◌, ◌≤◌, ◌<◌, eqb, length}
+use Rattle.std.specs.Prelude.{◌≡◌, Bool, true, false, List, [], ◌∷◌, ◌++◌, ℕ, ◌^◌, ◌≤◌, ◌<◌, eqb, length, Ok, Err}
 use Rattle.rules.specs.Tests.{pick}
-use Rattle.queue.specs.Answer.{number_of}
-use Rattle.queue.specs.Calls.{Result, after_setup, after_put, after_take, looked}
+use Rattle.queue.specs.Answer.{Answer, number_of}
+use Rattle.queue.specs.Calls.{after_setup, after_put, after_take, looked}
 use Rattle.queue.specs.Layout.{records_at, queue_of, sound_queue, records_of}
 use Rattle.queue.specs.Queue.{Record, id_of}
-use Rattle.queue.specs.declared.answer.Answer.{Answer}
-use Rattle.queue.specs.declared.answer.Answer.TheVariants.{Done, Empty, Refused, Faulty}
 
 -- a queue without a fault, of no more bytes than a slice can have
 pub record Queue (m : List ℕ) : Type 0 where
@@ -19,20 +17,18 @@ pub data Call : Type 0 where
   puts : List ℕ → Call
   takes : Call
 
-abbrev pub result_of : List ℕ → Call → Result
-result_of m (puts p) = after_put m p
-result_of m takes = after_take m
+abbrev pub after_call : List ℕ → Call → List ℕ
+after_call m (puts p) = (after_put m p).queue
+after_call m takes = (after_take m).queue
 
 -- each call gets the queue that the last one left
 unfoldable pub after_calls : List ℕ → List Call → List ℕ
 after_calls m [] = m
-after_calls m (c ∷ cs) = after_calls (result_of m c).queue cs
+after_calls m (c ∷ cs) = after_calls (after_call m c) cs
 
-abbrev pub is_done : Answer → Bool
-is_done Done = true
-is_done Empty = false
-is_done (Refused n) = false
-is_done Faulty = false
+abbrev pub is_done : Answer (Unit {0}) → Bool
+is_done (Ok a) = true
+is_done (Err e) = false
 
 abbrev pub head : List Record → List Record
 head [] = []

@@ -1,26 +1,32 @@
-// What a queue answers (RULES 13.1, 20.3).
+// What refuses a call on a queue (RULES 13.1, 20.3).
 ghost use Rattle.std.specs.Prelude.{◌≡◌};
-ghost use Rattle.queue.specs.Answer.{number_of};
+ghost use Rattle.queue.specs.Answer.{error_number};
 
-// `Empty`: there was no record to look at or to take. `Refused` holds the number 2, 3, 8, 9 or 15. An enum, not a `Result`: `Empty` refuses nothing, and the
-// laws go through lists of calls whose answers are of one type; the number of a record's refusal is `first_fault` of specs/Queue.antt.
-#[derive(Clone, Copy)]
-pub enum Answer {
-    Done,
-    Empty,
-    Refused(u32),
+#[derive(Clone, Copy, Debug, PartialEq, Eq)]
+pub enum QueueError {
+    // a record's ID has more than 29 bits
+    LargeId,
+    // a record has no data, or more than a frame has
+    BadLength,
+    OutputSmall,
+    // too few places
+    Full,
+    // the bytes end inside of a record
+    PartRecord,
     Faulty,
 }
 
-impl Answer {
+impl QueueError {
     pub fn number(self) -> u32
-        ensures { result ≡ number_of self }
+        ensures { result ≡ error_number self }
     {
         match self {
-            Answer::Done => 0,
-            Answer::Empty => 0,
-            Answer::Refused(n) => n,
-            Answer::Faulty => 20,
+            QueueError::LargeId => 2,
+            QueueError::BadLength => 3,
+            QueueError::OutputSmall => 8,
+            QueueError::Full => 9,
+            QueueError::PartRecord => 15,
+            QueueError::Faulty => 20,
         }
     }
 }

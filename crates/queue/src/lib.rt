@@ -12,7 +12,7 @@ ghost use Rattle.std.specs.Prelude.{◌≡◌, length};
 ghost use Rattle.queue.specs.Calls.{set_up, after_setup, returned, after_put, after_take, shown, looked};
 ghost use Rattle.queue.specs.Layout as specs;
 
-use answer::Answer;
+use answer::QueueError;
 use answers::SetupError;
 use layout::{COUNT_AT, RECORDS_AT};
 use rules::limits::FRAME_RECORD;
@@ -39,41 +39,38 @@ pub fn setup(queue: &mut [u8]) -> Result<(), SetupError>
 }
 
 // Puts records into the queue, all of them or none.
-pub fn put(queue: &mut [u8], records: &[u8]) -> Answer
+pub fn put(queue: &mut [u8], records: &[u8]) -> Result<(), QueueError>
     ensures { returned result queue.new ≡ after_put queue.old records.now }
 {
     if !sound::is_sound(queue) {
-        return Answer::Faulty;
+        return Err(QueueError::Faulty);
     }
     if records.len() % FRAME_RECORD != 0 {
-        return Answer::Refused(15);
+        return Err(QueueError::PartRecord);
     }
-    let fault = record::first_fault(records);
-    if fault != 0 {
-        return Answer::Refused(fault);
-    }
+    record::first_fault(records)?;
     let n = store::count(queue);
     if capacity(queue.len()) - n < records.len() / FRAME_RECORD {
-        return Answer::Refused(9);
+        return Err(QueueError::Full);
     }
     store::all(queue, n, records);
     bits::le::put_u64(queue, COUNT_AT, (n + records.len() / FRAME_RECORD) as u64);
-    Answer::Done
+    Ok(())
 }
 
-// The record that goes next, to the front of `out`.
-pub fn look(queue: &[u8], out: &mut [u8]) -> Answer
+// The record that goes next, to the front of `out`; false if there is none.
+pub fn look(queue: &[u8], out: &mut [u8]) -> Result<bool, QueueError>
     ensures { shown result out.new ≡ looked queue.now out.old }
 {
     if !sound::is_sound(queue) {
-        return Answer::Faulty;
+        return Err(QueueError::Faulty);
     }
     let n = store::count(queue);
     if n == 0 {
-        return Answer::Empty;
+        return Ok(false);
     }
     if out.len() < FRAME_RECORD {
-        return Answer::Refused(8);
+        return Err(QueueError::OutputSmall);
     }
     bits::part::copy_span(
         out,
@@ -82,20 +79,20 @@ pub fn look(queue: &[u8], out: &mut [u8]) -> Answer
         RECORDS_AT + (n - 1) * FRAME_RECORD,
         FRAME_RECORD,
     );
-    Answer::Done
+    Ok(true)
 }
 
-// Takes the record that goes next away.
-pub fn take(queue: &mut [u8]) -> Answer
+// Takes the record that goes next away; false if there is none.
+pub fn take(queue: &mut [u8]) -> Result<bool, QueueError>
     ensures { returned result queue.new ≡ after_take queue.old }
 {
     if !sound::is_sound(queue) {
-        return Answer::Faulty;
+        return Err(QueueError::Faulty);
     }
     let n = store::count(queue);
     if n == 0 {
-        return Answer::Empty;
+        return Ok(false);
     }
     bits::le::put_u64(queue, COUNT_AT, (n - 1) as u64);
-    Answer::Done
+    Ok(true)
 }

@@ -2,10 +2,12 @@
 ghost use Rattle.std.specs.Prelude.{◌≡◌, ◌+◌, ◌*◌, ◌≤◌, ◌<◌, length};
 ghost use Rattle.bits.specs.Part.{span};
 ghost use Rattle.rules.specs.Limits.{frame_record};
+ghost use Rattle.queue.specs.Answer.{checked};
 ghost use Rattle.queue.specs.Queue.{id_of, fault_of, first_fault};
 ghost use Rattle.queue.specs.Layout.{given, records_of};
 ghost use Rattle.queue.specs.inside.Run.{Run};
 
+use super::answer::QueueError;
 use frame::record;
 use rules::limits::{FRAME_DATA, FRAME_RECORD};
 
@@ -17,36 +19,33 @@ pub fn id(s: &[u8], at: usize) -> u32
     bits::le::get_u32(s, at)
 }
 
-// What refuses the record from `at` on, or 0.
-pub fn fault(s: &[u8], at: usize) -> u32
+// What refuses the record from `at` on.
+pub fn fault(s: &[u8], at: usize) -> Result<(), QueueError>
     requires { at + frame_record ≤ length s.now }
-    ensures { result ≡ fault_of (span s.now at frame_record) }
+    ensures { result ≡ checked (fault_of (span s.now at frame_record)) }
 {
     let found = record::get(s, at);
     if 0x20000000 <= found.id {
-        return 2;
+        return Err(QueueError::LargeId);
     }
     if found.len == 0 {
-        return 3;
+        return Err(QueueError::BadLength);
     }
     if FRAME_DATA < found.len {
-        return 3;
+        return Err(QueueError::BadLength);
     }
-    0
+    Ok(())
 }
 
-// What refuses the first of the records that is refused, or 0.
-pub fn first_fault(records: &[u8]) -> u32
-    ensures { result ≡ first_fault (records_of records.now) }
+// What refuses the first of the records that is refused.
+pub fn first_fault(records: &[u8]) -> Result<(), QueueError>
+    ensures { result ≡ checked (first_fault (records_of records.now)) }
 {
     let k = records.len() / FRAME_RECORD;
     for i in 0..k {
-        let f = fault(records, i * FRAME_RECORD);
-        if f != 0 {
-            return f;
-        }
+        fault(records, i * FRAME_RECORD)?;
     }
-    0
+    Ok(())
 }
 
 // Where the records after record i that have its ID end: those of one transfer, as `send` writes them.

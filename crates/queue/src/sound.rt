@@ -16,7 +16,7 @@ fn records_sound(queue: &[u8], n: usize) -> bool
     let mut last: u32 = 0xffffffff;
     for i in 0..n {
         let at = RECORDS_AT + i * FRAME_RECORD;
-        if record::fault(queue, at) != 0 {
+        if record::fault(queue, at).is_err() {
             return false;
         }
         let id = record::id(queue, at);

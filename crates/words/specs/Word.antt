@@ -9,7 +9,6 @@ use Rattle.answers.specs.Sending as sending
 use Rattle.answers.specs.Word.{word_of, Fits}
 use Rattle.allocator.specs.Answer as allocator
 use Rattle.allocator.specs.Calls.{Call, result_of}
-use Rattle.allocator.specs.declared.answer.Answer as allocator-answer
 use Rattle.batch.specs.Answer as many
 use Rattle.patch.specs.Answer as patch
 use Rattle.patch.specs.Patch.{patches}
@@ -70,7 +69,7 @@ pub record PatchWordLaws : Type 0 where
 
 -- ── the result word of an allocator: the number in bits 0 to 7, the length of the reply in 8 to 12, where a reception has its length too ──
 
-abbrev pub allocation_word : allocator-answer.Answer → ℕ
+abbrev pub allocation_word : allocator.Answer → ℕ
 allocation_word a = allocator.number_of a + allocator.length_in a * 2 ^ 8
 
 -- C reads both

@@ -12,7 +12,7 @@ ghost use Rattle.capture_convert.specs.Answer.{length_in};
 ghost use Rattle.judge_capture.specs.Answer.{frame_of};
 ghost use Rattle.words.specs.Word.{many_word, sent_word, patch_word, allocation_word, signatures_word, conversion_word, verdict_word};
 
-use allocator::answer;
+use allocator::answer::AllocateError;
 use answers::{Dispatch, SendError};
 use batch::BatchError;
 use capture_convert::answer::ConvertError;
@@ -52,11 +52,15 @@ pub fn of_patched(a: Result<u16, PatchError>) -> u64
 }
 
 // Internal. The result word of an allocator.
-pub fn of_allocation(a: answer::Answer) -> u64
+pub fn of_allocation(a: Result<Option<usize>, AllocateError>) -> u64
     requires { Range a }
     ensures { result ≡ allocation_word a }
 {
-    a.number() as u64 + a.length() as u64 * 0x100
+    match a {
+        Ok(None) => 0,
+        Ok(Some(len)) => len as u64 * 0x100,
+        Err(e) => e.number() as u64,
+    }
 }
 
 // Internal. The result word of signatures.

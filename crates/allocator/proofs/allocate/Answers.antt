@@ -6,29 +6,31 @@ use Prim.Native.Nat.{ℕ, ◌≤◌, ◌<◌}
 use native.Mathlib.Omega.{arith}
 use borrow.Author.Tests.{eq-eqb, ne_eqb, lt-ltb, le-ltb}
 use Rattle.bits.proofs.Octets.{octets-all}
-use Rattle.shape.specs.Answer.{Answer, refused, got}
+use Rattle.std.specs.Prelude.{Err}
+use Rattle.shape.specs.Answer.{Answer, refused, got, number_of}
+use Rattle.shape.specs.declared.answer.Refusal.{Refusal}
 use Rattle.shape.specs.Shape.{Values, decoded}
 use Rattle.protocol_dynamic_node_id.specs.Allocation.{allocation, unique_id_in}
 use Rattle.allocator_table.specs.Layout.{sound_state}
 use Rattle.allocator.specs.Allocate.{returned, performs, Fields, fields_of, decide, on_message, allocated}
 use Rattle.allocator.specs.Stage.{joined}
 use Rattle.allocator.specs.declared.Request.{Request}
-use Rattle.allocator.specs.declared.answer.Answer.TheVariants.{Refused, Faulty}
-use Rattle.allocator.proofs.Messages.{casts, cast_is, read-refused, node-held, first-held, read-got}
+use Rattle.allocator.specs.declared.answer.AllocateError.TheVariants.{OwnId, Message, Faulty}
+use Rattle.allocator.proofs.Messages.{same_refusal, casts, cast_is, read-refused, node-held, first-held, read-got}
 use Rattle.allocator.proofs.allocate.Goals as goal
 
 module _ (m : List ℕ) (q : Request) (p out : List ℕ) where
-  faulty : sound_state m ≡ false → returned Faulty m out ≡ allocated m q p out
+  faulty : sound_state m ≡ false → returned (Err Faulty) m out ≡ allocated m q p out
   unfolding allocated
   faulty s = rw s
 
   module _ (s : sound_state m ≡ true) where
-    own-none : q.reserved.own ≡ 0 → returned (Refused 13) m out ≡ allocated m q p out
+    own-none : q.reserved.own ≡ 0 → returned (Err OwnId) m out ≡ allocated m q p out
     unfolding allocated
     own-none z = rw (s, eq-eqb q.reserved.own 0 z)
 
     module _ (z : q.reserved.own ≡ 0 → ⊥) where
-      own-large : 127 < q.reserved.own → returned (Refused 13) m out ≡ allocated m q p out
+      own-large : 127 < q.reserved.own → returned (Err OwnId) m out ≡ allocated m q p out
       unfolding allocated
       own-large l = rw (s, ne_eqb q.reserved.own 0 z, lt-ltb 127 q.reserved.own l)
 
@@ -37,9 +39,9 @@ module _ (m : List ℕ) (q : Request) (p out : List ℕ) where
       by-message l = rw (s, ne_eqb q.reserved.own 0 z, le-ltb 127 q.reserved.own l)
 
 -- the two cases of a message
-unread : (n : ℕ) (x : Answer (Values allocation)) (m : List ℕ) (q : Request) (out : List ℕ) → x ≡ refused n → returned (Refused n) m out ≡ on_message x m q out
+unread : (r : Refusal) (x : Answer (Values allocation)) (m : List ℕ) (q : Request) (out : List ℕ) → x ≡ refused (number_of r) → returned (Err (Message r)) m out ≡ on_message x m q out
 unfolding on_message
-unread n x m q out e = rw e
+unread r x m q out e = rw e (ap (λ (y : Refusal). returned (Err (Message y)) m out) (sym (same_refusal r)))
 
 read : (v : Values allocation) (x : Answer (Values allocation)) (m : List ℕ) (q : Request) (out : List ℕ) → x ≡ got v
     → performs (decide m q (fields_of v)) m q.time (joined m q.time v.1.1) out ≡ on_message x m q out
@@ -80,8 +82,8 @@ message-requires c = sym c.is_sound.ensures ∙ c.if-not-is_sound.false
 pub returns-in-Err : goal.returns-in-Err
 returns-in-Err c =
     let a = c.args in
-    unread c.number.result (decoded allocation a.payload.now) a.state.now a.q a.out.now
-    (read-refused a.payload.now c.decode.result c.decode.ensures c.in-Err.r c.in-Err.is ∙ ap refused (sym c.number.ensures))
+    unread c.in-Err.r (decoded allocation a.payload.now) a.state.now a.q a.out.now
+    (read-refused a.payload.now c.decode.result c.decode.ensures c.in-Err.r c.in-Err.is)
     ∙ by-message a.state.now a.q a.payload.now a.out.now (sym c.is_sound.ensures ∙ c.if-not-is_sound.false) c.if-reserved-eq0.false (omega arith)
 
 pub returns-in-Ok : goal.returns-in-Ok

@@ -1,7 +1,11 @@
 -- `put` meets its contract.
-use mathlib.Core.Path.{refl, sym, ◌∙◌}
+use mathlib.Core.Path.{refl, sym, ap, ◌∙◌}
 use native.Mathlib.Omega.{arith}
+use Rattle.std.specs.Prelude.{is_err}
+use Rattle.queue.specs.Layout.{records_of}
+use Rattle.queue.specs.Queue.{first_fault}
 use Rattle.queue.proofs.Calls.{sound-is, put-faulty, put-cut, put_refused, put_full, room_for, put-done}
+use Rattle.queue.proofs.Records.{handed-on, passes, stops}
 use Rattle.queue.proofs.Soundness.{long-enough, few}
 use Rattle.queue.proofs.put.Goals as goal
 
@@ -16,12 +20,15 @@ returns-then-records-ne0 c =
     let m = a.queue.now in
     put-cut m (sound-is m c.is_sound.result c.is_sound.ensures c.if-not-is_sound.false) _ refl a.records.now c.if-records-ne0.true
 
-pub returns-then-fault-ne0 : goal.returns-then-fault-ne0
-returns-then-fault-ne0 c =
+pub returns-in_err-first_fault : goal.returns-in_err-first_fault
+returns-in_err-first_fault c =
     let a = c.args in
     let m = a.queue.now in
+    let p = a.records.now in
     let s = sound-is m c.is_sound.result c.is_sound.ensures c.if-not-is_sound.false in
-    put_refused m s _ refl a.records.now c.if-records-ne0.false c.first_fault-fault.result c.first_fault-fault.ensures c.if-fault-ne0.true
+    let r = c.from_residual in
+    let e = c.in_err-first_fault.ensures in
+    put_refused m s _ refl p c.if-records-ne0.false r.result (handed-on r.result c.in_err-first_fault.field-0.0 r.ensures.1 ∙ e) (stops (first_fault (records_of p)) (sym (ap is_err e)))
 
 pub count-n-requires : goal.count-n-requires
 count-n-requires c =
@@ -42,7 +49,7 @@ returns-then-capacity-n c =
     let a = c.args in
     let m = a.queue.now in
     let s = sound-is m c.is_sound.result c.is_sound.ensures c.if-not-is_sound.false in
-    put_full m s c.count-n.result c.count-n.ensures a.records.now c.if-records-ne0.false (sym c.first_fault-fault.ensures ∙ c.if-fault-ne0.false)
+    put_full m s c.count-n.result c.count-n.ensures a.records.now c.if-records-ne0.false (passes (first_fault (records_of a.records.now)) (sym (ap is_err c.in_ok-first_fault.ensures)))
     c.capacity.result c.capacity.ensures c.if-capacity-n.true
 
 pub all-requires : goal.all-requires
@@ -50,7 +57,7 @@ all-requires c =
     let a = c.args in
     let m = a.queue.now in
     let s = sound-is m c.is_sound.result c.is_sound.ensures c.if-not-is_sound.false in
-    room_for m s c.count-n.result c.count-n.ensures a.records.now c.if-records-ne0.false (sym c.first_fault-fault.ensures ∙ c.if-fault-ne0.false)
+    room_for m s c.count-n.result c.count-n.ensures a.records.now c.if-records-ne0.false (passes (first_fault (records_of a.records.now)) (sym (ap is_err c.in_ok-first_fault.ensures)))
     c.capacity.result c.capacity.ensures c.if-capacity-n.false
 
 pub put_u64-requires : goal.put_u64-requires
@@ -65,5 +72,5 @@ returns c =
     let a = c.args in
     let m = a.queue.now in
     let s = sound-is m c.is_sound.result c.is_sound.ensures c.if-not-is_sound.false in
-    put-done m s c.count-n.result c.count-n.ensures a.records.now c.if-records-ne0.false (sym c.first_fault-fault.ensures ∙ c.if-fault-ne0.false)
+    put-done m s c.count-n.result c.count-n.ensures a.records.now c.if-records-ne0.false (passes (first_fault (records_of a.records.now)) (sym (ap is_err c.in_ok-first_fault.ensures)))
     c.capacity.result c.capacity.ensures c.if-capacity-n.false c.all.new.queue c.put_u64.new.s c.all.ensures c.put_u64.ensures

@@ -6,7 +6,7 @@ use Prim.Native.Nat.{ℕ}
 use native.Mathlib.Omega.{arith}
 use lib.ListN.{length}
 use lib.Seq.{take_all}
-use Rattle.std.specs.Prelude.{None, Some}
+use Rattle.std.specs.Prelude.{None, Some, Err}
 use Rattle.bits.specs.Little.{le}
 use Rattle.bits.specs.Part.{span}
 use Rattle.allocator_table.specs.Layout.{table_of}
@@ -16,7 +16,7 @@ use Rattle.allocator_table.specs.inside.Code.{optional}
 use Rattle.allocator_table.proofs.Search.{is-some, is-none}
 use Rattle.allocator_table.proofs.Soundness.{long-enough}
 use Rattle.allocator.specs.Allocate.{Verdict, returned, performs}
-use Rattle.allocator.specs.declared.answer.Answer.TheVariants.{Exhausted}
+use Rattle.allocator.specs.declared.answer.AllocateError.TheVariants.{Exhausted}
 use Rattle.allocator.proofs.Decisions.{is_known, known-low, none_left, one_left, room-left}
 use Rattle.allocator.proofs.serve.complete.Goals as goal
 
@@ -41,7 +41,7 @@ pub returns-in-Some : goal.returns-in-Some
 returns-in-Some c =
     let a = c.args in
     let k = found a.state.now a.g.now _ c.requires.1 c.read.ensures c.in-Some.node c.in-Some.ensures in
-    c.confirm.ensures ∙ ap (λ (v : Verdict). performs v a.state.now a.q.time a.g.now a.out.now) (sym (is_known a.state.now a.q a.g.now a.p c.requires.0 c.in-Some.node k))
+    ap (λ x. returned x c.confirm.new.state c.confirm.new.out) c.replied.ensures ∙ c.confirm.ensures ∙ ap (λ (v : Verdict). performs v a.state.now a.q.time a.g.now a.out.now) (sym (is_known a.state.now a.q a.g.now a.p c.requires.0 c.in-Some.node k))
 
 pub gathered_count-requires : goal.gathered_count-requires
 gathered_count-requires c = let l = long-enough c.args.state.now c.requires.0 in (omega arith, omega arith)
@@ -60,7 +60,7 @@ returns-in-Some-given c =
     let k = new a.state.now a.g.now _ c.requires.1 c.read.ensures c.in_default.ensures in
     let n = c.in-Some-given.node in
     let e = ap (given (is_free a.q.reserved (table_of a.state.now))) (sym c.preferred.ensures.0) ∙ is-some n _ c.in-Some-given.ensures.0 in
-    c.enter.ensures ∙ ap (λ (v : Verdict). performs v a.state.now a.q.time a.g.now a.out.now) (sym (one_left a.state.now a.q a.g.now a.p c.requires.0 k n e))
+    ap (λ x. returned x c.enter.new.state c.enter.new.out) c.replied-in-Some-given.ensures ∙ c.enter.ensures ∙ ap (λ (v : Verdict). performs v a.state.now a.q.time a.g.now a.out.now) (sym (one_left a.state.now a.q a.g.now a.p c.requires.0 k n e))
 
 pub returns-in-None : goal.returns-in-None
 unfolding performs
@@ -68,5 +68,5 @@ returns-in-None c =
     let a = c.args in
     let k = new a.state.now a.g.now _ c.requires.1 c.read.ensures c.in_default.ensures in
     let e = ap (given (is_free a.q.reserved (table_of a.state.now))) (sym c.preferred.ensures.0) ∙ is-none _ c.in-None.ensures.0 in
-    ap (λ (m : List ℕ). returned Exhausted m a.out.now) c.gathered_count.ensures
+    ap (λ (m : List ℕ). returned (Err Exhausted) m a.out.now) c.gathered_count.ensures
     ∙ ap (λ (v : Verdict). performs v a.state.now a.q.time a.g.now a.out.now) (sym (none_left a.state.now a.q a.g.now a.p c.requires.0 k e))

@@ -6,12 +6,12 @@ use native.Mathlib.Nat.{sub-zero}
 use native.Mathlib.Omega.{arith}
 use lib.ListN.{length, take}
 use lib.Seq.{take_all, length-take-le}
+use Rattle.std.specs.Prelude.{None, Ok}
 use Rattle.bits.specs.Part.{span}
 use Rattle.allocator_table.specs.Layout.{gathered_at, with_count}
 use Rattle.allocator_table.proofs.Soundness.{long-enough}
 use Rattle.allocator.specs.Allocate.{Verdict, returned, gathers, completes, Fields, performs}
 use Rattle.allocator.specs.Stage.{accepts, kept_at, joined}
-use Rattle.allocator.specs.declared.answer.Answer.TheVariants.{Silent}
 use Rattle.allocator.proofs.Decisions.{is-ignored, is-awaited, is-part, is-whole, kept-few, accepted-fits, length-joined}
 use Rattle.allocator.proofs.serve.message.Goals as goal
 
@@ -40,7 +40,7 @@ unfolding performs
 returns-then-not-accepts c =
     let a = c.args in
     let e = ap (accepts a.first (length a.u.now)) (sym c.kept-n.ensures) ∙ sym c.accepts.ensures ∙ c.if-not-accepts.true in
-    ap (λ (m : List ℕ). returned Silent m a.out.now) (c.gathered_count.ensures ∙ ap (with_count a.state.now) c.kept-n.ensures)
+    ap (λ (m : List ℕ). returned (Ok None) m a.out.now) (c.gathered_count.ensures ∙ ap (with_count a.state.now) c.kept-n.ensures)
     ∙ ap (λ (v : Verdict). performs v a.state.now a.q.time (joined a.state.now a.q.time a.u.now) a.out.now) (sym (is-awaited a.state.now a.q (a.p, (a.first, a.u.now)) c.if-q-ne0.false e))
 
 pub join-g-requires : goal.join-g-requires
@@ -69,7 +69,7 @@ returns-then-len-lt-UNIQUE_ID c =
     let e = ap (accepts a.first (length u)) (sym c.kept-n.ensures) ∙ sym c.accepts.ensures ∙ c.if-not-accepts.false in
     let d = length-joined m t u c.requires in
     let g = is-joined m u c.join-g.result t c.kept-n.result (c.kept-n.result + length u - 0) c.kept-n.ensures (sub-zero (c.kept-n.result + length u)) c.join-g.ensures.0 in
-    c.follow_up.ensures ∙ ap (λ (y : List ℕ). performs gathers m t y a.out.now) g
+    ap (λ x. returned x c.follow_up.new.state c.follow_up.new.out) c.replied.ensures ∙ c.follow_up.ensures ∙ ap (λ (y : List ℕ). performs gathers m t y a.out.now) g
     ∙ ap (λ (y : Verdict). performs y m t (joined m t u) a.out.now) (sym (is-part m a.q v c.if-q-ne0.false e (omega (arith, d, c.kept-n.ensures, c.if-len-lt-UNIQUE_ID.true))))
 
 pub returns : goal.returns

@@ -1,11 +1,12 @@
 -- `record::fault` meets its contract: each check in its order.
-use mathlib.Core.Path.{◌≡◌, sym, ◌∙◌}
+use mathlib.Core.Path.{◌≡◌, sym, ap, ◌∙◌}
 use mathlib.Core.List.{List}
 use Prim.Native.Nat.{ℕ, ◌+◌, ◌≤◌, ◌<◌}
 use lib.ListN.{get_or}
 use Rattle.bits.specs.Little.{le}
 use Rattle.bits.specs.Part.{span}
 use Rattle.rules.specs.Limits.{frame_record, frame_data}
+use Rattle.queue.specs.Answer.{checked}
 use Rattle.queue.specs.Queue.{id_of, fault_of}
 use Rattle.queue.proofs.Records.{id-is, length-is, large, empty, long, fine}
 use Rattle.queue.proofs.record.fault.Goals as goal
@@ -33,19 +34,19 @@ module _ (m : List ℕ) (at id len : ℕ) (i : id ≡ le (span m at 4)) (l : len
 pub returns-then-found-ge536870912 : goal.returns-then-found-ge536870912
 returns-then-found-ge536870912 c =
     let a = c.args in
-    is-large a.s.now a.at c.get-found.result.id c.get-found.result.len c.get-found.ensures.0 c.get-found.ensures.1 c.if-found-ge536870912.true
+    ap checked (is-large a.s.now a.at c.get-found.result.id c.get-found.result.len c.get-found.ensures.0 c.get-found.ensures.1 c.if-found-ge536870912.true)
 
 pub returns-then-found-eq0 : goal.returns-then-found-eq0
 returns-then-found-eq0 c =
     let a = c.args in
-    is-empty a.s.now a.at c.get-found.result.id c.get-found.result.len c.get-found.ensures.0 c.get-found.ensures.1 c.if-found-ge536870912.false c.if-found-eq0.true
+    ap checked (is-empty a.s.now a.at c.get-found.result.id c.get-found.result.len c.get-found.ensures.0 c.get-found.ensures.1 c.if-found-ge536870912.false c.if-found-eq0.true)
 
 pub returns-then-found-gt-FRAME_DATA : goal.returns-then-found-gt-FRAME_DATA
 returns-then-found-gt-FRAME_DATA c =
     let a = c.args in
-    is-long a.s.now a.at c.get-found.result.id c.get-found.result.len c.get-found.ensures.0 c.get-found.ensures.1 c.if-found-ge536870912.false c.if-found-eq0.false c.if-found-gt-FRAME_DATA.true
+    ap checked (is-long a.s.now a.at c.get-found.result.id c.get-found.result.len c.get-found.ensures.0 c.get-found.ensures.1 c.if-found-ge536870912.false c.if-found-eq0.false c.if-found-gt-FRAME_DATA.true)
 
 pub returns : goal.returns
 returns c =
     let a = c.args in
-    is-fine a.s.now a.at c.get-found.result.id c.get-found.result.len c.get-found.ensures.0 c.get-found.ensures.1 c.if-found-ge536870912.false c.if-found-eq0.false c.if-found-gt-FRAME_DATA.false
+    ap checked (is-fine a.s.now a.at c.get-found.result.id c.get-found.result.len c.get-found.ensures.0 c.get-found.ensures.1 c.if-found-ge536870912.false c.if-found-eq0.false c.if-found-gt-FRAME_DATA.false)

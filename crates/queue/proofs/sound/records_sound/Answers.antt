@@ -3,8 +3,10 @@ use mathlib.Core.Path.{◌≡◌, sym, ap, ◌∙◌}
 use Prim.Native.Nat.{ℕ}
 use native.Mathlib.Numerals.{add-one}
 use native.Mathlib.Omega.{arith}
-use Rattle.queue.specs.Layout.{queued}
-use Rattle.queue.specs.Queue.{in_order}
+use Rattle.std.specs.Prelude.{is_err}
+use Rattle.queue.specs.Layout.{record_at, queued}
+use Rattle.queue.specs.Queue.{fault_of, in_order}
+use Rattle.queue.proofs.Records.{passes, stops}
 use Rattle.queue.proofs.Soundness.{below_none, below_next, next-fine, next-refused, next-above, spoilt}
 use Rattle.queue.proofs.sound.records_sound.Goals as goal
 
@@ -20,12 +22,12 @@ overflow_add-at c = omega arith
 pub fault-requires : goal.fault-requires
 fault-requires c = omega arith
 
-pub returns-then-fault-ne0 : goal.returns-then-fault-ne0
-returns-then-fault-ne0 c =
+pub returns-then-is_err : goal.returns-then-is_err
+returns-then-is_err c =
     let a = c.args in
     let m = a.queue.now in
     let i = c.loop-i.i in
-    spoilt m i a.n (omega arith) (next-refused m i (λ e. c.if-fault-ne0.true (c.fault.ensures ∙ e)))
+    spoilt m i a.n (omega arith) (next-refused m i (stops (fault_of (record_at m i)) (ap is_err (sym c.fault.ensures) ∙ sym c.is_err.ensures.value ∙ c.if-is_err.true)))
 
 pub id-id-requires : goal.id-id-requires
 id-id-requires c = omega arith
@@ -45,7 +47,7 @@ loop-i-preserved c =
     let i = c.loop-i.i in (
       omega arith,
       (
-        rw add-one (next-fine m i c.loop-i.last c.loop-i.invariant.1.0 c.loop-i.invariant.1.1 (sym c.fault.ensures ∙ c.if-fault-ne0.false) c.id-id.result c.id-id.ensures (omega (arith, c.id-id.type_inv)) c.if-last-id.false),
+        rw add-one (next-fine m i c.loop-i.last c.loop-i.invariant.1.0 c.loop-i.invariant.1.1 (passes (fault_of (record_at m i)) (ap is_err (sym c.fault.ensures) ∙ sym c.is_err.ensures.value ∙ c.if-is_err.false)) c.id-id.result c.id-id.ensures (omega (arith, c.id-id.type_inv)) c.if-last-id.false),
         rw add-one (below_next m i c.id-id.result c.id-id.ensures),
       ),
     )
