@@ -268,9 +268,9 @@ FROM_RESIDUAL = {'core::result::ResultFromResidualErrResidual::from_residual': 1
 def moved(term, local, place, keys):
     """The term with another place in place of a local, whose variants have other numbers there."""
     if isinstance(term, Place) and term.local == local:
-        (kind, k), *rest = term.steps
-        if kind != 'variant':
+        if not term.steps or term.steps[0][0] != 'variant':
             refuse('a part of', term)
+        (_, k), *rest = term.steps
         return Place(place.local, place.steps + (('variant', keys[k]), *rest))
     if isinstance(term, (list, tuple)) and not isinstance(term, Place):
         return type(term)(moved(part, local, place, keys) for part in term)

@@ -9,7 +9,7 @@ ghost use Rattle.allocator_table.specs.inside.Code.{number_of};
 use super::layout::{ENTRIES_AT, ENTRY, ENTRY_COUNT_AT, GATHERED_COUNT_AT, TIME_AT};
 use super::limits::UNIQUE_ID;
 
-// Compared by hand: derived comparisons call generic functions, which are not translated to C.
+// Compared by hand: derived comparisons call generic functions of the library, which are not translated to C.
 #[derive(Clone, Copy)]
 pub struct UniqueId {
     pub low: u64,

@@ -98,7 +98,7 @@ fn receive_all(
     n
 }
 
-// Not `min` of the library: the translation to C takes no generic function.
+// Not `min` of the library: the translation to C takes only two generic functions of it.
 fn least(a: usize, b: usize) -> usize
     ensures { result ≡ min a b }
 {

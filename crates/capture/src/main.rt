@@ -129,10 +129,10 @@ fn run(console: &mut Console, progress: &mut Progress, block: &mut [u8], out: &m
         count: 0,
         sum: 0xFFFF,
     };
-    for i in 0..u64::MAX {
+    for reads in 1..u64::MAX {
         let after = turn(console, block, out, s);
-        if i % 2048 == 2046 {
-            progress.tell((i + 1) / 32);
+        if reads % 2048 == 2047 {
+            progress.tell(reads / 32);
         }
         match after {
             Ok(Some(next)) => s = next,

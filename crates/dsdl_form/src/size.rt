@@ -15,6 +15,7 @@ fn unsigned(out: &mut [u8], at: usize, l: &[u8], less: u64) -> usize
     ensures { Placed out.old out.new at result (decimal_of (unsigned_of l.now - less)) }
 {
     let Some(b) = integer::base(l) else {
+        // Never: less is below the number of l, so l is a literal.
         return at;
     };
     if b == 10 {

@@ -32,7 +32,8 @@ struct First {
     frame: u64,
 }
 
-// Records: how many are left and how many were read; the checksum of these; the frame at fault, if there is one so far; whether reading failed.
+// Records: how many are left and how many were read; the checksum of these; the frame at fault, if there is one so far; whether reading failed. A
+// flag: how many were read is told after a failure too.
 #[derive(Clone, Copy)]
 struct Rest {
     left: usize,

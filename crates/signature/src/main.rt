@@ -112,6 +112,9 @@ fn gather(console: &mut Console, input: &mut [u8]) -> Option<usize>
 {
     let mut n = 0;
     for _ in 0..INPUT {
+        if n == input.len() {
+            break;
+        }
         let more = console.read(&mut input[n..])?;
         if more == 0 {
             break;

@@ -1,5 +1,5 @@
 use Rattle.capture.proofs.run.Given as goal
 use Prim.Native.Nat.{◌≤◌}
 
-abbrev pub invariant-loop-i : goal.invariant-loop-i
-invariant-loop-i l = l.s.kept ≤ 32768
+abbrev pub invariant-loop-reads : goal.invariant-loop-reads
+invariant-loop-reads l = l.s.kept ≤ 32768
