@@ -1,7 +1,7 @@
 -- Values of parameters in rows: what their code goes by.
 use mathlib.Core.Path.{◌≡◌, refl, ap, ◌∙◌}
 use mathlib.Core.Bool.{false}
-use mathlib.Core.List.{List, ◌∷◌, ◌++◌}
+use mathlib.Core.List.{List}
 use Prim.Native.Nat.{ℕ, zero, suc, ◌+◌, ◌%◌, ◌^◌, ◌<◌}
 use native.Mathlib.Nat.{mod-eq_of_lt}
 use native.Mathlib.Omega.{arith}
@@ -10,28 +10,11 @@ use lib.Dec.{ltb}
 use lib.IntN.{ℤ, pos, negsuc, nat_abs}
 use lib.ListN.{get_or}
 use Rattle.protocol_param.specs.Value.{value_of_tag}
-use Rattle.protocol_param.specs.declared.value.Value.{Value}
-use Rattle.protocol_param.specs.declared.value.Value.TheVariants.{Empty, Integer, Real, Boolean, Text, Unknown}
+use Rattle.protocol_param.specs.declared.value.Value.TheVariants.{Real}
 use Rattle.row.specs.Row.{count_at, number_at}
-use Rattle.message_fields.specs.GetSet.{value_words, value_from}
+use Rattle.message_fields.specs.GetSet.{value_from}
 use Rattle.message_fields.specs.inside.Value.{too_large}
 use Rattle.row.proofs.Rows.{both}
-
--- ── reading ──
-
-two : (v : Value) (l : List ℕ) → get_or (value_words v) 0 0 ∷ get_or (value_words v) 1 0 ∷ l ≡ value_words v ++ l
-two Empty l = refl
-two (Integer z) l = refl
-two (Real x) l = refl
-two (Boolean z) l = refl
-two Text l = refl
-two Unknown l = refl
-
--- the words of a value, and those after it
-pub spread : (w : List ℕ) (v : Value) (l : List ℕ) → w ≡ value_words v → get_or w 0 0 ∷ get_or w 1 0 ∷ l ≡ value_words v ++ l
-spread w v l e = ap (λ (s : List ℕ). get_or s 0 0 ∷ get_or s 1 0 ∷ l) e ∙ two v l
-
--- ── writing ──
 
 -- of a tag that is not that of a real, what is given for a real does not count
 other-real : (t z b : ℤ) (x y : ℕ) → (t ≡ pos 2 → x ≡ y) → value_of_tag t z x b ≡ value_of_tag t z y b

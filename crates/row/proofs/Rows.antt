@@ -1,13 +1,13 @@
 -- Rows: what their code goes by.
 use mathlib.Core.Path.{◌≡◌, refl, sym, ap, ◌∙◌}
 use mathlib.Core.Bool.{Bool, true, false}
-use mathlib.Core.List.{List, ◌∷◌, ◌++◌}
+use mathlib.Core.List.{List, ◌++◌}
 use Prim.Native.Nat.{ℕ, ◌-◌, ◌^◌, ◌≤◌, ◌<◌, min}
 use native.Mathlib.Omega.{arith}
 use borrow.Author.Tests.{ltb-true, ltb-false, lt-ltb, le-ltb}
 use lib.Dec.{ltb}
 use lib.IntN.{ℤ, pos}
-use lib.ListN.{length, drop, get_or}
+use lib.ListN.{length, drop}
 use mir.Syntax.{w64}
 use mir.Val.{SFits, to_z, of_z}
 use Rattle.shape.specs.Answer.{Answer, refused, got, Numbered, numbered, refuse_if, map_answer, wrote}
@@ -41,17 +41,9 @@ counted n z e = ap (λ (y : ℤ). to_z w64 (of_z w64 y)) e ∙ is (least n) (rec
 pub word-of : (z : ℤ) → SFits w64 z → (n : ℕ) → n ≡ low_bits 64 (to_z w64 (of_z w64 z)) → n ≡ low_bits 64 z
 word-of z f n e = e ∙ ap (λ (y : ℤ). low_bits 64 y) (is z f)
 
--- words one after the other
-pub then : {a b : ℕ} {xs ys : List ℕ} → a ≡ b → xs ≡ ys → a ∷ xs ≡ b ∷ ys
-then p q = cc
-
 -- two numbers
 pub both : {A B : Type 0} {a b : A} {x y : B} → a ≡ b → x ≡ y → ◌≡◌ {A = A × B} (a, x) (b, y)
 both p q = cc
-
--- a word of a row that is known
-pub at : {s t : List ℕ} (i : ℕ) → s ≡ t → get_or s i 0 ≡ get_or t i 0
-at i e = ap (λ (l : List ℕ). get_or l i 0) e
 
 -- ── reading ──
 

@@ -21,7 +21,7 @@ turn cmd n w i v h k e g =
 
 pub loop-i-preserved : goal.loop-i-preserved
 loop-i-preserved c =
-    turn c.args.self.cmd c.args.self.count c.loop-i.w c.loop-i.i c.word.result (omega arith) (omega arith) c.loop-i.invariant (word-of _ (record { sfits = c.v-1.given }) _ c.word.ensures)
+    turn c.args.self.cmd c.args.self.count c.loop-i.w c.loop-i.i c.word.result (omega arith) (omega arith) c.loop-i.invariant (word-of _ (search rules) _ c.word.ensures)
 
 pub returns : goal.returns
 returns c =
