@@ -16,7 +16,8 @@ use Rattle.shape.specs.Shape.{written}
 use Rattle.shape.specs.declared.answer.Refusal.{Refusal}
 use Rattle.protocol_dynamic_node_id.specs.Allocation.{allocation}
 use Rattle.allocator_table.specs.Limits.{node_max}
-use Rattle.allocator.specs.Answer.{refusal_of, replied}
+use Rattle.allocator.specs.Answer.{refusal_of}
+use Rattle.allocator.specs.inside.Replied.{replied}
 use Rattle.allocator.specs.Allocate.{returned, answered}
 use Rattle.allocator.specs.declared.answer.AllocateError.TheVariants.{Message}
 use Rattle.allocator.proofs.Messages.{same_refusal}

@@ -24,11 +24,6 @@ length_in (Ok None) = 0
 length_in (Ok (Some n)) = n
 length_in (Err e) = 0
 
--- a written reply, as the answer
-abbrev pub replied : Result ℕ Refusal → Answer
-replied (Ok n) = Ok (Some n)
-replied (Err r) = Err (Message r)
-
 -- what a description refuses with, by its number
 abbrev pub refusal_of : ℕ → Refusal
 refusal_of n =

@@ -6,3 +6,4 @@ pub mod Calls
 pub mod Laws
 pub mod Service
 pub mod Samples
+pub mod inside

@@ -2,7 +2,7 @@
 ghost use Rattle.std.specs.Prelude.{true, ◌++◌, ◌≡◌, ◌+◌, ◌≤◌, ◌<◌, length, take};
 ghost use Rattle.bits.specs.Part.{span};
 ghost use Rattle.allocator.specs.Allocate.{returned, gathers, knows, gives, performs, completes, decide};
-ghost use Rattle.allocator.specs.Answer.{replied};
+ghost use Rattle.allocator.specs.inside.Replied.{replied};
 ghost use Rattle.allocator.specs.Stage.{joined};
 ghost use Rattle.allocator_table.specs.Layout.{size, gathered_at, entry_count, sound_state};
 ghost use Rattle.allocator_table.specs.Limits.{unique_id_max, node_max};

@@ -12,7 +12,8 @@ use Rattle.bits.proofs.Splice.{length-span}
 use Rattle.bits.proofs.Tabulate.{length-tabulate}
 use Rattle.rules.specs.Limits.{frame_record}
 use Rattle.std.specs.Prelude.{Ok, Err}
-use Rattle.queue.specs.Answer.{Answer, checked}
+use Rattle.queue.specs.Answer.{Answer}
+use Rattle.queue.specs.inside.Checked.{checked}
 use Rattle.queue.specs.Calls.{returned, after_put, after_take, shown, looked}
 use Rattle.queue.specs.Layout.{count_at, records_at, capacity, count_of, record_at, queued, queue_of, sound_queue, given, records_of, stored, holding}
 use Rattle.queue.specs.Queue.{first_fault, put_all}

@@ -15,7 +15,8 @@ use Rattle.bits.specs.Part.{span}
 use Rattle.bits.specs.Tabulate.{tabulate}
 use Rattle.rules.specs.Limits.{frame_record, frame_data}
 use Rattle.rules.specs.Tests.{pick}
-use Rattle.queue.specs.Answer.{Answer, refusal, checked}
+use Rattle.queue.specs.Answer.{Answer, refusal}
+use Rattle.queue.specs.inside.Checked.{checked}
 use Rattle.queue.specs.Queue.{Record, id_of, fault_of, first_fault}
 use Rattle.queue.specs.declared.answer.QueueError.{QueueError}
 

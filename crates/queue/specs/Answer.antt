@@ -20,10 +20,6 @@ abbrev pub number_of : {A : Type 0} → Answer A → ℕ
 number_of (Ok a) = 0
 number_of (Err e) = error_number e
 
--- what refuses a record, by its number (specs/Queue.antt)
+-- what refuses a record, by its number in specs/Queue.antt: 2 or 3
 abbrev pub refusal : ℕ → QueueError
 refusal n = pick (eqb n 2) LargeId BadLength
-
--- and whether it is refused
-abbrev pub checked : ℕ → Answer (Unit {0})
-checked n = pick (eqb n 0) (Ok tt) (Err (refusal n))

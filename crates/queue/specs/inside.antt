@@ -1,2 +1,3 @@
 -- What the code computes: no public contract cites it.
 pub mod Run
+pub mod Checked

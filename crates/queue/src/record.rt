@@ -2,7 +2,7 @@
 ghost use Rattle.std.specs.Prelude.{◌≡◌, ◌+◌, ◌*◌, ◌≤◌, ◌<◌, length};
 ghost use Rattle.bits.specs.Part.{span};
 ghost use Rattle.rules.specs.Limits.{frame_record};
-ghost use Rattle.queue.specs.Answer.{checked};
+ghost use Rattle.queue.specs.inside.Checked.{checked};
 ghost use Rattle.queue.specs.Queue.{id_of, fault_of, first_fault};
 ghost use Rattle.queue.specs.Layout.{given, records_of};
 ghost use Rattle.queue.specs.inside.Run.{Run};

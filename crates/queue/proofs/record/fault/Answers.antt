@@ -6,7 +6,7 @@ use lib.ListN.{get_or}
 use Rattle.bits.specs.Little.{le}
 use Rattle.bits.specs.Part.{span}
 use Rattle.rules.specs.Limits.{frame_record, frame_data}
-use Rattle.queue.specs.Answer.{checked}
+use Rattle.queue.specs.inside.Checked.{checked}
 use Rattle.queue.specs.Queue.{id_of, fault_of}
 use Rattle.queue.proofs.Records.{id-is, length-is, large, empty, long, fine}
 use Rattle.queue.proofs.record.fault.Goals as goal

@@ -8,7 +8,7 @@ use lib.ListN.{length}
 use Rattle.bits.specs.Tabulate.{tabulate}
 use Rattle.rules.specs.Limits.{frame_record}
 use Rattle.std.specs.Prelude.{is_err}
-use Rattle.queue.specs.Answer.{checked}
+use Rattle.queue.specs.inside.Checked.{checked}
 use Rattle.queue.specs.Layout.{given}
 use Rattle.queue.specs.Queue.{fault_of, first_fault}
 use Rattle.queue.proofs.Records.{handed-on, passes, stops, hit, miss, none}

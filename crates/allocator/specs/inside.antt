@@ -1,0 +1,2 @@
+-- What the code computes: no public contract cites it.
+pub mod Replied
