@@ -10,12 +10,21 @@ APART = '''/* A function that gcc and clang are not to put into its caller, whos
 #endif'''
 
 
+def through(program, symbols):
+    """The functions, and those that one of them only hands its arguments on to."""
+    for symbol in symbols:
+        yield symbol
+        body = program.functions[symbol].body
+        if len(body) == 2 and body[0][0] == 'call' and body[1] == ['return']:
+            yield from through(program, [body[0][1]])
+
+
 def apart(program, bodies):
     """The functions with large locals, unless a caller has such itself: they may share its stack. And where one of them is called from what
     becomes one function with an entry, the loops in there: their variables would lie on the stack besides."""
     callees = {symbol: set(calls(body.function)) for symbol, body in bodies.items()}
     roomy = {symbol for symbol, body in bodies.items() if body.is_roomy()}
-    found = roomy - {callee for symbol in roomy for callee in callees[symbol]}
+    found = roomy - {callee for symbol in roomy for callee in through(program, callees[symbol])}
 
     def part_of(symbol):
         """The function and those that compilers put into it."""
