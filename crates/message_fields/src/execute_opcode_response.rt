@@ -40,6 +40,7 @@ impl OfRow<2> for Response {
 
     ghost fits = { λ x. word_fits opcode_response refl (response_values x) };
 
+    // Nothing in common with the request's: other fields, the signed one first.
     fn of_row(fields: &[u64]) -> Response {
         Response {
             argument: row::number(fields, 0),
