@@ -11,12 +11,12 @@ APART = '''/* A function that gcc and clang are not to put into its caller, whos
 
 
 def through(program, symbols):
-    """The functions, and those that one of them only hands its arguments on to."""
+    """The functions, and those that one of them only hands its arguments on to, lent on where they are lent."""
     for symbol in symbols:
         yield symbol
-        body = program.functions[symbol].body
-        if len(body) == 2 and body[0][0] == 'call' and body[1] == ['return']:
-            yield from through(program, [body[0][1]])
+        *before, last, end = [['']] + program.functions[symbol].body
+        if last[0] == 'call' and end == ['return'] and all(s[0] in ('', 'assign') for s in before):
+            yield from through(program, [last[1]])
 
 
 def apart(program, bodies):

@@ -51,7 +51,7 @@ class Body(Values):
         f, storage = self.function, self.storage
         made = sum(whole(target(s)) == i for s in f.statements if target(s))
         named = sum(p.local == i for p in f.places) + (f.statements.count(['return']) if i == 0 else 0)
-        placed = i in storage.base or i in storage.same or i in storage.same.values() or i in self.large_targets
+        placed = i in storage.base or i in storage.within or i in storage.same or i in storage.same.values() or i in self.large_targets
         kept = i > f.params and not re.fullmatch(r't\d+', self.local_names[i]) and self.types[i][0] in ('int', 'bool')
         return not 0 < i <= f.params and not f.in_memory[i] and not placed and not kept and named == 2 * made
 

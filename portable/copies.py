@@ -16,6 +16,7 @@ class Storage:
     base   locals that only become the result, or a field of it: they lie there from the start
     same   locals that are one with another
     free   the statements after which a value that was moved lies in the place of its source
+    within locals that are a part of another, taken out once and for all: the place where they still lie
     lent   parameters that come as a `const` pointer, to a local of the caller that nobody changes during the call"""
 
     def __init__(self, program, function):
@@ -28,6 +29,7 @@ class Storage:
         if self.large:
             self.base[0] = '*result'
             self.place_result()
+        self.within = dict(self.taken_out())
         self.lent = {i for i in range(1, function.params + 1) if self.is_lent(i)}
 
     def local(self, i):
@@ -75,6 +77,25 @@ class Storage:
                     and not any(mentions(later, p) for p in self.pointers_into(i)):
                 self.same[to] = i
                 self.free.append(s)
+
+    def taken_out(self):
+        """Large parts of locals of its own, where both are written once and nobody has an address. In a loop the other could be written again."""
+        f = self.function
+        own = [s for s in f.statements if target(s) and not (s[0] == 'assign' and s[2][0] == 'opd' and self.is_local(s[2][1], self.local(target(s).local)))]
+        written = [self.local(target(s).local) for s in own]
+        for s in own if not any(s[0] == 'loop' for s in f.statements) else ():
+            i, source = self.local(target(s).local), s[2][1][1] if s[0] == 'assign' and s[2][0] == 'opd' and s[2][1][0] == 'copy' else None
+            if whole(target(s)) is None or not source or any(step[0] == 'deref' for step in source.steps):
+                continue
+            j = self.local(source.local)
+            alone = all(k > f.params and k not in self.base and written.count(k) == 1 for k in (i, j))
+            lent = any(f.in_memory[k] for k in range(len(f.types)) if self.local(k) in (i, j))
+            if alone and not lent and self.program.size(f.types[i]) > LARGE:
+                yield i, source
+
+    def is_local(self, operand, i):
+        k = whole(operand)
+        return k is not None and self.local(k) == i
 
     def pointers_into(self, i):
         """The locals that may point into local i."""

@@ -11,7 +11,7 @@ class Expr:
         self.times = more.get('times')        # (text, n) of a product with the constant n
         self.deref = more.get('deref')        # of a pointer: the C lvalue that it points to
         self.constant = more.get('constant')  # the number, of a constant
-        self.fields = more.get('fields')      # of a struct that is made: each field's name, text and value
+        self.fields = more.get('fields')      # of a struct or a variant that is made: each field's place in it, text and value
         self.fill = more.get('fill')          # of an array of copies of one byte: that byte
         self.address = more.get('address', 'stable')  # the kind of its address
         self.own_place = more.get('own_place', False)  # it is a local, or a part of one, whose address nobody has

@@ -103,7 +103,8 @@ class Program:
         texts.update({symbol: body.text(symbol in kept) for symbol, body in bodies.items()})
         top = f'#include "{header}"\n\n' + '\n'.join(f'#include <{name}.h>' for name in ('stdbool', 'stddef', 'stdint', 'string'))
         statics = [comment(quoted(name, numbers)) + constants(type_, numbers, self.shapes, name) for (type_, numbers), name in self.statics.items()]
-        types = list(self.shapes.definitions.values()) + list(self.shapes.makers.values())
+        makers = [text for name, text in self.shapes.makers.items() if any(name + '(' in body for body in texts.values())]
+        types = list(self.shapes.definitions.values()) + makers
         code = [comment(self.sources.comments.get(symbol)) + text for symbol, text in texts.items() if symbol in self.entries or self.sites[symbol]]
         return '\n\n'.join([head, top, MAKE, APART] + types + statics + sorted(self.helpers) + code) + '\n'
 

@@ -104,6 +104,10 @@ class Shapes:
         tag = self.define(c_name(symbol) + '_tag', lambda: self.enumeration(symbol))
         return self.struct([f'{tag} tag;', 'union {', *rows, '} of;'])
 
+    def inside(self, symbol, k, i):
+        """Where in an enum with fields the i-th of its k-th variant is."""
+        return f'of.{self.variants(symbol)[k][0]}.f{i}'
+
     def made(self, symbol, k, texts):
         """The call that makes a variant of an enum with fields. One function makes all variants without; C++ has no compound literal of
         a union's member."""

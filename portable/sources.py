@@ -5,7 +5,8 @@ import re
 
 from mir import refuse
 
-ITEM = re.compile(r'^(?P<indent> *)(?:pub )?(?:extern "C" )?(?:(?P<fn>fn)|struct|enum|impl) (?P<name>\w+)(?:<[^>]*>)?(?: for (?P<type>\w+))?', re.M)
+ITEM = re.compile(r'^(?P<indent> *)(?:pub )?(?:extern "C" )?(?:(?P<fn>fn)|struct|enum|impl) (?P<name>\w+)(?:<(?P<given>[^>]*)>)?'
+                  r'(?: for (?P<type>\w+|\([^()]*\)))?', re.M)
 BINDER = re.compile(r'\blet (?:mut )?([a-z_]\w*)\s*[:=;]|\bfor (\w+) in\b|\b[A-Z]\w*::[A-Z]\w*\(([^()]*)\)\s*(?:=>|=(?!=)|\|)')
 EXPORT = re.compile(r'#\[unsafe\(no_mangle\)\]\npub extern "C" fn (\w+)\(([^()]*)\)[^{}]*(?:(?:requires|ensures)[^\n]*\n)*\{\n(.*?)^\}', re.M | re.S)
 
@@ -25,7 +26,7 @@ class Sources:
             end = re.compile(rf'^{item["indent"]}\}}', re.M).search(text, item.end())
             inside = re.sub(r'//.*', '', text[item.end():end.start() if end else len(text)])
             if ' impl ' in f' {item[0]}':
-                owner = (item['type'] or '') + item['name']
+                owner = implemented(item)
                 continue
             symbol = '::'.join(filter(None, (module, owner if item['indent'] else None, item['name'])))
             self.comments[symbol] = comment_above(text[:item.start()])
@@ -44,6 +45,14 @@ class Sources:
         head, _, body = text.partition(')')
         self.names[symbol] = re.findall(r'(?:^|[(,])\s*(?:mut )?&?(?:mut )?(self|\w+(?=\s*:))', head)
         self.locals[symbol] = [name for found in BINDER.finditer(body) for name in bound(found)]
+
+
+def implemented(item):
+    """The type, or the trait's methods at a type: its words, the trait, and the numbers that it is given. A tuple goes by its length and its parts."""
+    if not item['type']:
+        return item['name']
+    words, given = re.findall(r'\w+', item['type']), re.findall(r'\b\d+\b', item['given'] or '')
+    return ''.join([f'Tuple{len(words)}'] * (item['type'][0] == '(') + words + [item['name']] + given)
 
 
 def bound(found):

@@ -1,6 +1,6 @@
 """The values of one function: its places, operands and right-hand sides as C expressions."""
 from exprs import HELPERS, OP1, OP2, Expr, apply, cast, mixed, number
-from mir import mentions, refuse, target, whole
+from mir import Place, mentions, refuse, target, whole
 
 BYTES = {('bool',): 1, **{('int', width): width // 8 for width in (8, 16, 32, 64)}}
 
@@ -71,7 +71,7 @@ class Values:
             variant, types = self.shapes.variants(type_[1])[type_[2]]
             if k > len(types):
                 refuse(f'field {k} of the variant {variant} of', type_[1])
-            return f'.of.{variant}.f{k - 1}', types[k - 1]
+            return '.' + self.shapes.inside(type_[1], type_[2], k - 1), types[k - 1]
         if name == 'field' and type_[0] == 'named':
             field, t = self.shapes.fields(type_[1])[k]
             return '.' + field, t
@@ -83,6 +83,9 @@ class Values:
 
     def place(self, place):
         i = self.storage.local(place.local)
+        if i in self.storage.within:
+            at = self.storage.within[i]
+            return self.place(Place(at.local, at.steps + place.steps))
         if i in self.pending:
             at = self.pending.pop(i)
         else:
@@ -232,9 +235,12 @@ class Values:
         types = self.shapes.variants(symbol)[k][1] if k is not None else None
         if types is None or len(types) != len(parts) - 1:
             refuse('the variant of', symbol)
+        tag = self.shapes.tag(symbol, k)
         if self.shapes.is_plain(symbol):
-            return Expr(self.shapes.tag(symbol, k), type_)
-        return Expr(self.shapes.made(symbol, k, [self.convert(p, t).text for p, t in zip(parts[1:], types)]), type_)
+            return Expr(tag, type_)
+        texts = [self.convert(p, t).text for p, t in zip(parts[1:], types)]
+        places = ['tag'] + [self.shapes.inside(symbol, k, i) for i in range(len(types))]
+        return Expr(self.shapes.made(symbol, k, texts), type_, fields=list(zip(places, [tag] + texts, parts)))
 
     def repeat(self, part, count, type_):
         """C fills an array with zeros by itself, and with another byte by memset; a few copies of true are written out."""

@@ -7,3 +7,4 @@ pub mod Polling
 pub mod Fields
 pub mod Meeting
 pub mod Steps
+pub mod Numbers

@@ -1,10 +1,11 @@
 -- RULES 21.7: what holds of an allocatee. `laws.rt` has a function for each, whose contract it is.
 use Rattle.std.specs.Prelude.{◌≡◌, true, List, ◌⊎◌, ℕ, suc, ◌-◌, ◌^◌, ◌≤◌, ◌<◌, nat_abs, length}
 use Rattle.bits.specs.Order.{Octets}
-use Rattle.shape.specs.Answer.{got}
-use Rattle.shape.specs.Shape.{Values, decoded}
+use Rattle.shape.specs.Answer.{refused, got}
+use Rattle.shape.specs.Shape.{Values, decoded, encoded}
 use Rattle.protocol_dynamic_node_id.specs.Allocation.{allocation}
-use Rattle.allocatee.specs.Calls.{begins, heard, requests, polled}
+use Rattle.allocatee.specs.Answer.{number_of}
+use Rattle.allocatee.specs.Calls.{begins, heard, sent_as, requests, polled}
 use Rattle.allocatee.specs.Layout.{unique_of, node_of, pending_of, since_of, sound_state}
 use Rattle.allocatee.specs.Limits.{unique_id_max, request_max}
 use Rattle.allocatee.specs.declared.Heard.{Heard}
@@ -57,3 +58,9 @@ pub record Asked (m : List ℕ) (t x : ℕ) (out : List ℕ) : Type 0 where
 
 abbrev pub AsksAgain : Type 0
 AsksAgain = (m : List ℕ) (t x : ℕ) (out : List ℕ) → Idle m → request_max ≤ length out → t < 2 ^ 64 → 1000000 ≤ t - since_of m → Asked m t x out
+
+-- RULES 21.3, 21.4: the refusal of a message that cannot be read, and of one that cannot be written, has the number that the description gives
+pub record RefusedByNumber : Type 0 where
+  pub read : (m : List ℕ) (q : Heard) (p : List ℕ) (n : ℕ) → sound_state m ≡ true → node_of m ≡ 0 → decoded allocation p ≡ refused n → number_of (heard m q p).answer ≡ n
+  pub written : (v : Values allocation) (room n : ℕ) (m m' : List ℕ) (t : ℕ) (out : List ℕ) → encoded allocation v room ≡ refused n
+      → number_of (sent_as (refused n) m m' t out).answer ≡ n

@@ -23,7 +23,7 @@ use Rattle.allocator.specs.Stage.{accepts, kept_at, joined, preferred}
 use Rattle.allocator.specs.declared.Request.{Request}
 use Rattle.allocator.specs.declared.answer.AllocateError.TheVariants.{OwnId, Message, Faulty}
 use Rattle.allocator.proofs.Messages.{values_of, read-natural}
-use Rattle.allocator.proofs.Refusals.{Small, small-read}
+use Rattle.allocator.proofs.Refusals.{Told, Small, small-read}
 use Rattle.allocator.proofs.Decisions.{is-ignored, is-awaited, is-part, is-whole, accepted-fits, length-joined}
 
 -- an anonymous message of the stage that is expected
@@ -77,7 +77,7 @@ module _ (m : List ℕ) (q : Request) (v : Fields) where
 pub data Called (m : List ℕ) (q : Request) (p out : List ℕ) : Result → Type 0 where
   faults : Called m q p out (returned (Err Faulty) m out)
   disowned : Called m q p out (returned (Err OwnId) m out)
-  refuses : (n : ℕ) → n ≤ 25 → Called m q p out (returned (Err (Message (refusal_of n))) m out)
+  refuses : (n : ℕ) → Told n → Called m q p out (returned (Err (Message (refusal_of n))) m out)
   acts : sound_state m ≡ true → no_own q.reserved.own ≡ false → (v : Fields) → decoded allocation p ≡ got (values_of v) → (x : Verdict) → Decided m q v x
       → Called m q p out (performs x m q.time (joined m q.time v.1.1) out)
 
@@ -97,7 +97,7 @@ module _ (m : List ℕ) (q : Request) (p out : List ℕ) where
   pub called : Called m q p out (allocated m q p out)
   unfolding on_message
   called = sound (sound_state m) refl where
-    small-number : (n : ℕ) → decoded allocation p ≡ refused n → n ≤ 25
+    small-number : (n : ℕ) → decoded allocation p ≡ refused n → Told n
     small-number n e = subst Small e (small-read (unpack p))
 
     message : sound_state m ≡ true → no_own q.reserved.own ≡ false → (r : Answer (Values allocation)) → decoded allocation p ≡ r → Called m q p out (on_message r m q out)

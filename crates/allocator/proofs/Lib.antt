@@ -9,3 +9,4 @@ pub mod Again
 pub mod Serving
 pub mod Ranges
 pub mod Refusals
+pub mod Numbers

@@ -22,7 +22,7 @@ use Rattle.allocator.specs.Calls.{Call, result_of}
 use Rattle.allocator.specs.Laws.{Range, AnswersInRange}
 use Rattle.allocator.specs.Stage.{joined}
 use Rattle.allocator.proofs.Called.{Decided, ignores, waits, parts, finds, adds, lacks, Called, faults, disowned, refuses, acts, called}
-use Rattle.allocator.proofs.Refusals.{Small, small-write, small-refusal}
+use Rattle.allocator.proofs.Refusals.{Told, Small, small-write}
 
 -- a unique ID that fits its field
 few : (n : ℕ) (g : List ℕ) → fits allocation (pos n, (pos 0, g)) ≡ true → length g ≤ unique_id_max
@@ -39,7 +39,7 @@ length-reply n g room bs e =
 reply-range : (n : ℕ) (g m m' out : List ℕ) → Range (answered (encoded allocation (pos n, (pos 0, g)) (length out)) m m' out).answer
 reply-range n g m m' out = go (encoded allocation (pos n, (pos 0, g)) (length out)) refl (small-write (pos n, (pos 0, g)) (length out)) where
   go : (a : Answer (List ℕ)) → encoded allocation (pos n, (pos 0, g)) (length out) ≡ a → Small a → Range (answered a m m' out).answer
-  go (refused k) e s = record { number = small-refusal k s; reply = omega arith }
+  go (refused k) e s = record { number = omega (arith, s.small, s.same); reply = omega arith }
   go (got bs) e s = record { number = omega arith; reply = length-reply n g (length out) bs e }
 
 module _ (m : List ℕ) (c : Call) where
@@ -58,7 +58,7 @@ module _ (m : List ℕ) (c : Call) where
   by_call : (x : Result) → Called m c.request c.payload c.out x → Range x.answer
   by_call x faults = record { number = omega arith; reply = omega arith }
   by_call x disowned = record { number = omega arith; reply = omega arith }
-  by_call x (refuses n h) = record { number = small-refusal n h; reply = omega arith }
+  by_call x (refuses n h) = record { number = omega (arith, h.small, h.same); reply = omega arith }
   by_call x (acts s o v r y d) = by-verdict v y d
 
 pub answers-in-range : AnswersInRange

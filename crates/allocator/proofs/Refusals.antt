@@ -1,4 +1,4 @@
--- What the reader and the writer of a message refuse has a small number.
+-- What the reader and the writer of a message refuse has one of five numbers, and its refusal has that number.
 use mathlib.Core.Path.{◌≡◌, refl}
 use mathlib.Core.Bool.{Bool, true, false, not}
 use mathlib.Core.List.{List}
@@ -14,12 +14,31 @@ use Rattle.shape.specs.Shape.{Values, decode, encoded, fits, message, all_zero}
 use Rattle.protocol_dynamic_node_id.specs.Allocation.{allocation}
 use Rattle.allocator.specs.Answer.{refusal_of}
 
--- a refusal has a number up to 25
+-- a refusal has a number up to 25, which is that of what it is told as
+pub record Told (n : ℕ) : Type 0 where
+  pub small : n ≤ 25
+  pub same : number_of (refusal_of n) ≡ n
+
 abbrev pub Small : {A : Type 0} → Answer A → Type 0
-Small (refused n) = n ≤ 25
+Small (refused n) = Told n
 Small (got a) = Unit {0}
 
-small-if : {A : Type 0} (b : Bool) (n : ℕ) (r : Answer A) → n ≤ 25 → Small r → Small (refuse_if b n r)
+no-room : Told 8
+no-room = record { small = omega arith; same = refl }
+
+too-short : Told 15
+too-short = record { small = omega arith; same = refl }
+
+too-long : Told 16
+too-long = record { small = omega arith; same = refl }
+
+not-allowed : Told 17
+not-allowed = record { small = omega arith; same = refl }
+
+padding : Told 25
+padding = record { small = omega arith; same = refl }
+
+small-if : {A : Type 0} (b : Bool) (n : ℕ) (r : Answer A) → Told n → Small r → Small (refuse_if b n r)
 unfolding refuse_if
 small-if true n r h s = h
 small-if false n r h s = s
@@ -32,24 +51,14 @@ small-map f (got a) s = tt
 pub small-read : (bs : List Bool) → Small (decode allocation bs)
 unfolding decode
 small-read bs =
-    small-if (ltb (length bs) 7) 15 _ (omega arith)
+    small-if (ltb (length bs) 7) 15 _ too-short
     (small-map _ _
-    (small-if (ltb (length (drop 7 bs)) 1) 15 _ (omega arith)
+    (small-if (ltb (length (drop 7 bs)) 1) 15 _ too-short
     (small-map _ _
-    (small-if (ltb 16 (length (drop 1 (drop 7 bs)) / 8)) 16 _ (omega arith)
-    (small-if (leb 8 (length (drop 1 (drop 7 bs)) % 8)) 16 _ (omega arith)
-    (small-if (not (all_zero (drop (length (drop 1 (drop 7 bs)) / 8 * 8) (drop 1 (drop 7 bs))))) 25 _ (omega arith) (small-if false 17 _ (omega arith) tt)))))))
+    (small-if (ltb 16 (length (drop 1 (drop 7 bs)) / 8)) 16 _ too-long
+    (small-if (leb 8 (length (drop 1 (drop 7 bs)) % 8)) 16 _ too-long
+    (small-if (not (all_zero (drop (length (drop 1 (drop 7 bs)) / 8 * 8) (drop 1 (drop 7 bs))))) 25 _ padding (small-if false 17 _ not-allowed tt)))))))
 
 pub small-write : (v : Values allocation) (room : ℕ) → Small (encoded allocation v room)
 unfolding encoded refuse_if
-small-write v room = small-if (not (fits allocation v)) 17 _ (omega arith) (small-if (ltb room (length (message allocation v))) 8 _ (omega arith) tt)
-
-pub small-refusal : (n : ℕ) → n ≤ 25 → number_of (refusal_of n) ≤ 25
-small-refusal n h = go (eqb n 8) (eqb n 15) (eqb n 16) (eqb n 17) (eqb n 27) refl where
-  go : (a b c d e : Bool) → eqb n 27 ≡ e → number_of (pick a NoRoom (pick b TooShort (pick c TooLong (pick d NotAllowed (pick e NoCase Padding))))) ≤ 25
-  go true b c d e i = omega arith
-  go false true c d e i = omega arith
-  go false false true d e i = omega arith
-  go false false false true e i = omega arith
-  go false false false false true i = omega (arith, eqb-true n 27 i)
-  go false false false false false i = omega arith
+small-write v room = small-if (not (fits allocation v)) 17 _ not-allowed (small-if (ltb room (length (message allocation v))) 8 _ no-room tt)

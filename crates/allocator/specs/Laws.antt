@@ -2,9 +2,13 @@
 use Rattle.std.specs.Prelude.{◌≡◌, Bool, true, false, List, [], ◌∷◌, ◌++◌, ◌⊎◌, ℕ, ◌≤◌, ◌<◌, length, Err}
 use Rattle.std.proofs.Math.Option.{none, some}
 use Rattle.bits.specs.Little.{le}
+use Rattle.shape.specs.Answer.{refused}
+use Rattle.shape.specs.Shape.{Values, decoded, encoded}
+use Rattle.protocol_dynamic_node_id.specs.Allocation.{allocation}
 use Rattle.allocator_table.specs.Layout.{size, gathered_count, table_of, sound_state}
 use Rattle.allocator_table.specs.Limits.{unique_id_max}
 use Rattle.allocator_table.specs.Table.{Entry, entry, holds, node_of, insert, is_givable, is_marked, is_free}
+use Rattle.allocator.specs.Allocate.{answered, no_own}
 use Rattle.allocator.specs.Calls.{Call, result_of, after_calls, Reply, Completes, NoneFree}
 use Rattle.allocator.specs.Setup.{after_setup}
 use Rattle.allocator.specs.Stage.{preferred}
@@ -73,6 +77,12 @@ pub record Away (m : List ℕ) (c : Call) : Type 0 where
 pub record TurnedAway : Type 0 where
   pub only_if : (m : List ℕ) (c : Call) → (result_of m c).answer ≡ Err Exhausted → Away m c
   pub if : (m : List ℕ) (c : Call) → Away m c → (result_of m c).answer ≡ Err Exhausted
+
+-- RULES 16.3, 16.6: the refusal of a message that cannot be read, and of a reply that cannot be written, has the number that the description gives
+pub record RefusedByNumber : Type 0 where
+  pub read : (m : List ℕ) (c : Call) (n : ℕ) → sound_state m ≡ true → no_own c.request.reserved.own ≡ false → decoded allocation c.payload ≡ refused n
+      → number_of (result_of m c).answer ≡ n
+  pub written : (v : Values allocation) (room n : ℕ) (m m' out : List ℕ) → encoded allocation v room ≡ refused n → number_of (answered (refused n) m m' out).answer ≡ n
 
 -- RULES 13.3: every answer fits the word of the C entry
 pub record Range (a : Answer) : Type 0 where

@@ -1,5 +1,5 @@
 // The laws of specs/Laws.antt and specs/Service.antt, and the facts of specs/Samples.antt: a function with no body for each, whose contract it is.
-ghost use Rattle.allocator.specs.Laws.{SetupLaws, StateLasts, TableGrows, SameIdAgain, IdGiven, IdsDiffer, TurnedAway, AnswersInRange};
+ghost use Rattle.allocator.specs.Laws.{SetupLaws, StateLasts, TableGrows, SameIdAgain, IdGiven, IdsDiffer, TurnedAway, RefusedByNumber, AnswersInRange};
 ghost use Rattle.allocator.specs.Samples.{Samples};
 ghost use Rattle.allocator.specs.Service.{Service};
 
@@ -35,6 +35,11 @@ pub fn turned_away()
 
 pub fn service()
     ensures { Service }
+{}
+
+// RULES 16.3, 16.6: a refusal of a message has the number that its description gives.
+pub fn refused_by_number()
+    ensures { RefusedByNumber }
 {}
 
 // RULES 13.3: every answer fits the result word.

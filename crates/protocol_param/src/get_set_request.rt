@@ -58,6 +58,7 @@ pub fn decode(payload: &[u8]) -> Result<Request, Refusal>
     ensures { answer_of result ≡ request_in payload.now }
 {
     refusal(payload)?;
+    let name_at = name_at(payload);
     Ok(Request {
         index: number::read(payload, 0, 13),
         value: value::read(part::behind(payload, 1), 5),
@@ -66,8 +67,8 @@ pub fn decode(payload: &[u8]) -> Result<Request, Refusal>
             len: string_value(payload).len(),
         },
         name: Place {
-            at: name_at(payload),
-            len: name(payload).len(),
+            at: name_at,
+            len: part::behind(payload, name_at).len(),
         },
     })
 }

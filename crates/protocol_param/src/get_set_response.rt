@@ -34,25 +34,33 @@ fn default_at(payload: &[u8]) -> usize
     value::size(payload, 5)
 }
 
-fn max_at(payload: &[u8]) -> usize
+// Each of the others from the one before it.
+fn max_behind(payload: &[u8], default: usize) -> usize
+    requires { default ≡ default_at payload.now }
     ensures { result ≡ max_at payload.now }
 {
-    let at = default_at(payload);
-    at + value::size(part::behind(payload, at), 5)
+    default + value::size(part::behind(payload, default), 5)
 }
 
-fn min_at(payload: &[u8]) -> usize
+fn min_behind(payload: &[u8], max: usize) -> usize
+    requires { max ≡ max_at payload.now }
     ensures { result ≡ min_at payload.now }
 {
-    let at = max_at(payload);
-    at + value::size(part::behind(payload, at), 3)
+    max + value::size(part::behind(payload, max), 3)
+}
+
+fn name_behind(payload: &[u8], min: usize) -> usize
+    requires { min ≡ min_at payload.now }
+    ensures { result ≡ name_at payload.now }
+{
+    min + value::size(part::behind(payload, min), 3)
 }
 
 fn name_at(payload: &[u8]) -> usize
     ensures { result ≡ name_at payload.now }
 {
-    let at = min_at(payload);
-    at + value::size(part::behind(payload, at), 3)
+    let max = max_behind(payload, default_at(payload));
+    name_behind(payload, min_behind(payload, max))
 }
 
 // The text of the value, as a part of the payload; nothing if the value is no text.
@@ -81,10 +89,13 @@ fn refusal(payload: &[u8]) -> Result<(), Refusal>
     ensures { (answer_of result).number ≡ (numbered (decoded response payload.now)).number }
 {
     value::refusal(payload, 5)?;
-    value::refusal(part::behind(payload, default_at(payload)), 5)?;
-    value::refusal(part::behind(payload, max_at(payload)), 3)?;
-    value::refusal(part::behind(payload, min_at(payload)), 3)?;
-    if 92 < name(payload).len() {
+    let default = default_at(payload);
+    value::refusal(part::behind(payload, default), 5)?;
+    let max = max_behind(payload, default);
+    value::refusal(part::behind(payload, max), 3)?;
+    let min = min_behind(payload, max);
+    value::refusal(part::behind(payload, min), 3)?;
+    if 92 < part::behind(payload, name_behind(payload, min)).len() {
         return Err(Refusal::TooLong);
     }
     Ok(())
@@ -96,6 +107,9 @@ pub fn decode(payload: &[u8]) -> Result<Response, Refusal>
 {
     refusal(payload)?;
     let at = default_at(payload);
+    let max = max_behind(payload, at);
+    let min = min_behind(payload, max);
+    let name_at = name_behind(payload, min);
     Ok(Response {
         value: value::read(payload, 5),
         string_value: Place {
@@ -107,11 +121,11 @@ pub fn decode(payload: &[u8]) -> Result<Response, Refusal>
             at: at + 2,
             len: default_string_value(payload).len(),
         },
-        max_value: value::read(part::behind(payload, max_at(payload)), 3),
-        min_value: value::read(part::behind(payload, min_at(payload)), 3),
+        max_value: value::read(part::behind(payload, max), 3),
+        min_value: value::read(part::behind(payload, min), 3),
         name: Place {
-            at: name_at(payload),
-            len: name(payload).len(),
+            at: name_at,
+            len: part::behind(payload, name_at).len(),
         },
     })
 }

@@ -7,3 +7,4 @@ pub mod Calls
 pub mod Sorted
 pub mod Lasting
 pub mod Turns
+pub mod Numbers

@@ -1,10 +1,11 @@
 -- RULES 20.6: what holds of a queue. `laws.rt` has a function for each, whose contract it is.
-use Rattle.std.specs.Prelude.{◌≡◌, Bool, true, false, List, [], ◌∷◌, ◌++◌, ℕ, ◌^◌, ◌≤◌, ◌<◌, eqb, length, Ok, Err}
+use Rattle.std.specs.Prelude.{◌≡◌, Bool, true, false, List, [], ◌∷◌, ◌++◌, ℕ, ◌%◌, ◌^◌, ◌≤◌, ◌<◌, eqb, length, Ok, Err}
+use Rattle.rules.specs.Limits.{frame_record}
 use Rattle.rules.specs.Tests.{pick}
-use Rattle.queue.specs.Answer.{Answer, number_of}
+use Rattle.queue.specs.Answer.{Answer, error_number, number_of, refusal}
 use Rattle.queue.specs.Calls.{after_setup, after_put, after_take, looked}
 use Rattle.queue.specs.Layout.{records_at, queue_of, sound_queue, records_of}
-use Rattle.queue.specs.Queue.{Record, id_of}
+use Rattle.queue.specs.Queue.{Record, id_of, fault_of, first_fault}
 
 -- a queue without a fault, of no more bytes than a slice can have
 pub record Queue (m : List ℕ) : Type 0 where
@@ -71,6 +72,13 @@ InTurn =
 abbrev pub LowestFirst : Type 0
 LowestFirst =
     (m : List ℕ) → Queue m → (r x : Record) (q xs ys : List Record) → queue_of m ≡ r ∷ q → q ≡ xs ++ (x ∷ ys) → id_of r ≤ id_of x
+
+-- RULES 20.3: the refusal of a record, and of a put, has the number of what refuses it
+pub record RefusedByNumber : Type 0 where
+  pub one : (r : Record) → (fault_of r ≡ 0 → ⊥) → error_number (refusal (fault_of r)) ≡ fault_of r
+  pub list : (rs : List Record) → (first_fault rs ≡ 0 → ⊥) → error_number (refusal (first_fault rs)) ≡ first_fault rs
+  pub put : (m p : List ℕ) → sound_queue m ≡ true → length p % frame_record ≡ 0 → (first_fault (records_of p) ≡ 0 → ⊥)
+      → number_of (after_put m p).answer ≡ first_fault (records_of p)
 
 -- RULES 13.3: every number fits the word of a C entry
 pub record AnswersInRange : Type 0 where

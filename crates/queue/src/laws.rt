@@ -1,5 +1,5 @@
 // The laws of specs/Laws.antt (RULES 20.6): a function with no body for each, whose contract it is.
-ghost use Rattle.queue.specs.Laws.{SetupLaws, QueueLasts, InTurn, LowestFirst, AnswersInRange};
+ghost use Rattle.queue.specs.Laws.{SetupLaws, QueueLasts, InTurn, LowestFirst, RefusedByNumber, AnswersInRange};
 
 pub fn setup()
     ensures { SetupLaws }
@@ -15,6 +15,11 @@ pub fn in_turn()
 
 pub fn lowest_first()
     ensures { LowestFirst }
+{}
+
+// RULES 20.3: a refusal has the number of what refuses.
+pub fn refused_by_number()
+    ensures { RefusedByNumber }
 {}
 
 // RULES 13.3: every answer fits the result word.

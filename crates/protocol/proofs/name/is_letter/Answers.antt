@@ -1,28 +1,41 @@
 -- `name::is_letter` meets its contract, range by range.
-use native.Mathlib.Omega.{arith}
-use Rattle.protocol.proofs.NameFacts.{lower, digit, mark, line, other}
+use mathlib.Core.Bool.{true, false}
+use mathlib.Core.Path.{◌≡◌, sym, ◌∙◌}
+use Prim.Native.Nat.{ℕ}
+use lib.Dec.{eqb}
+use Rattle.protocol.specs.Name.{between, is_letter}
 use Rattle.protocol.proofs.name.is_letter.Goals as goal
 
-pub returns-in_default : goal.returns-in_default
-returns-in_default c = other _ (λ a b. omega arith) (λ a b. omega arith) (λ a b. omega arith) (λ e. omega arith)
+module _ (c : ℕ) where
+  small : between 97 122 c ≡ true → true ≡ is_letter c
+  unfolding is_letter
+  small a = rw a
 
-pub returns-in_default-2 : goal.returns-in_default-2
-returns-in_default-2 c = other _ (λ a b. omega arith) (λ a b. omega arith) (λ a b. omega arith) (λ e. omega arith)
+  digit : between 97 122 c ≡ false → between 48 57 c ≡ true → true ≡ is_letter c
+  unfolding is_letter
+  digit a b = rw (a, b)
 
-pub returns-in_default-3 : goal.returns-in_default-3
-returns-in_default-3 c = other _ (λ a b. omega arith) (λ a b. omega arith) (λ a b. omega arith) (λ e. omega arith)
+  mark : between 97 122 c ≡ false → between 48 57 c ≡ false → between 45 46 c ≡ true → true ≡ is_letter c
+  unfolding is_letter
+  mark a b d = rw (a, b, d)
 
-pub returns-in_default-4 : goal.returns-in_default-4
-returns-in_default-4 c = other _ (λ a b. omega arith) (λ a b. omega arith) (λ a b. omega arith) (λ e. omega arith)
+  other : between 97 122 c ≡ false → between 48 57 c ≡ false → between 45 46 c ≡ false → eqb c 95 ≡ is_letter c
+  unfolding is_letter
+  other a b d = rw (a, b, d)
 
-pub returns-in-97-to-122 : goal.returns-in-97-to-122
-returns-in-97-to-122 c = line _ (λ a b. omega arith) (λ a b. omega arith) (λ a b. omega arith) (omega arith)
+pub returns-then-is_between : goal.returns-then-is_between
+returns-then-is_between c = small _ (sym c.is_between.ensures ∙ c.if-is_between.true)
 
-pub returns-in-97-to-122-2 : goal.returns-in-97-to-122-2
-returns-in-97-to-122-2 c = mark _ (λ a b. omega arith) (λ a b. omega arith) (omega arith) (omega arith)
+pub returns-then-is_between-2 : goal.returns-then-is_between-2
+returns-then-is_between-2 c =
+    digit _ (sym c.is_between.ensures ∙ c.if-is_between.false) (sym c.is_between-2.ensures ∙ c.if-is_between-2.true)
 
-pub returns-in-97-to-122-3 : goal.returns-in-97-to-122-3
-returns-in-97-to-122-3 c = digit _ (λ a b. omega arith) (omega arith) (omega arith)
+pub returns-then-is_between-3 : goal.returns-then-is_between-3
+returns-then-is_between-3 c =
+    mark _ (sym c.is_between.ensures ∙ c.if-is_between.false) (sym c.is_between-2.ensures ∙ c.if-is_between-2.false)
+    (sym c.is_between-3.ensures ∙ c.if-is_between-3.true)
 
-pub returns-in-97-to-122-4 : goal.returns-in-97-to-122-4
-returns-in-97-to-122-4 c = lower _ (omega arith) (omega arith)
+pub returns : goal.returns
+returns c =
+    other _ (sym c.is_between.ensures ∙ c.if-is_between.false) (sym c.is_between-2.ensures ∙ c.if-is_between-2.false)
+    (sym c.is_between-3.ensures ∙ c.if-is_between-3.false)

@@ -4,7 +4,7 @@ use mathlib.Core.List.{List}
 use Prim.Native.Nat.{ℕ, ◌≤◌}
 use native.Mathlib.Omega.{arith}
 use lib.Dec.{lit≤}
-use lib.ListN.{length}
+use lib.ListN.{length, drop}
 use Rattle.bits.proofs.Octets.{octets-all}
 use Rattle.shape.specs.Shape.{decoded}
 use Rattle.shape.proofs.CastFacts.{number_read}
@@ -39,5 +39,5 @@ returns c =
     let g = request-good p o c.in_ok-refusal.ensures in
     gives request_of
     (request-made p o g.all _ _ _ _ _ (number_read p 0 13 (lit≤ tt) (omega (arith, request-there p o g.all)) c.read.result c.read.ensures)
-    (c.read-2.ensures ∙ ap (λ (l : List ℕ). value_at 5 l) c.behind.ensures) (ap (λ (l : List ℕ). length l) c.string_value.ensures) c.name_at.ensures
-    (ap (λ (l : List ℕ). length l) c.name.ensures)) g.held
+    (c.read-2.ensures ∙ ap (λ (l : List ℕ). value_at 5 l) c.behind.ensures) (ap (λ (l : List ℕ). length l) c.string_value.ensures) c.name_at-name_at.ensures
+    (ap (λ (l : List ℕ). length l) (c.behind-2.ensures ∙ ap (λ (j : ℕ). drop j p) c.name_at-name_at.ensures))) g.held

@@ -43,14 +43,14 @@ read-requires-3 c =
     let p = c.args.payload.now in
     let o = octets-all p (λ i. omega (arith, c.shared_slice_known-1.given i)) in
     let g = response-good p o c.in_ok-refusal.ensures in
-    ((lit≤ tt, lit≤ tt), subst (λ (l : List ℕ). size_at 3 l ≤ length l) (sym (c.behind-2.ensures ∙ ap (λ (j : ℕ). drop j p) c.max_at.ensures)) g.three.there)
+    ((lit≤ tt, lit≤ tt), subst (λ (l : List ℕ). size_at 3 l ≤ length l) (sym (c.behind-2.ensures ∙ ap (λ (j : ℕ). drop j p) c.max_behind-max.ensures)) g.three.there)
 
 pub read-requires-4 : goal.read-requires-4
 read-requires-4 c =
     let p = c.args.payload.now in
     let o = octets-all p (λ i. omega (arith, c.shared_slice_known-1.given i)) in
     let g = response-good p o c.in_ok-refusal.ensures in
-    ((lit≤ tt, lit≤ tt), subst (λ (l : List ℕ). size_at 3 l ≤ length l) (sym (c.behind-3.ensures ∙ ap (λ (j : ℕ). drop j p) c.min_at.ensures)) g.four.there)
+    ((lit≤ tt, lit≤ tt), subst (λ (l : List ℕ). size_at 3 l ≤ length l) (sym (c.behind-3.ensures ∙ ap (λ (j : ℕ). drop j p) c.min_behind-min.ensures)) g.four.there)
 
 pub returns : goal.returns
 returns c =
@@ -59,4 +59,4 @@ returns c =
     let g = response-good p o c.in_ok-refusal.ensures in
     gives response_of
     (response-made p o g.one g.two g.three g.four _ _ _ _ _ _ _ _ _ c.read.ensures (ap (λ (l : List ℕ). length l) c.string_value.ensures) (c.read-2.ensures ∙ ap (λ (l : List ℕ). value_at 5 l) (c.behind.ensures ∙ ap (λ (j : ℕ). drop j p) c.default_at-at.ensures)) c.default_at-at.ensures (ap (λ (l : List ℕ). length l) c.default_string_value.ensures)
-    (c.read-3.ensures ∙ ap (λ (l : List ℕ). value_at 3 l) (c.behind-2.ensures ∙ ap (λ (j : ℕ). drop j p) c.max_at.ensures)) (c.read-4.ensures ∙ ap (λ (l : List ℕ). value_at 3 l) (c.behind-3.ensures ∙ ap (λ (j : ℕ). drop j p) c.min_at.ensures)) c.name_at.ensures (ap (λ (l : List ℕ). length l) c.name.ensures)) g.held
+    (c.read-3.ensures ∙ ap (λ (l : List ℕ). value_at 3 l) (c.behind-2.ensures ∙ ap (λ (j : ℕ). drop j p) c.max_behind-max.ensures)) (c.read-4.ensures ∙ ap (λ (l : List ℕ). value_at 3 l) (c.behind-3.ensures ∙ ap (λ (j : ℕ). drop j p) c.min_behind-min.ensures)) c.name_behind-name_at.ensures (ap (λ (l : List ℕ). length l) (c.behind-4.ensures ∙ ap (λ (j : ℕ). drop j p) c.name_behind-name_at.ensures))) g.held

@@ -1,15 +1,15 @@
--- `get_set_response::min_at` meets its contract.
+-- `get_set_response::min_behind` meets its contract.
 use native.Mathlib.Omega.{arith}
 use Rattle.protocol_param.proofs.GetSetFacts.{next_place, max-lt}
 use Rattle.protocol_param.proofs.ValueFacts.{size-at-lt}
 use Rattle.protocol_param.specs.GetSetResponse.{min_at}
-use Rattle.protocol_param.proofs.get_set_response.min_at.Goals as goal
+use Rattle.protocol_param.proofs.get_set_response.min_behind.Goals as goal
 
 pub overflow_add-result : goal.overflow_add-result
 overflow_add-result c =
-    omega (arith, c.max_at-at.ensures, max-lt c.args.payload.now, c.size.ensures, size-at-lt 3 c.behind.result.now)
+    omega (arith, c.requires, max-lt c.args.payload.now, c.size.ensures, size-at-lt 3 c.behind.result.now)
 
 pub returns : goal.returns
 unfolding min_at
 returns c =
-    next_place c.args.payload.now 3 _ _ _ _ c.max_at-at.ensures c.behind.ensures c.size.ensures
+    next_place c.args.payload.now 3 _ _ _ _ c.requires c.behind.ensures c.size.ensures
