@@ -43,11 +43,12 @@ pub fn name(payload: &[u8]) -> &[u8]
 }
 
 // What the payload is refused for.
-fn refusal(payload: &[u8]) -> Result<(), Refusal>
+fn refusal(payload: &[u8], name_at: usize) -> Result<(), Refusal>
+    requires { name_at ≡ request_name_at payload.now }
     ensures { (answer_of result).number ≡ (numbered (decoded request payload.now)).number }
 {
     value::refusal(part::behind(payload, 1), 5)?;
-    if 92 < name(payload).len() {
+    if 92 < part::behind(payload, name_at).len() {
         return Err(Refusal::TooLong);
     }
     Ok(())
@@ -57,8 +58,8 @@ fn refusal(payload: &[u8]) -> Result<(), Refusal>
 pub fn decode(payload: &[u8]) -> Result<Request, Refusal>
     ensures { answer_of result ≡ request_in payload.now }
 {
-    refusal(payload)?;
     let name_at = name_at(payload);
+    refusal(payload, name_at)?;
     Ok(Request {
         index: number::read(payload, 0, 13),
         value: value::read(part::behind(payload, 1), 5),

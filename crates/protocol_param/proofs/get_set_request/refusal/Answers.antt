@@ -17,16 +17,16 @@ returns-in_err-refusal c =
     let e = c.in_err-refusal.ensures ∙ ap (λ (l : List ℕ). number_of (sized 5 l)) c.behind.ensures in
     stops (sized 5 (drop 1 p)) c.from_residual.result c.in_err-refusal.field-0.0 c.from_residual.ensures.1 e (request-stop p o)
 
-pub returns-then-name-gt92 : goal.returns-then-name-gt92
-returns-then-name-gt92 c =
+pub returns-then-behind-gt92 : goal.returns-then-behind-gt92
+returns-then-behind-gt92 c =
     let p = c.args.payload.now in
     let o = octets-all p (λ i. omega (arith, c.shared_slice_known-1.given i)) in
     let e = c.in_ok-refusal.ensures ∙ ap (λ (l : List ℕ). number_of (sized 5 l)) c.behind.ensures in
-    sym (ap number_of (request-long p o (value-all 5 (drop 1 p) e) (omega (arith, ap (λ (l : List ℕ). length l) c.name.ensures, c.if-name-gt92.true))))
+    sym (ap number_of (request-long p o (value-all 5 (drop 1 p) e) (omega (arith, ap (λ (l : List ℕ). length l) (c.behind-2.ensures ∙ ap (λ (j : ℕ). drop j p) c.requires), c.if-behind-gt92.true))))
 
 pub returns : goal.returns
 returns c =
     let p = c.args.payload.now in
     let o = octets-all p (λ i. omega (arith, c.shared_slice_known-1.given i)) in
     let e = c.in_ok-refusal.ensures ∙ ap (λ (l : List ℕ). number_of (sized 5 l)) c.behind.ensures in
-    sym (ap number_of (request-held p o (value-all 5 (drop 1 p) e) (omega (arith, ap (λ (l : List ℕ). length l) c.name.ensures, c.if-name-gt92.false))))
+    sym (ap number_of (request-held p o (value-all 5 (drop 1 p) e) (omega (arith, ap (λ (l : List ℕ). length l) (c.behind-2.ensures ∙ ap (λ (j : ℕ). drop j p) c.requires), c.if-behind-gt92.false))))
