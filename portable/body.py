@@ -12,7 +12,7 @@ from copies import LARGE
 from exprs import Expr, mixed
 from idioms import library
 from layout import Lines, fold
-from mir import Place, mentions, parts, refuse, target, whole
+from mir import Place, in_order, mentions, parts, refuse, target, whole
 from returns import ends
 from shapes import c_name, safe
 from values import Values
@@ -39,10 +39,12 @@ class Body(Values):
         f, sources = self.function, self.program.sources
         names = ['result'] + self.shapes.named(f.symbol, f.params, 'p')
         bound = sources.locals.get(f.symbol, [])
-        made = [whole(target(s)) for s in f.statements if target(s) and whole(target(s)) is not None]
-        firsts = [made.index(i) for i in range(f.params + 1, f.params + 1 + len(bound)) if i in made]
-        if len(firsts) == len(bound) and firsts == sorted(firsts):
-            for name in map(safe, bound):
+        made = [whole(target(s)) for s in in_order(f.body) if target(s) and whole(target(s)) is not None]
+        own = [f.params + 1 + k for k, name in enumerate(bound) if name]
+        firsts = [made.index(i) for i in own if i in made]
+        if len(firsts) == len(own) and firsts == sorted(firsts):
+            for name in bound:
+                name = safe(name) if name else f't{len(names)}'
                 names.append(name if name not in names else f'{name}_{len(names)}')
         return names + [f't{i}' for i in range(len(names), len(self.types))]
 

@@ -1,4 +1,5 @@
-"""Functions that C says in a form of its own: an array of constants, methods of slices, and a number of four bytes, read or written."""
+"""Functions that C says in a form of its own: an array of constants, a copy of bytes, methods of slices, and a number of four bytes, read or
+written."""
 from layout import fold
 from mir import Place, calls, whole
 from shapes import c_name
@@ -24,6 +25,17 @@ def constants(type_, numbers, shapes, name):
     row = {8: 16, 16: 12, 32: 8, 64: 4}[width]
     rows = ',\n    '.join(', '.join(texts[i:i + row]) for i in range(0, len(texts), row))
     return f'static const {shapes.c_type(type_)} {name} = {{ {{\n    {rows}\n}} }};'
+
+
+def copy(function, shapes):
+    """A function that only copies all bytes of its second parameter to its first is a call of memcpy. The two do not overlap, as the first is
+    lent as `&mut`, and by the proofs it is long enough."""
+    types = [('unit',), ('slice', 'mut', BYTE), ('slice', 'imm', BYTE)]
+    if function.params != 2 or function.types[:3] != types or function.body != COPY:
+        return None
+    to, source = shapes.named(function.symbol, 2, 'p')
+    head = f'static void {c_name(function.symbol)}({shapes.c_type(types[1])} {to}, {shapes.c_type(types[2])} {source})'
+    return fold(head) + f'\n{{\n    memcpy({to}.ptr, {source}.ptr, {source}.len);\n}}'
 
 
 def library(name, to, other, item):
@@ -96,7 +108,24 @@ def value(i, *steps):
     return ('copy', local(i, *steps))
 
 
-POINTER, AT = ('field', 0), ('deref', BYTE)
+POINTER, LENGTH, AT = ('field', 0), ('field', 1), ('deref', BYTE)
+
+# `for i in 0..source.len() { to[i] = source[i]; }`: to and source are locals 1 and 2, i is 3
+COPY = [
+    ['assign', local(3), ('opd', ('int', 64, 0))],
+    ['assign', local(4), ('opd', value(2, LENGTH))],
+    ['block', [['loop', [
+        ['assign', local(5), ('op2', ('Lt', 'Unsigned'), value(3), value(4))],
+        ['if', value(5), [], [['exit', 1]]],
+        ['assign', local(6), ('op2', ('Offset',), value(2, POINTER), value(3))],
+        ['assign', local(7), ('opd', value(6, AT))],
+        ['assign', local(8), ('op2', ('Offset',), value(1, POINTER), value(3))],
+        ['assign', local(8, AT), ('opd', value(7))],
+        ['assign', local(3), ('op2', ('Add', 'Unsigned'), value(3), ('int', 64, 1))],
+    ]]]],
+    ['assign', local(0), ('opd', ('unit',))],
+    ['return'],
+]
 
 
 def op2(to, operator, a, b):

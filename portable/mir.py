@@ -403,6 +403,14 @@ def bodies(body):
             yield from bodies(part)
 
 
+def in_order(body):
+    """Every statement of a body, as the text has them."""
+    for statement in body:
+        yield statement
+        for part in parts(statement):
+            yield from in_order(part)
+
+
 def places(term):
     """Every place in a term."""
     if isinstance(term, Place):

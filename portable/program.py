@@ -7,7 +7,7 @@ import returns
 from apart import APART, apart
 from body import Body
 from copies import LARGE, Storage
-from idioms import FOUR_BYTES, constants, load, store, table
+from idioms import FOUR_BYTES, constants, copy, load, store, table
 from layout import comment
 from mir import CALLED, INSTANCES, calls, instances, refuse
 from shapes import Shapes, c_name
@@ -122,4 +122,4 @@ class Program:
             self.tables[function.symbol] = c_name(function.symbol)
         number = load(function, self.shapes, self.functions) or store(function, self.shapes)
         self.helpers |= {FOUR_BYTES} if number else set()
-        return text or number
+        return text or copy(function, self.shapes) or number

@@ -7,7 +7,7 @@ from mir import refuse
 
 ITEM = re.compile(r'^(?P<indent> *)(?:pub )?(?:extern "C" )?(?:(?P<fn>fn)|struct|enum|impl) (?P<name>\w+)(?:<(?P<given>[^>]*)>)?'
                   r'(?: for (?P<type>\w+|\([^()]*\)))?', re.M)
-BINDER = re.compile(r'\blet (?:mut )?([a-z_]\w*)\s*[:=;]|\bfor (\w+) in\b|\b[A-Z]\w*::[A-Z]\w*\(([^()]*)\)\s*(?:=>|=(?!=)|\|)')
+BINDER = re.compile(r'\blet (?:mut )?([a-z_]\w*)\s*[:=;]|\bfor (\w+) in\b|(?:\b[A-Z]\w*|\blet )\(((?:[^()]|\([^()]*\))*)\)\s*(?:=>|=(?!=)|\|)|(\?)')
 EXPORT = re.compile(r'#\[unsafe\(no_mangle\)\]\npub extern "C" fn (\w+)\(([^()]*)\)[^{}]*(?:(?:requires|ensures)[^\n]*\n)*\{\n(.*?)^\}', re.M | re.S)
 
 
@@ -56,9 +56,11 @@ def implemented(item):
 
 
 def bound(found):
-    """The names that a `let`, a `for` or a pattern binds."""
+    """The names that a `let`, a `for` or a pattern binds. A `?` binds what it hands on and what it goes on with, without a name."""
+    if found[4]:
+        return [None, None]
     names = found[1] or found[2] or found[3]
-    return [name for name in re.findall(r'[A-Za-z_]\w*', names.replace('mut ', '')) if name != '_']
+    return [name for name in re.findall(r"\b[a-z_]\w*\b(?!\s*::|')", names.replace('mut ', '')) if name != '_']
 
 
 def comment_above(text):

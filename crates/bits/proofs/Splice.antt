@@ -3,13 +3,21 @@ use mathlib.Core.Path.{◌≡◌, refl, sym, ap, ap₂, ◌∙◌}
 use mathlib.Core.Bool.{Bool, true, false}
 use mathlib.Core.List.{List, [], ◌∷◌, ◌++◌, append_assoc, append-nil}
 use Prim.Native.Nat.{ℕ, ◌+◌, ◌-◌, ◌≤◌, ◌<◌}
+use native.Mathlib.Nat.{add-sub_cancel_left}
 use native.Mathlib.Numerals.{add-one}
 use native.Mathlib.Omega.{arith}
 use borrow.Author.Tests.{ltb-true, ltb-false}
 use lib.Dec.{ltb}
 use lib.ListN.{length, take, drop, set, length-append, length-drop, take-append-drop}
 use lib.Seq.{length-take-le, set_split, take_at, drop_at, take-append-le, take-take, take-add, drop-drop, drop-length, drop-append-le}
+use borrow.Rule.Slice.PartMut.{put_mid}
 use Rattle.bits.specs.Part.{span, splice}
+
+-- what the borrow checker says of a part `&mut m[at..at + n]` that has come back
+pub mid-splice : (m ys zs : List ℕ) (at n : ℕ) → ys ≡ zs → length zs ≡ n → put_mid at (at + n - at) m ys ≡ splice m at zs
+mid-splice m ys zs at n e l =
+    ap (λ (j : ℕ). put_mid at j m ys) (add-sub_cancel_left at n ∙ sym l) ∙ ap (λ (x : List ℕ). take at m ++ (x ++ drop (length zs) (drop at m))) e
+    ∙ ap (λ (x : List ℕ). take at m ++ (zs ++ x)) (drop-drop (length zs) at m)
 
 pub length-span : {A : Type 0} (m : List A) (at n : ℕ) → at + n ≤ length m → length (span m at n) ≡ n
 length-span m at n h = let d : length (drop at m) ≡ length m - at = length-drop at m in length-take-le n (drop at m) (omega arith)

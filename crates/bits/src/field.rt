@@ -4,7 +4,6 @@ ghost use Rattle.bits.specs.Order.{digits, value, unpack, to_bits, from_bits, st
 ghost use Rattle.bits.specs.inside.Window.{patched};
 
 use super::le::wide;
-use super::part;
 
 fn power(k: usize) -> u64
     requires { k < 64 }
@@ -104,10 +103,21 @@ pub fn write(s: &mut [u8], at: usize, w: usize, v: u64)
     put_octet(s, at + q * 8, w % 8, x);
 }
 
+// All of src into dst, which is as long.
+fn copy(dst: &mut [u8], src: &[u8])
+    requires { length dst.old ≡ length src.now }
+    ensures { dst.new ≡ src.now }
+{
+    // a loop, since an archive with `copy_from_slice` needs memmove
+    for i in 0..src.len() {
+        dst[i] = src[i];
+    }
+}
+
 // Internal. The bytes of src as bits, stored from byte `at` on: a list of 8-bit items that starts at a whole byte.
 pub fn write_bytes(s: &mut [u8], at: usize, src: &[u8])
     requires { at + length src.now ≤ length s.old }
     ensures { s.new ≡ store s.old (at * 8) (unpack src.now) }
 {
-    part::copy_at(s, at, src);
+    copy(&mut s[at..at + src.len()], src);
 }

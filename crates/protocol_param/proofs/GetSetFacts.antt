@@ -125,17 +125,6 @@ module _ (p : List ℕ) (o : Octets p) where
     request-made i v k at l ei ev ek ea el =
         rw (case-found (value_at 5 rest) (text_in rest) 5 name_only (request_name_in p), size-shown 5 rest a.there, text-shown rest, ei, ev, ek, ea, el)
 
--- a request that is not refused
-pub record GoodRequest (p : List ℕ) : Type 0 where
-  pub all : All 5 (drop 1 p)
-  pub held : decoded request p ≡ got (request_found p)
-
-pub request-good : (p : List ℕ) → Octets p → 0 ≡ number_of (decoded request p) → GoodRequest p
-request-good p o e =
-    either 5 (drop 1 p) (λ k h. absurd (let z : 0 ≡ suc k = e ∙ ap number_of (request-stop p o (suc k) h) in omega arith))
-    (λ a. by_length (length (request_name_in p)) 92 (λ h. absurd (let z : 0 ≡ 16 = e ∙ ap number_of (request-long p o a h) in omega arith))
-    (λ h. record { all = a; held = request-held p o a h }))
-
 -- ── the response ──
 
 -- where the next value begins

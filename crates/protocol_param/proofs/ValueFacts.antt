@@ -494,6 +494,10 @@ module _ {A B C : Type 0} (x : Answer A) {w : Answer B} (r : Result C Refusal) (
   pub stops : (answers.answer_of r).number ≡ (numbered w).number
   stops = ap (λ z. z.number) (handed-on r y h) ∙ sym (ap number_of refused-so)
 
+  -- where g is of what w would give
+  pub stopped : (g : B → C) → answers.answer_of r ≡ numbered (map_answer g w)
+  stopped g = handed-on r y h ∙ refuses g refused-so
+
 pub hands : {A B : Type 0} (x : Answer A) (g : A → B) (r : Result B Refusal) (y : Refusal) → IsErrAnd r (λ (z : Refusal). z ≡ y)
     → answers.number_of y ≡ (numbered x).number → answers.answer_of r ≡ numbered (map_answer g x)
 hands x g r y h n = handed-on r y h ∙ refuses g (refused-by x (answers.number_of y) n (not_0 y))

@@ -1,8 +1,8 @@
 // GetSet's request (service 11; RULES 10.12).
 ghost use Rattle.std.specs.Prelude.{◌≡◌};
 ghost use Rattle.shape.specs.Answer as answer;
-ghost use Rattle.shape.specs.Answer.{numbered, answer_of};
-ghost use Rattle.shape.specs.Shape.{decoded, written};
+ghost use Rattle.shape.specs.Answer.{answer_of};
+ghost use Rattle.shape.specs.Shape.{written};
 ghost use Rattle.protocol_param.specs.Value.{value_values};
 ghost use Rattle.protocol_param.specs.GetSetRequest.{name_only, request, request_text_in, request_name_at, request_name_in, request_in};
 
@@ -42,24 +42,16 @@ pub fn name(payload: &[u8]) -> &[u8]
     part::behind(payload, name_at(payload))
 }
 
-// What the payload is refused for.
-fn refusal(payload: &[u8], name_at: usize) -> Result<(), Refusal>
-    requires { name_at ≡ request_name_at payload.now }
-    ensures { (answer_of result).number ≡ (numbered (decoded request payload.now)).number }
-{
-    value::refusal(part::behind(payload, 1), 5)?;
-    if 92 < part::behind(payload, name_at).len() {
-        return Err(Refusal::TooLong);
-    }
-    Ok(())
-}
-
 // Reads a request: 15 for a payload that ends too early, 27 for a tag that no case has, 16 for a list that is too long.
 pub fn decode(payload: &[u8]) -> Result<Request, Refusal>
     ensures { answer_of result ≡ request_in payload.now }
 {
+    value::refusal(part::behind(payload, 1), 5)?;
     let name_at = name_at(payload);
-    refusal(payload, name_at)?;
+    let name = part::behind(payload, name_at);
+    if 92 < name.len() {
+        return Err(Refusal::TooLong);
+    }
     Ok(Request {
         index: number::read(payload, 0, 13),
         value: value::read(part::behind(payload, 1), 5),
@@ -69,7 +61,7 @@ pub fn decode(payload: &[u8]) -> Result<Request, Refusal>
         },
         name: Place {
             at: name_at,
-            len: part::behind(payload, name_at).len(),
+            len: name.len(),
         },
     })
 }
