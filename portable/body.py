@@ -35,18 +35,30 @@ class Body(Values):
         self.candidates = {i for i in range(len(self.types)) if self.is_candidate(i)}
 
     def choose_names(self):
-        """The sources' names of the parameters, and of the locals where they can be told: MIR has the bound ones first, in their order."""
+        """The sources' names of the parameters, and of the locals where they can be told: MIR has the bound ones first, in their order, behind the
+        arrays that come as values."""
         f, sources = self.function, self.program.sources
         names = ['result'] + self.shapes.named(f.symbol, f.params, 'p')
         bound = sources.locals.get(f.symbol, [])
         made = [whole(target(s)) for s in in_order(f.body) if target(s) and whole(target(s)) is not None]
-        own = [f.params + 1 + k for k, name in enumerate(bound) if name]
+        names += [f't{i}' for i in self.taken()]
+        own = [len(names) + k for k, name in enumerate(bound) if name]
         firsts = [made.index(i) for i in own if i in made]
         if len(firsts) == len(own) and firsts == sorted(firsts):
             for name in bound:
                 name = safe(name) if name else f't{len(names)}'
                 names.append(name if name not in names else f'{name}_{len(names)}')
         return names + [f't{i}' for i in range(len(names), len(self.types))]
+
+    def taken(self):
+        """The locals into which arrays that come as values are put at the start. A `let` there that is all of such an array would count as one."""
+        f, found = self.function, []
+        for s in f.body:
+            source = whole(s[2][1]) if s[0] == 'assign' and s[2][0] == 'opd' else None
+            if not source or source > f.params or self.types[source][0] != 'array' or whole(s[1]) != f.params + 1 + len(found):
+                break
+            found.append(whole(s[1]))
+        return found
 
     def is_candidate(self, i):
         """Made and used equally often, in no memory of its own; what the source names stays where it is a number."""

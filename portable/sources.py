@@ -7,7 +7,12 @@ from mir import refuse
 
 ITEM = re.compile(r'^(?P<indent> *)(?:pub )?(?:extern "C" )?(?:(?P<fn>fn)|struct|enum|impl) (?P<name>\w+)(?:<(?P<given>[^>]*)>)?'
                   r'(?: for (?P<type>\w+|\([^()]*\)))?', re.M)
-BINDER = re.compile(r'\blet (?:mut )?([a-z_]\w*)\s*[:=;]|\bfor (\w+) in\b|(?:\b[A-Z]\w*|\blet )\(((?:[^()]|\([^()]*\))*)\)\s*(?:=>|=(?!=)|\|)|(\?)')
+# comments, letters and strings
+OPAQUE = re.compile(r'''//.*|b?'(?:\\.|[^'\\])'|b?"(?:\\.|[^"\\])*"''')
+# What binds names in a body: a `let`, a `for` and over what, a pattern, which may hold another one, and a `?`.
+PART = r'(?:[^()]|\([^()]*\))*'
+BINDER = re.compile(rf'\blet (?:mut )?(?P<let>[a-z_]\w*)\s*[:=;]|\bfor (?P<loop>\w+|\({PART}\)) in (?=(?P<over>[^{{]*)\{{)'
+                    rf'|(?:\b[A-Z]\w*|\blet )\((?P<arm>{PART})\)\s*(?:=>|=(?!=)|\|)|(?P<asked>\?)')
 EXPORT = re.compile(r'#\[unsafe\(no_mangle\)\]\npub extern "C" fn (\w+)\(([^()]*)\)[^{}]*(?:(?:requires|ensures)[^\n]*\n)*\{\n(.*?)^\}', re.M | re.S)
 
 
@@ -24,7 +29,7 @@ class Sources:
         owner = None
         for item in ITEM.finditer(text):
             end = re.compile(rf'^{item["indent"]}\}}', re.M).search(text, item.end())
-            inside = re.sub(r'//.*', '', text[item.end():end.start() if end else len(text)])
+            inside = OPAQUE.sub('', text[item.end():end.start() if end else len(text)])
             if ' impl ' in f' {item[0]}':
                 owner = implemented(item)
                 continue
@@ -56,11 +61,15 @@ def implemented(item):
 
 
 def bound(found):
-    """The names that a `let`, a `for` or a pattern binds. A `?` binds what it hands on and what it goes on with, without a name."""
-    if found[4]:
+    """The names that a `let`, a `for` or a pattern binds, with None for what has a place in MIR and no name: what a `?` hands on and what it goes on
+    with, the index of a loop over a slice, and before it the slice where that is no name."""
+    if found['asked']:
         return [None, None]
-    names = found[1] or found[2] or found[3]
-    return [name for name in re.findall(r"\b[a-z_]\w*\b(?!\s*::|')", names.replace('mut ', '')) if name != '_']
+    text = (found['let'] or found['loop'] or found['arm']).replace('mut ', '')
+    names = [name for name in re.findall(r"\b[a-z_]\w*\b(?!\s*::|')", text) if name != '_']
+    if not found['loop'] or '..' in re.sub(r'\[[^]]*\]', '', found['over']):
+        return names
+    return [None] * (found['over'].startswith('&') + (len(names) < 2)) + names
 
 
 def comment_above(text):
